@@ -1,4 +1,5 @@
 pub mod Agents
+pub mod Crowds
 pub mod Levels
 pub mod Marked
 pub mod Meetings

@@ -6,10 +6,11 @@ ghost use Rattle.dn_placement.specs.Terms.{Meets};
 ghost use Rattle.dn_place.specs.Terms.{AreToward, AreUsable, IsFirstOrNone, IsSearchStage, hops_view, key_of_hops, to_output, to_port, to_unit};
 
 use crate::hops::Hops;
+use crate::inputs::next_try;
 use crate::quest::{Found, Quest, unit_of};
 use crate::reach::{Reach, can_enter, can_stand, entry_at};
 use crate::rows::{is_clear, lent_rows, made_rows, output, wanted_name};
-use crate::slots::{next_input, power};
+use crate::slots::power;
 use crate::whole::by_agent;
 use dn_interval::{End, Row};
 use dn_net::node::Unit;
@@ -191,7 +192,7 @@ fn by_entry<Q: Quest>(
         return Ok(None);
     }
     let hop = Hop { unit, port, x, y };
-    let next = next_input(quest, translator, hop);
+    let next = next_try(quest, 1, translator, hop);
     if next != x {
         return Ok(None);
     }
@@ -222,10 +223,11 @@ fn by_inputs<Q: Quest>(
     let page = power(translator.page);
     let size = quest.request().size;
     let end = u64::from(translator.slots) * page;
+    let place = stage.count - stage.chosen.count();
     let mut x = y % page;
     'inputs: while x + size <= end {
         let hop = Hop { unit, port, x, y };
-        let next = next_input(quest, translator, hop);
+        let next = next_try(quest, place, translator, hop);
         if next == x {
             if let Some(placement) = by_input(quest, stage, translator, hop)? {
                 return Ok(Some(placement));

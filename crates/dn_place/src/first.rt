@@ -77,7 +77,7 @@ pub fn first_from(
         (slots_of_set (map (λ k. meaning (k.vtable, k.value)) system.entry.kinds.now.list.items)
         tables.now) request.now reach.now.at) }
 {
-    system.net.facts();
+    tables.facts();
     by_tables::<Brand>(alloc, system, tables, request, reach)
 }
 

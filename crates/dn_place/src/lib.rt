@@ -10,6 +10,7 @@ mod entry;
 pub mod first;
 mod ground;
 mod hops;
+mod inputs;
 mod marks;
 mod platform;
 mod quest;

@@ -18,7 +18,7 @@ use Rattle.dn_place.specs.declared.chain.Stage.{Stage}
 use Rattle.dn_place.proofs.Agents.{row_asked, row_fits, step, step_found, step_done, step_meets, only_there}
 use Rattle.dn_place.proofs.Levels.{next_one, found_first}
 use Rattle.dn_place.proofs.Meetings.{unclear}
-use Rattle.dn_place.proofs.Nexts.{answered_input, chosen_on, inputs_barred, inputs_begun, inputs_done, inputs_leapt, next_agrees, node_there, not_entered, not_joined, not_met, only_input, out_of_reach, port_goes, port_node, port_read, port_stretches, ports_done, unentered, unmarked}
+use Rattle.dn_place.proofs.Nexts.{answered_input, chosen_on, inputs_useless, inputs_begun, inputs_done, inputs_leapt, next_agrees, node_there, not_entered, not_joined, not_met, not_served, only_input, out_of_reach, port_goes, port_node, port_read, port_stretches, ports_done, unentered, unmarked}
 use Rattle.dn_place.proofs.Pages.{input_bound, page_few}
 use Rattle.dn_place.proofs.Units.{sifted_begun, sifted_done, sifted_found, sifted_on}
 use Rattle.dn_place.proofs.Walks.{set_out}
@@ -172,8 +172,8 @@ by_entry-returns-then-not-can_meet g t c =
     (others s c.args.stage c.args.unit c.args.port c.args.y c.args.entry c.requires.stage c.requires.more c.requires.last c.requires.entry)
     (not_joined s c.args.stage.count hops c.args.unit c.args.port c.args.y c.args.entry.base c.args.translator.now c.requires.more c.requires.unit (λ j. c.can_meet.ensures.no c.if-not-can_meet.true j.agree (omega (arith, j.within, same))))
 
-pub by_entry-next_input-next-requires-clause-within : goal.by_entry-next_input-next-requires-clause-within
-by_entry-next_input-next-requires-clause-within g t c =
+pub by_entry-next_try-next-requires-clause-within : goal.by_entry-next_try-next-requires-clause-within
+by_entry-next_try-next-requires-clause-within g t c =
     let same : c.request.result.size ≡ (g.Q.Quest.sought c.args.quest.now).request.size = ap (λ (r : Request). r.size) c.request.ensures in
     record { unit = c.requires.unit; ends = omega (arith, c.can_meet.ensures.within c.if-not-can_meet.false, same) }
 
@@ -183,7 +183,8 @@ by_entry-returns-then-next-x g t c =
     let hops = hops_view c.args.stage.chosen in
     only_input s c.args.stage.count hops c.args.unit c.args.port c.args.y c.args.entry.base c.args.translator.now None c.requires.more c.requires.unit
     (others s c.args.stage c.args.unit c.args.port c.args.y c.args.entry c.requires.stage c.requires.more c.requires.last c.requires.entry)
-    (not_joined s c.args.stage.count hops c.args.unit c.args.port c.args.y c.args.entry.base c.args.translator.now c.requires.more c.requires.unit (λ j. c.next_input-next.ensures.barred c.args.entry.base (omega arith) (omega (arith, c.next_input-next.ensures.onward, c.if-next-x.true)) refl j.usable))
+    (not_served s c.args.stage.count hops c.args.unit c.args.port c.args.y c.args.entry.base 1 c.args.entry.base c.args.translator.now c.requires.stage.ready c.requires.more (omega (arith, c.requires.last)) c.requires.unit
+    (c.next_try-next.ensures.useless c.args.entry.base (omega arith) (omega (arith, c.next_try-next.ensures.onward, c.if-next-x.true)) refl))
 
 pub by_entry-returns : goal.by_entry-returns
 by_entry-returns g t c =
@@ -204,7 +205,7 @@ by_entry-by_input-requires g t c =
     let same : c.request.result.size ≡ (g.Q.Quest.sought c.args.quest.now).request.size = ap (λ (r : Request). r.size) c.request.ensures in
     let agree = c.can_meet.ensures.agree c.if-not-can_meet.false in
     let within : c.args.entry.base + (g.Q.Quest.sought c.args.quest.now).request.size ≤ c.args.translator.now.slots * 2 ^ c.args.translator.now.page = omega (arith, c.can_meet.ensures.within c.if-not-can_meet.false, same) in
-    let usable = c.next_input-next.ensures.usable c.if-next-x.false in
+    let usable = c.next_try-next.ensures.usable c.if-next-x.false in
     search rules
 
 pub by_inputs-power-page-requires : goal.by_inputs-power-page-requires
@@ -227,9 +228,9 @@ by_inputs-returns-in-Some g t c = found_first (g.Q.Quest.sought c.args.quest.now
 
 pub by_inputs-inputs-preserved : goal.by_inputs-inputs-preserved
 by_inputs-inputs-preserved g t c = record {
-  agree = c.next_input-next.ensures.agree ∙ c.inputs.invariant.agree;
-  few = omega (arith, c.next_input-next.ensures.few);
-  below = inputs_barred (g.Q.Quest.sought c.args.quest.now) c.args.stage.count (hops_view c.args.stage.chosen) c.args.unit c.args.port c.args.y c.inputs.x c.next_input-next.result c.args.translator.now c.requires.more c.requires.unit c.inputs.invariant.agree c.next_input-next.ensures.barred c.inputs.invariant.below;
+  agree = c.next_try-next.ensures.agree ∙ c.inputs.invariant.agree;
+  few = omega (arith, c.next_try-next.ensures.few);
+  below = inputs_useless (g.Q.Quest.sought c.args.quest.now) c.args.stage.count (hops_view c.args.stage.chosen) c.args.unit c.args.port c.args.y c.inputs.x c.next_try-next.result (c.args.stage.count - c.count-place.result) c.args.translator.now c.requires.stage.ready c.requires.more (omega (arith, c.count-place.ensures)) c.requires.unit c.inputs.invariant.agree c.next_try-next.ensures.useless c.inputs.invariant.below;
 }
 
 pub by_inputs-returns : goal.by_inputs-returns
