@@ -50,6 +50,11 @@ abbrev pub AreFree : Slots → ℕ → ℕ → ℕ → Type 0
 AreFree slots unit first last = (slot : ℕ) → first ≤ slot → slot ≤ last →
     IsTrue (is_free_slot (slot_of slots unit slot))
 
+-- each slot from a first one on and before another is free
+abbrev pub AreFreeTo : Slots → ℕ → ℕ → ℕ → Type 0
+AreFreeTo slots unit first to = (slot : ℕ) → first ≤ slot → slot < to →
+    IsTrue (is_free_slot (slot_of slots unit slot))
+
 -- no hop that begins in a slot from a first one on, and before another, can take a slot for the pages
 -- of a port that it would meet there
 abbrev pub AreShut : Slot → ℕ → ℕ → ℕ → ℕ → ℕ → Type 0

@@ -192,7 +192,8 @@ fn by_entry<Q: Quest>(
         return Ok(None);
     }
     let hop = Hop { unit, port, x, y };
-    let next = next_try(quest, 1, translator, hop);
+    let tried = next_try(quest, 1, translator, hop, 0);
+    let next = tried.x;
     if next != x {
         return Ok(None);
     }
@@ -225,9 +226,12 @@ fn by_inputs<Q: Quest>(
     let end = u64::from(translator.slots) * page;
     let place = stage.count - stage.chosen.count();
     let mut x = y % page;
+    let mut free = 0;
     'inputs: while x + size <= end {
         let hop = Hop { unit, port, x, y };
-        let next = next_try(quest, place, translator, hop);
+        let tried = next_try(quest, place, translator, hop, free);
+        let next = tried.x;
+        free = tried.free;
         if next == x {
             if let Some(placement) = by_input(quest, stage, translator, hop)? {
                 return Ok(Some(placement));

@@ -2,25 +2,37 @@
 
 ghost use Rattle.std.specs.Prelude.{◌≡◌, ℕ, ◌+◌, ◌-◌, ◌*◌, ◌/◌, ◌%◌, ◌^◌, ◌<◌, ◌≤◌};
 ghost use Rattle.dn_interval.specs.declared.span.TheConstants.{TOP};
-ghost use Rattle.dn_place.specs.Terms.{AreUsable, AreUseless, HasCrowd, IsSearchReady, IsWithin};
+ghost use Rattle.dn_place.specs.Terms.{AreFreeTo, AreUsable, AreUseless, HasCrowd, IsSearchReady, IsWithin};
 
 use crate::quest::Quest;
-use crate::slots::{next_input, power};
+use crate::slots::{Input, next_input, power};
 use dn_net::node::Unit;
 use dn_tables::placement::Hop;
 
 /// The first input of a unit from the hop's on, in its place in a slot, that may serve a hop at this place
-/// from the agent's end. Where it is the hop's own, it finds its slots usable.
-pub(crate) fn next_try<Q: Quest>(quest: &Q, place: u8, translator: &Unit, hop: Hop) -> u64
+/// from the agent's end. Where it is the hop's own, it finds its slots usable. The slots from the first of
+/// the hop's on are known to be free before a slot, and are then known to be free before the one that is
+/// answered.
+pub(crate) fn next_try<Q: Quest>(
+    quest: &Q,
+    place: u8,
+    translator: &Unit,
+    hop: Hop,
+    free: u32,
+) -> Input
     requires sound { Q.is_sound quest.now }
     requires ready { IsSearchReady (Q.sought quest.now) }
     requires within { IsWithin (Q.sought quest.now) translator.now hop }
     requires reached { hop.y + (Q.sought quest.now).request.size ≤ 2 ^ translator.now.reach }
-    ensures onward { hop.x ≤ result }
-    ensures agree { result % 2 ^ translator.now.page ≡ hop.x % 2 ^ translator.now.page }
-    ensures few { result ≤ 2 ^ 59 }
-    ensures useless { AreUseless (Q.sought quest.now) translator.now place hop result }
-    ensures usable { result ≡ hop.x → AreUsable (Q.sought quest.now).slots hop.unit
+    requires free { AreFreeTo (Q.sought quest.now).slots hop.unit
+        (hop.x / 2 ^ translator.now.page) free }
+    ensures onward { hop.x ≤ result.x }
+    ensures agree { result.x % 2 ^ translator.now.page ≡ hop.x % 2 ^ translator.now.page }
+    ensures few { result.x ≤ 2 ^ 59 }
+    ensures useless { AreUseless (Q.sought quest.now) translator.now place hop result.x }
+    ensures free { AreFreeTo (Q.sought quest.now).slots hop.unit
+        (hop.x / 2 ^ translator.now.page) result.free }
+    ensures usable { result.x ≡ hop.x → AreUsable (Q.sought quest.now).slots hop.unit
         (hop.x / 2 ^ translator.now.page)
         ((hop.x + (Q.sought quest.now).request.size - 1) / 2 ^ translator.now.page)
         hop.port (hop.y / 2 ^ translator.now.page) }
@@ -28,10 +40,10 @@ pub(crate) fn next_try<Q: Quest>(quest: &Q, place: u8, translator: &Unit, hop: H
     if place == 1 {
         let past = past_crowd(quest, translator, hop);
         if past != hop.x {
-            return past;
+            return Input { x: past, free };
         }
     }
-    next_input(quest, translator, hop)
+    next_input(quest, translator, hop, free)
 }
 
 /// The first input of a unit from the hop's on, in its place in a slot, past names that are known to be

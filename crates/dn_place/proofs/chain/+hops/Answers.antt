@@ -1,4 +1,4 @@
-use Rattle.std.proofs.Common.{◌≡◌, ℕ, suc, List, ◌∷◌, [], ◌++◌, Option, Some, None, ◌+◌, ◌-◌, ◌*◌, ◌^◌, ◌<◌, ◌≤◌, arith, length, refl, subst, sym, ap, ◌∙◌, rules, get_or, slice_get}
+use Rattle.std.proofs.Common.{◌≡◌, ℕ, suc, List, ◌∷◌, [], ◌++◌, Option, Some, None, ◌+◌, ◌-◌, ◌*◌, ◌/◌, ◌%◌, ◌^◌, ◌<◌, ◌≤◌, arith, length, refl, subst, sym, ap, ◌∙◌, rules, get_or, slice_get}
 use Rattle.std.proofs.lemmas.Nat.{pow_pos}
 use Rattle.std.proofs.lemmas.Result.{IfOk-weaker}
 use Rattle.std.proofs.Math.Nat.{mod-mod, mod-le}
@@ -20,6 +20,7 @@ use Rattle.dn_place.proofs.Levels.{next_one, found_first}
 use Rattle.dn_place.proofs.Meetings.{unclear}
 use Rattle.dn_place.proofs.Nexts.{answered_input, chosen_on, inputs_useless, inputs_begun, inputs_done, inputs_leapt, next_agrees, node_there, not_entered, not_joined, not_met, not_served, only_input, out_of_reach, port_goes, port_node, port_read, port_stretches, ports_done, unentered, unmarked}
 use Rattle.dn_place.proofs.Pages.{input_bound, page_few}
+use Rattle.dn_place.proofs.Usable.{free_onward, none_free}
 use Rattle.dn_place.proofs.Units.{sifted_begun, sifted_done, sifted_found, sifted_on}
 use Rattle.dn_place.proofs.Walks.{set_out}
 use Rattle.dn_place.proofs.chain.+hops.Goals as goal
@@ -172,10 +173,13 @@ by_entry-returns-then-not-can_meet g t c =
     (others s c.args.stage c.args.unit c.args.port c.args.y c.args.entry c.requires.stage c.requires.more c.requires.last c.requires.entry)
     (not_joined s c.args.stage.count hops c.args.unit c.args.port c.args.y c.args.entry.base c.args.translator.now c.requires.more c.requires.unit (λ j. c.can_meet.ensures.no c.if-not-can_meet.true j.agree (omega (arith, j.within, same))))
 
-pub by_entry-next_try-next-requires-clause-within : goal.by_entry-next_try-next-requires-clause-within
-by_entry-next_try-next-requires-clause-within g t c =
+pub by_entry-next_try-tried-requires-clause-within : goal.by_entry-next_try-tried-requires-clause-within
+by_entry-next_try-tried-requires-clause-within g t c =
     let same : c.request.result.size ≡ (g.Q.Quest.sought c.args.quest.now).request.size = ap (λ (r : Request). r.size) c.request.ensures in
     record { unit = c.requires.unit; ends = omega (arith, c.can_meet.ensures.within c.if-not-can_meet.false, same) }
+
+pub by_entry-next_try-tried-requires-clause-free : goal.by_entry-next_try-tried-requires-clause-free
+by_entry-next_try-tried-requires-clause-free g t c = none_free (g.Q.Quest.sought c.args.quest.now).slots c.args.unit (c.args.entry.base / 2 ^ c.args.translator.now.page)
 
 pub by_entry-returns-then-next-x : goal.by_entry-returns-then-next-x
 by_entry-returns-then-next-x g t c =
@@ -184,7 +188,7 @@ by_entry-returns-then-next-x g t c =
     only_input s c.args.stage.count hops c.args.unit c.args.port c.args.y c.args.entry.base c.args.translator.now None c.requires.more c.requires.unit
     (others s c.args.stage c.args.unit c.args.port c.args.y c.args.entry c.requires.stage c.requires.more c.requires.last c.requires.entry)
     (not_served s c.args.stage.count hops c.args.unit c.args.port c.args.y c.args.entry.base 1 c.args.entry.base c.args.translator.now c.requires.stage.ready c.requires.more (omega (arith, c.requires.last)) c.requires.unit
-    (c.next_try-next.ensures.useless c.args.entry.base (omega arith) (omega (arith, c.next_try-next.ensures.onward, c.if-next-x.true)) refl))
+    (c.next_try-tried.ensures.useless c.args.entry.base (omega arith) (omega (arith, c.next_try-tried.ensures.onward, c.if-next-x.true)) refl))
 
 pub by_entry-returns : goal.by_entry-returns
 by_entry-returns g t c =
@@ -205,7 +209,7 @@ by_entry-by_input-requires g t c =
     let same : c.request.result.size ≡ (g.Q.Quest.sought c.args.quest.now).request.size = ap (λ (r : Request). r.size) c.request.ensures in
     let agree = c.can_meet.ensures.agree c.if-not-can_meet.false in
     let within : c.args.entry.base + (g.Q.Quest.sought c.args.quest.now).request.size ≤ c.args.translator.now.slots * 2 ^ c.args.translator.now.page = omega (arith, c.can_meet.ensures.within c.if-not-can_meet.false, same) in
-    let usable = c.next_try-next.ensures.usable c.if-next-x.false in
+    let usable = c.next_try-tried.ensures.usable c.if-next-x.false in
     search rules
 
 pub by_inputs-power-page-requires : goal.by_inputs-power-page-requires
@@ -220,6 +224,7 @@ pub by_inputs-inputs-init : goal.by_inputs-inputs-init
 by_inputs-inputs-init g t c = rw c.power-page.ensures (record {
   agree = mod-mod c.args.y (2 ^ c.args.translator.now.page);
   few = omega (arith, mod-le c.args.y (2 ^ c.args.translator.now.page), power_below c.args.translator.now.reach (c.requires.stage.ready.formed c.args.unit c.args.translator.now c.requires.unit).reach, c.requires.reached);
+  free = none_free (g.Q.Quest.sought c.args.quest.now).slots c.args.unit (c.args.y % 2 ^ c.args.translator.now.page / 2 ^ c.args.translator.now.page);
   below = inputs_begun (g.Q.Quest.sought c.args.quest.now) c.args.stage.count (hops_view c.args.stage.chosen) c.args.unit c.args.port c.args.y c.args.translator.now c.requires.more c.requires.unit;
 })
 
@@ -228,9 +233,10 @@ by_inputs-returns-in-Some g t c = found_first (g.Q.Quest.sought c.args.quest.now
 
 pub by_inputs-inputs-preserved : goal.by_inputs-inputs-preserved
 by_inputs-inputs-preserved g t c = record {
-  agree = c.next_try-next.ensures.agree ∙ c.inputs.invariant.agree;
-  few = omega (arith, c.next_try-next.ensures.few);
-  below = inputs_useless (g.Q.Quest.sought c.args.quest.now) c.args.stage.count (hops_view c.args.stage.chosen) c.args.unit c.args.port c.args.y c.inputs.x c.next_try-next.result (c.args.stage.count - c.count-place.result) c.args.translator.now c.requires.stage.ready c.requires.more (omega (arith, c.count-place.ensures)) c.requires.unit c.inputs.invariant.agree c.next_try-next.ensures.useless c.inputs.invariant.below;
+  agree = c.next_try-tried.ensures.agree ∙ c.inputs.invariant.agree;
+  few = omega (arith, c.next_try-tried.ensures.few);
+  free = free_onward (g.Q.Quest.sought c.args.quest.now).slots c.args.unit c.inputs.x c.next_try-tried.result.x c.args.translator.now.page c.next_try-tried.result.free c.next_try-tried.ensures.onward c.next_try-tried.ensures.free;
+  below = inputs_useless (g.Q.Quest.sought c.args.quest.now) c.args.stage.count (hops_view c.args.stage.chosen) c.args.unit c.args.port c.args.y c.inputs.x c.next_try-tried.result (c.args.stage.count - c.count-place.result) c.args.translator.now c.requires.stage.ready c.requires.more (omega (arith, c.count-place.ensures)) c.requires.unit c.inputs.invariant.agree c.next_try-tried.ensures.useless c.inputs.invariant.below;
 }
 
 pub by_inputs-returns : goal.by_inputs-returns
@@ -251,6 +257,7 @@ by_inputs-inputs-preserved-then-next-x g t c = rw c.power-page.ensures (record {
       let f = c.requires.stage.ready.formed c.args.unit c.args.translator.now c.requires.unit in
       let within : c.inputs.x + c.request-size.result.size ≤ c.args.translator.now.slots * 2 ^ c.args.translator.now.page = subst (λ (n : ℕ). c.inputs.x + c.request-size.result.size ≤ c.args.translator.now.slots * n) c.power-page.ensures (subst (λ (n : ℕ). c.inputs.x + c.request-size.result.size ≤ n * c.power-page.result) c.from.ensures c.inputs-test.true) in
       omega (arith, page_few c.args.translator.now.page f.page, input_bound c.args.translator.now.slots c.args.translator.now.page f.page f.few, within);
+  free = free_onward (g.Q.Quest.sought c.args.quest.now).slots c.args.unit c.inputs.x (c.inputs.x + 2 ^ c.args.translator.now.page) c.args.translator.now.page c.next_try-tried.result.free (omega arith) c.next_try-tried.ensures.free;
   below = inputs_leapt (g.Q.Quest.sought c.args.quest.now) c.args.stage.count (hops_view c.args.stage.chosen) c.args.unit c.args.port c.args.y c.inputs.x c.args.translator.now c.requires.more c.requires.unit c.inputs.invariant.agree c.inputs.invariant.below (rw c.in_default.is at (answered_input (g.Q.Quest.sought c.args.quest.now) c.args.stage.count (hops_view c.args.stage.chosen) c.args.unit c.args.port c.args.y c.inputs.x c.in_ok-placement.field-0 c.in_ok-placement.ensures));
 })
 

@@ -1,6 +1,7 @@
-use Rattle.std.proofs.Common.{◌≡◌, ◌+◌, ◌-◌, ◌*◌, ◌%◌, ◌^◌, ◌≤◌, length, drop}
+use Rattle.std.proofs.Common.{◌≡◌, ◌+◌, ◌-◌, ◌*◌, ◌/◌, ◌%◌, ◌^◌, ◌≤◌, length, drop}
 use Rattle.dn_place.specs.Hops.{hops_view}
 use Rattle.dn_place.specs.Candidates.{NoneBelow, to_unit, to_port, to_output}
+use Rattle.dn_place.specs.Slots.{AreFreeTo}
 use Rattle.dn_place.proofs.Units.{Sifted}
 use Rattle.dn_place.proofs.Walks.{Walked}
 use Rattle.dn_place.proofs.chain.+hops.Given as goal
@@ -42,6 +43,7 @@ abbrev pub invariant-by_inputs-inputs : goal.invariant-by_inputs-inputs
 invariant-by_inputs-inputs g l = record {
   agree : l.x % 2 ^ l.translator.page ≡ l.y % 2 ^ l.translator.page;
   few : l.x ≤ 2 ^ 60;
+  free : AreFreeTo (g.Q.Quest.sought l.quest).slots l.unit (l.x / 2 ^ l.translator.page) l.free;
   below : NoneBelow (g.Q.Quest.sought l.quest) (to_output l.stage.count (hops_view l.stage.chosen) l.unit l.port l.y) l.x;
 }
 
