@@ -1,5 +1,5 @@
 -- What nodes reach, level by level, and the accepted names to which they come by it.
-use Rattle.std.specs.Prelude.{◌≡◌, ℕ, ◌+◌, ◌<◌, ◌≤◌, ◌↔◌, Bool, List, [], length, slice_get, Option, Some, None, IsTrue}
+use Rattle.std.specs.Prelude.{◌≡◌, ℕ, ◌+◌, ◌<◌, ◌≤◌, ◌↔◌, Bool, true, nat_eq, List, [], length, slice_get, Option, Some, None, IsTrue}
 use Rattle.std.specs.List.{list_all, list_any}
 use Rattle.dn_interval.specs.declared.row.End.{End}
 use Rattle.dn_interval.specs.declared.row.Row.{Row}
@@ -36,12 +36,18 @@ pub record AreLevels (net : List NodeDecl) (node : ℕ) (levels : List (List Row
 abbrev pub AreStops : List NodeDecl → ℕ → List (List Row) → Type 0
 AreStops net node layers = (a : ℕ) (y : End) → a ≤ TOP → IsTrue (levels_give layers a y) ↔ StopsFrom net node a y
 
--- they do, and the layers of stops give to each address of the node its stops
+-- the node is listed
+abbrev pub is_among : ℕ → List ℕ → Bool
+is_among node nodes = list_any (λ other. nat_eq other node) nodes
+
+-- they do, and the layers of stops give to each address of the node its stops, the units of which are
+-- listed
 pub record IsLevels (net : List NodeDecl) (node : ℕ) (levels : Levels) : Type 0 where
   pub reached : AreLevels net node levels.reached
   pub stops : AreStops net node levels.stops
   -- each name of a row is in a node that is there
   pub stops_within : IsTrue (list_all (λ rows. ends_within (length net) rows) levels.stops)
+  pub units : (a : ℕ) (y : End) → a ≤ TOP → levels_give levels.stops a y ≡ true → is_among y.node levels.units ≡ true
 
 -- there are such levels for each node below this one
 pub record AreLevelsBelow (net : List NodeDecl) (node : ℕ) (nodes : List Levels) : Type 0 where
@@ -70,6 +76,11 @@ reached_of (Some levels) = levels.reached
 abbrev pub stops_in : Option Levels → List (List Row)
 stops_in None = []
 stops_in (Some levels) = levels.stops
+
+-- the units of the stops of a node; of one that is not there they are none
+abbrev pub units_in : Option Levels → List ℕ
+units_in None = []
+units_in (Some levels) = levels.units
 
 -- a name that one of the levels gives to the address goes on to the accepted name, by what its node accepts
 abbrev pub levels_show : List Reach → List (List Row) → ℕ → End → Bool

@@ -11,6 +11,7 @@ ghost use Rattle.dn_flat.specs.declared.found.Part.TheVariants.{Accepts, Goes, S
 use crate::found::{Part, push_levels, push_segs, whole};
 use crate::layers::{joined, layers_of, push_layers};
 use crate::reach::Reach;
+use crate::units::nodes_of;
 use dn_base::OutOfMemory;
 use dn_base::items::Items;
 use dn_interval::onward::follow;
@@ -26,6 +27,8 @@ pub struct Levels {
     pub reached: Items<Rows>,
     /// For each address the names in units that it reaches, as layers that together give them.
     pub stops: Items<Rows>,
+    /// The units of these names.
+    pub units: Items<u16>,
 }
 
 /// What the addresses of a node reach, where the names in units are as they were found.
@@ -51,10 +54,12 @@ pub(crate) fn node_levels(
     ensures { IfOk result (λ levels. IsLevels net.now node levels) }
 {
     let Reached { levels, stops } = node_reached(alloc, net, nodes, node)?;
+    let units = nodes_of(alloc, &stops)?;
     let stops = layers_of(alloc, &stops)?;
     Ok(Levels {
         reached: levels,
         stops,
+        units,
     })
 }
 

@@ -16,5 +16,6 @@ mod reach;
 mod shared;
 pub mod stage;
 mod stretches;
+mod units;
 
 pub use dn_base::OutOfMemory;

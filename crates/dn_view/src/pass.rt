@@ -177,7 +177,7 @@ pub(crate) fn unit_of(net: &Net, node: u16) -> Option<&Unit>
 }
 
 /// The layers of the stops of a node.
-pub(crate) fn stop_layers(flats: &Flats, node: u16) -> &[Rows]
+fn stop_layers(flats: &Flats, node: u16) -> &[Rows]
     requires { node < length flats.now.nodes }
     ensures { result.now ≡ stops_of flats.now node }
 {

@@ -10,7 +10,7 @@ use Rattle.dn_net.specs.Decode.{is_agent_at}
 use Rattle.dn_flat.specs.Crowds.{AreWays}
 use Rattle.dn_flat.specs.Levels.{levels_give}
 use Rattle.dn_flat.specs.Views.{StopsFrom}
-use Rattle.dn_flat.proofs.Crowds.{whole_stops}
+use Rattle.dn_flat.proofs.Crowded.{whole_stops}
 use Rattle.dn_flat.proofs.crowds.add_ways.Goals as goal
 
 pub returns : goal.returns

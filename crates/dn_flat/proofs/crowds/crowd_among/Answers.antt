@@ -3,7 +3,7 @@ use Rattle.std.proofs.Common.{◌≡◌, ◌+◌, ◌<◌, ◌≤◌, ℕ, sym, 
 use Rattle.std.proofs.lemmas.List.Elements.{All-get_or}
 use Rattle.dn_flat.specs.declared.crowds.Crowd.{Crowd}
 use Rattle.dn_flat.specs.Crowds.{AreCrowded}
-use Rattle.dn_flat.proofs.Crowds.{not_past}
+use Rattle.dn_flat.proofs.Crowded.{not_past}
 use Rattle.dn_flat.proofs.crowds.crowd_among.Goals as goal
 
 pub returns : goal.returns

@@ -1,6 +1,6 @@
 -- The role of the node tells it.
 use Rattle.std.proofs.Common.{◌∙◌, slice_get}
-use Rattle.dn_flat.proofs.Crowds.{role_agent}
+use Rattle.dn_flat.proofs.Crowded.{role_agent}
 use Rattle.dn_flat.proofs.crowds.is_agent.Goals as goal
 
 pub returns : goal.returns

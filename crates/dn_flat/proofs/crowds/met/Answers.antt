@@ -3,7 +3,7 @@ use Rattle.std.proofs.Common.{◌≡◌, ◌∙◌, ◌≤◌, List, sym, arith}
 use Rattle.dn_base.proofs.Told.{if_some_then}
 use Rattle.dn_net.specs.declared.node.NodeDecl.{NodeDecl}
 use Rattle.dn_flat.specs.Crowds.{AreCrowded, IsWay}
-use Rattle.dn_flat.proofs.Crowds.{crowd_met}
+use Rattle.dn_flat.proofs.Crowded.{crowd_met}
 use Rattle.dn_flat.proofs.crowds.met.Goals as goal
 
 pub returns : goal.returns

@@ -3,7 +3,7 @@ use Rattle.std.proofs.Common.{List, sym, subst}
 use Rattle.std.proofs.lemmas.List.Elements.{All-push}
 use Rattle.dn_flat.specs.declared.crowds.Way.{Way}
 use Rattle.dn_flat.specs.Crowds.{AreWays, IsWay}
-use Rattle.dn_flat.proofs.Crowds.{way_of}
+use Rattle.dn_flat.proofs.Crowded.{way_of}
 use Rattle.dn_flat.proofs.crowds.push_ways.Goals as goal
 
 pub loop-seg-init : goal.loop-seg-init
