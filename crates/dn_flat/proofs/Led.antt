@@ -103,6 +103,7 @@ module _ (net : List NodeDecl) (legal : IsLegalNet net) (node other : ℕ) (reac
     };
     stops = λ a y t. means_then (f.stops a y t) (led_ends (is_stop net) a y t (none_given (EndsBefore net (is_stop net) 1 node) reach.done.stops led.stops is.done.stops a y t));
     stops_within = f.stops_within;
+    units = f.units;
   }
 
 -- one node more

@@ -1,5 +1,7 @@
+pub mod Among
 pub mod Bounds
 pub mod Chains
+pub mod Crowded
 pub mod Firsts
 pub mod Frontier
 pub mod Going

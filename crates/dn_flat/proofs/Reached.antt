@@ -20,7 +20,7 @@ use Rattle.dn_flat.specs.declared.found.Part.TheVariants.{Stays}
 use Rattle.dn_flat.specs.declared.levels.Levels.{Levels}
 use Rattle.dn_flat.specs.declared.reach.Reach.{Reach}
 use Rattle.dn_flat.specs.Firsts.{is_same}
-use Rattle.dn_flat.specs.Levels.{AreLevels, AreStops, IsLevels, levels_give}
+use Rattle.dn_flat.specs.Levels.{AreLevels, AreStops, IsLevels, is_among, levels_give}
 use Rattle.dn_flat.specs.Onward.{has_rows, leads_by, segs_lead}
 use Rattle.dn_flat.specs.Stages.{AreReaches, EndsBefore, GoesIn, ReachesBefore}
 use Rattle.dn_flat.proofs.Bounds.{limit_is}
@@ -112,9 +112,10 @@ all_levels net k node levels few all are = record {
 }
 
 -- and with layers of its stops they are what the node reaches
-pub levels_are : (net : List NodeDecl) (node : ℕ) (levels : Levels) → AreLevels net node levels.reached → AreStops net node levels.stops → IsLevels net node levels
-levels_are net node levels reached stops = record {
+pub levels_are : (net : List NodeDecl) (node : ℕ) (levels : Levels) → AreLevels net node levels.reached → AreStops net node levels.stops → ((a : ℕ) (y : End) → a ≤ TOP → levels_give levels.stops a y ≡ true → is_among y.node levels.units ≡ true) → IsLevels net node levels
+levels_are net node levels reached stops units = record {
   reached = reached;
   stops = stops;
   stops_within = layers_there (length net) levels.stops (λ a y low g. stop_there net (name_of_end y) ((stops a y low).0 g).0);
+  units = units;
 }

@@ -1,5 +1,5 @@
 -- What nodes reach, level by level, and the accepted names to which they come by it.
-use Rattle.std.specs.Prelude.{◌≡◌, ℕ, ◌+◌, ◌<◌, ◌≤◌, ◌↔◌, Bool, List, [], length, slice_get, Option, Some, None, IsTrue}
+use Rattle.std.specs.Prelude.{◌≡◌, ℕ, ◌+◌, ◌<◌, ◌≤◌, ◌↔◌, Bool, true, nat_eq, List, [], length, slice_get, Option, Some, None, IsTrue}
 use Rattle.std.specs.List.{list_all, list_any}
 use Rattle.dn_interval.specs.declared.row.End.{End}
 use Rattle.dn_interval.specs.declared.row.Row.{Row}
@@ -11,8 +11,10 @@ use Rattle.dn_net.specs.declared.node.NodeDecl.{NodeDecl}
 use Rattle.dn_net.specs.Chain.{ReachesWithin}
 use Rattle.dn_net.specs.Decode.{Step, step_limit}
 use Rattle.dn_walk.specs.Ends.{name_of_end}
+use Rattle.dn_flat.specs.declared.crowds.Crowd.{Crowd}
 use Rattle.dn_flat.specs.declared.levels.Levels.{Levels}
 use Rattle.dn_flat.specs.declared.reach.Reach.{Reach}
+use Rattle.dn_flat.specs.Crowds.{AreCrowds}
 use Rattle.dn_flat.specs.Onward.{levels_lead}
 use Rattle.dn_flat.specs.Stages.{AreReaches, StageRows}
 use Rattle.dn_flat.specs.Views.{ResolvesFrom, StopsFrom}
@@ -34,28 +36,36 @@ pub record AreLevels (net : List NodeDecl) (node : ℕ) (levels : List (List Row
 abbrev pub AreStops : List NodeDecl → ℕ → List (List Row) → Type 0
 AreStops net node layers = (a : ℕ) (y : End) → a ≤ TOP → IsTrue (levels_give layers a y) ↔ StopsFrom net node a y
 
--- they do, and the layers of stops give to each address of the node its stops
+-- the node is listed
+abbrev pub is_among : ℕ → List ℕ → Bool
+is_among node nodes = list_any (λ other. nat_eq other node) nodes
+
+-- they do, and the layers of stops give to each address of the node its stops, the units of which are
+-- listed
 pub record IsLevels (net : List NodeDecl) (node : ℕ) (levels : Levels) : Type 0 where
   pub reached : AreLevels net node levels.reached
   pub stops : AreStops net node levels.stops
   -- each name of a row is in a node that is there
   pub stops_within : IsTrue (list_all (λ rows. ends_within (length net) rows) levels.stops)
+  pub units : (a : ℕ) (y : End) → a ≤ TOP → levels_give levels.stops a y ≡ true → is_among y.node levels.units ≡ true
 
 -- there are such levels for each node below this one
 pub record AreLevelsBelow (net : List NodeDecl) (node : ℕ) (nodes : List Levels) : Type 0 where
   pub every : length nodes ≡ node
   pub each : (m : ℕ) (levels : Levels) → slice_get nodes m ≡ Some levels → IsLevels net m levels
 
--- what nodes reach, and what they come to in one step
+-- what nodes reach, what they come to in one step, and names in units that two addresses of agents reach
 pub record FlatsView : Type 0 where
   pub nodes : List Levels
   pub stage : StageRows
+  pub crowds : List Crowd
 
--- it is what the nodes of the net reach, and what they come to
+-- it is what the nodes of the net reach, and what they come to, and two addresses of agents reach the names
 pub record AreFlats (net : List NodeDecl) (flats : FlatsView) : Type 0 where
   pub every : length flats.nodes ≡ length net
   pub each : (node : ℕ) (levels : Levels) → slice_get flats.nodes node ≡ Some levels → IsLevels net node levels
   pub steps : AreReaches net 1 flats.stage.nodes
+  pub crowded : AreCrowds net flats.crowds
 
 -- the levels of what a node reaches; of one that is not there they are none
 abbrev pub reached_of : Option Levels → List (List Row)
@@ -66,6 +76,11 @@ reached_of (Some levels) = levels.reached
 abbrev pub stops_in : Option Levels → List (List Row)
 stops_in None = []
 stops_in (Some levels) = levels.stops
+
+-- the units of the stops of a node; of one that is not there they are none
+abbrev pub units_in : Option Levels → List ℕ
+units_in None = []
+units_in (Some levels) = levels.units
 
 -- a name that one of the levels gives to the address goes on to the accepted name, by what its node accepts
 abbrev pub levels_show : List Reach → List (List Row) → ℕ → End → Bool

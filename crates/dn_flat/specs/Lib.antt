@@ -1,3 +1,4 @@
+pub mod Crowds
 pub mod Firsts
 pub mod Levels
 pub mod Onward

@@ -4,7 +4,7 @@ use Rattle.dn_flat.specs.declared.levels.Levels.{Levels}
 
 -- nothing
 abbrev pub no_levels : Levels
-no_levels = record { reached = []; stops = [] }
+no_levels = record { reached = []; stops = []; units = [] }
 
 -- what stands at a place
 abbrev pub levels_at : List Levels → ℕ → Levels

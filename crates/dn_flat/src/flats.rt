@@ -1,6 +1,6 @@
 //! What all nodes of a net reach, and the accepted names to which they come by it.
 
-ghost use Rattle.std.specs.Prelude.{◌≡◌, ℕ, ◌+◌, ◌-◌, ◌<◌, ◌≤◌, ◌&&◌, ◌||◌, List, IfOk, OnOk, IsTrue, Some, length, slice_get};
+ghost use Rattle.std.specs.Prelude.{◌≡◌, ℕ, ◌+◌, ◌-◌, ◌<◌, ◌≤◌, ◌&&◌, ◌||◌, List, IfOk, IfSome, OnOk, IsTrue, Some, length, slice_get};
 ghost use Rattle.dn_interval.specs.declared.row.End.{End};
 ghost use Rattle.dn_interval.specs.declared.row.Seg.{Seg};
 ghost use Rattle.dn_interval.specs.declared.span.TheConstants.{TOP};
@@ -9,14 +9,15 @@ ghost use Rattle.dn_net.specs.declared.node.NodeDecl.{NodeDecl};
 ghost use Rattle.dn_net.specs.Terms.{IsLegalNet};
 ghost use Rattle.dn_walk.specs.Terms.{AreWalksOf};
 ghost use Rattle.dn_flat.specs.declared.flat.Flat.{Flat};
-ghost use Rattle.dn_flat.specs.Terms.{AreFlats, AreLevelsBelow, IsFlat, IsStage, ResolvesFrom, ResolvesWhole, levels_give, shows, stops_in};
+ghost use Rattle.dn_flat.specs.Terms.{AreCrowded, AreFlats, AreLevelsBelow, IsFlat, IsStage, ResolvesFrom, ResolvesWhole, levels_give, shows, stops_in};
 
+use crate::crowds::{Crowd, crowd_among, crowds_of};
 use crate::levels::{Levels, push_given, push_shown, shown_segs};
 use crate::shared::Shared;
 use crate::stage::Stage;
 use crate::stretches::{Buffer, alone_segs, led_stretches, near_segs};
 use dn_base::OutOfMemory;
-use dn_interval::{End, Rows, Seg, strands_of};
+use dn_interval::{End, Rows, Seg, Span, strands_of};
 use dn_net::net::Net;
 use dn_walk::walks::WalkTable;
 use std::alloc::Global;
@@ -28,6 +29,8 @@ use std::marker::Model;
 pub struct Flats {
     nodes: Shared,
     stage: Stage,
+    /// Names in units that two addresses of agents reach.
+    crowds: Vec<Crowd>,
 }
 
 impl Model for Flats {
@@ -35,7 +38,7 @@ impl Model for Flats {
 
     ghost Value = { FlatsView };
 
-    ghost view = { λ s. record { nodes = s.nodes; stage = s.stage } };
+    ghost view = { λ s. record { nodes = s.nodes; stage = s.stage; crowds = s.crowds.items } };
 }
 
 impl Flats {
@@ -56,6 +59,17 @@ impl Flats {
             → IsFlat net node flat → IsFlat net other flat }
     {
         self.nodes.is_shared(node, other)
+    }
+
+    /// Names of a unit, one after another, that two addresses of agents reach, of which some are among so many names
+    /// from one on. `None` says nothing. Time of a binary search.
+    pub fn crowd_among(&self, unit: u16, first: u64, size: u64) -> Option<Span>
+        ensures crowded { IfSome result (λ s. (net : List NodeDecl) → AreFlats net self.now
+            → AreCrowded net unit s) }
+        ensures from { IfSome result (λ s. first ≤ s.hi) }
+        ensures to { IfSome result (λ s. s.lo < first + size) }
+    {
+        crowd_among(&self.crowds, unit, first, size)
     }
 
     /// Adds the accepted names to which the names of a segment come. `mid` is room for names on the way: one that is
@@ -148,7 +162,12 @@ pub fn flatten_all(alloc: Global, net: &Net, walks: &WalkTable) -> Result<Flats,
     for node in 0..net.nodes() {
         add(alloc, net, &stage, &mut nodes, node)?;
     }
-    Ok(Flats { nodes, stage })
+    let crowds = crowds_of(alloc, net, &nodes)?;
+    Ok(Flats {
+        nodes,
+        stage,
+        crowds,
+    })
 }
 
 /// Adds what a node reaches, by the net's stage for one step, to what those before it reach.

@@ -26,6 +26,8 @@ pub struct Levels {
     pub reached: Items<Rows>,
     /// For each address the names in units that it reaches, as layers that together give them.
     pub stops: Items<Rows>,
+    /// The units of these names.
+    pub units: Items<u16>,
 }
 
 /// What the addresses of a node reach, where the names in units are as they were found.

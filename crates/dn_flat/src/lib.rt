@@ -5,6 +5,7 @@
 //! [`flats::flatten_all`] from every node.
 #![tactic(auto)]
 
+mod crowds;
 pub mod flat;
 pub mod flats;
 mod found;
@@ -15,5 +16,6 @@ mod reach;
 mod shared;
 pub mod stage;
 mod stretches;
+mod units;
 
 pub use dn_base::OutOfMemory;

@@ -12,6 +12,7 @@ use crate::flat::Flat;
 use crate::layers::layers_of;
 use crate::levels::{Levels, Reached, node_reached, shown_segs};
 use crate::reach::{Reach, first_reach, twice};
+use crate::units::nodes_of;
 use dn_base::OutOfMemory;
 use dn_interval::{Rows, SpanSet};
 use dn_net::checked::CheckedNet;
@@ -148,10 +149,12 @@ impl Stage {
         ensures { IfOk result (λ levels. IsLevels net.now node levels) }
     {
         let Reached { levels, stops } = node_reached(alloc, net, self.nodes.as_slice(), node)?;
+        let units = nodes_of(alloc, &stops)?;
         let stops = layers_of(alloc, &stops)?;
         Ok(Levels {
             reached: levels,
             stops,
+            units,
         })
     }
 

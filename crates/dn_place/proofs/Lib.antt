@@ -1,4 +1,5 @@
 pub mod Agents
+pub mod Crowds
 pub mod Levels
 pub mod Marked
 pub mod Meetings
@@ -7,6 +8,7 @@ pub mod Openings
 pub mod Pages
 pub mod Proper
 pub mod Readies
+pub mod Shut
 pub mod Stretches
 pub mod Tops
 pub mod Toward

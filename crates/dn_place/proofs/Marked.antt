@@ -20,7 +20,7 @@ use Rattle.dn_net.specs.Decode.{top, unit_at, StopsAt}
 use Rattle.dn_flat.specs.declared.levels.Levels.{Levels}
 use Rattle.dn_flat.specs.Levels.{IsLevels, levels_give}
 use Rattle.dn_tables.specs.declared.placement.Hop.{Hop}
-use Rattle.dn_place.specs.Sought.{IsFormed, IsSearchReady, Sought}
+use Rattle.dn_place.specs.Sought.{IsFormed, IsSearchReady, ReachOneStop, Sought}
 use Rattle.dn_net.specs.declared.node.Unit.{Unit as UnitPart}
 use Rattle.dn_placement.specs.Placement.{Leads, Meets}
 use Rattle.dn_walk.specs.Ends.{end_of, name_of_end}
@@ -104,7 +104,7 @@ pub marks_all : (net : List NodeDecl) (n : ℕ) (marks : List Bool) → length m
 marks_all net n marks long m = λ a z l s k. m a z l s (omega arith)
 
 -- the next hop of a placement stands in a marked unit
-pub marked_hop : (s : Sought) (first second third : List Bool) (v : ℕ) (before : List Hop) (hop : Hop) (chosen : List Hop) → IsSearchReady s → v + s.request.size ≤ top + 1 → AreMarked s first second third → Meets s.net s.request s.request.agent v (before ++ (hop ∷ chosen)) → Leads s.net s.slots s.request (before ++ (hop ∷ chosen)) → length before ≤ 2 → mark_at first second third (suc (length before)) hop.unit ≡ true
+pub marked_hop : (s : Sought) (first second third : List Bool) (v : ℕ) (before : List Hop) (hop : Hop) (chosen : List Hop) → IsSearchReady s → v + s.request.size ≤ top + 1 → AreMarked s.net s.request.agent first second third → Meets s.net s.request s.request.agent v (before ++ (hop ∷ chosen)) → Leads s.net s.slots s.request (before ++ (hop ∷ chosen)) → length before ≤ 2 → mark_at first second third (suc (length before)) hop.unit ≡ true
 marked_hop s first second third v [] hop chosen ready fits m meets leads l = let some = ready.some in m.firsts (v + 0) (record { node = hop.unit; addr = hop.x + 0 }) (omega arith) (meets 0 some) (unit_there s.net hop.unit leads.0.unit leads.0.is_unit)
 marked_hop s first second third v (a ∷ []) hop chosen ready fits m meets leads l = let some = ready.some in m.seconds a.unit a.port leads.0.node leads.0.unit one leads.0.is_unit leads.0.is_port (a.y + 0) (record { node = hop.unit; addr = hop.x + 0 }) (omega (arith, leads.0.reached, power_below leads.0.unit.reach (ready.formed a.unit leads.0.unit leads.0.is_unit).reach)) (leads.0.meets 0 some) (unit_there s.net hop.unit leads.1.0.unit leads.1.0.is_unit)
   where
@@ -185,21 +185,34 @@ none_given (r ∷ rows) a z e (inr g) = none_given rows a z (rest (in_span r.spa
     rest false y p = p
 
 -- the entry is the one stop of the address
-pub entry_is : (s : Sought) (levels : Levels) (entry : Option End) (at : ℕ) → IsSearchReady s → IsLevels s.net s.request.agent levels → s.at ≡ Some at → ((z : End) → entry ≡ Some z → levels_give levels.stops at z ≡ true) → (entry ≡ None → (z : End) → levels_give levels.stops at z ≡ true → ⊥) → IsEntry s entry
-entry_is s levels entry at ready f asked given none v z e l stops = go entry refl
+pub entry_is : (net : List NodeDecl) (agent : ℕ) (levels : Levels) (entry : Option End) (at : ℕ) → ReachOneStop net → IsLevels net agent levels → ((z : End) → entry ≡ Some z → levels_give levels.stops at z ≡ true) → (entry ≡ None → (z : End) → levels_give levels.stops at z ≡ true → ⊥) → IsEntry net agent (Some at) entry
+entry_is net agent levels entry at one f given none = record { reached = λ v z e l stops. reached v z e l stops; unasked = λ e. never e }
   where
     some : (a b : ℕ) → Some a ≡ Some b → a ≡ b
-    some a b p = cc
+    some a b q = cc
 
-    same : v ≡ at
-    same = some v at (sym e ∙ asked)
+    never : Some at ≡ None → entry ≡ None
+    never e = cc
 
-    stop : StopsAt s.net (record { node = s.request.agent; addr = at }) z
-    stop = subst (λ (n : ℕ). StopsAt s.net (record { node = s.request.agent; addr = n }) z) same stops
+    reached : (v : ℕ) (z : Name) → Some at ≡ Some v → v ≤ top → StopsAt net (record { node = agent; addr = v }) z → entry ≡ Some (record { node = z.node; base = z.addr })
+    reached v z e l stops = go entry refl
+      where
+        same : v ≡ at
+        same = some v at (sym e)
 
-    low : at ≤ top
-    low = let e : v ≡ at = same in omega (arith, l)
+        stop : StopsAt net (record { node = agent; addr = at }) z
+        stop = subst (λ (n : ℕ). StopsAt net (record { node = agent; addr = n }) z) same stops
 
-    go : (o : Option End) → entry ≡ o → o ≡ Some (end_of z)
-    go None p = absurd (none p (end_of z) ((f.stops at (end_of z) low).1 stop))
-    go (Some y) p = ap (λ (x : Name). Some (end_of x)) (ready.one_stop (record { node = s.request.agent; addr = at }) (name_of_end y) z ((f.stops at y low).0 (given y p)) stop)
+        low : at ≤ top
+        low = let p : v ≡ at = same in omega (arith, l)
+
+        go : (o : Option End) → entry ≡ o → o ≡ Some (end_of z)
+        go None p = absurd (none p (end_of z) ((f.stops at (end_of z) low).1 stop))
+        go (Some y) p = ap (λ (x : Name). Some (end_of x)) (one (record { node = agent; addr = at }) (name_of_end y) z ((f.stops at y low).0 (given y p)) stop)
+
+-- where no address is asked for there is none
+pub no_entry : (net : List NodeDecl) (agent : ℕ) → IsEntry net agent None None
+no_entry net agent = record { reached = λ v z e l stops. never v z e; unasked = λ e. refl }
+  where
+    never : (v : ℕ) (z : Name) → None ≡ Some v → None ≡ Some (record { node = z.node; base = z.addr })
+    never v z e = cc

@@ -1,6 +1,6 @@
 -- The next hop of placements that end with some hops.
 use Rattle.std.proofs.Common.{◌≡◌, ℕ, suc, ◌+◌, ◌-◌, ◌*◌, ◌/◌, ◌%◌, ◌^◌, ◌<◌, ◌≤◌, ◌⊎◌, inl, inr, Bool, false, List, [], ◌∷◌, ◌++◌, length, slice_get, get_or, Option, Some, None, refl, sym, ap, ◌∙◌, subst, arith, append_assoc, length-append}
-use Rattle.std.proofs.lemmas.Bool.{cases_lt, false≢true}
+use Rattle.std.proofs.lemmas.Bool.{cases_lt, cases_order, false≢true}
 use Rattle.std.proofs.lemmas.Option.{slice_get_within, slice_get-get_or, get_or_from_slice_get}
 use Rattle.std.proofs.lemmas.Nat.{pow_pos}
 use Rattle.std.proofs.Math.Nat.{mul-le-mul_left, mul-le-mul_right, add-mod_right, mod-add-div', div-mul-le_self}
@@ -15,10 +15,11 @@ use Rattle.dn_placement.specs.Order.{IsAt, hop_page, hops_key, key_of}
 use Rattle.dn_placement.specs.Placement.{Joins, Leads, Meets, name_on}
 use Rattle.dn_placement.proofs.Hops.{numbers}
 use Rattle.dn_placement.proofs.Keys.{append_none, cancel, one_more}
-use Rattle.dn_place.specs.Slots.{AreBarred, AreShut, AreUsable, slot_of}
+use Rattle.dn_flat.specs.Crowds.{IsCrowded}
+use Rattle.dn_place.specs.Slots.{AreBarred, AreShut, AreUsable, AreUseless, HasCrowd, IsUseless, slot_of}
 use Rattle.dn_place.specs.Rows.{AreToward, GivesOnly, wanted_name}
 use Rattle.dn_place.specs.Candidates.{IsUnder, NoneUnder, NoneBelow, IsFirstOrNone, IsChosen, key_of_hops, to_unit, to_port, to_output}
-use Rattle.dn_place.proofs.Levels.{begun, leapt, next_one, none_left}
+use Rattle.dn_place.proofs.Levels.{begun, found_first, leapt, next_one, none_left}
 use Rattle.dn_place.proofs.Openings.{Opened, opened}
 use Rattle.dn_place.proofs.Wholes.{whole}
 use Rattle.dn_place.proofs.Meetings.{meets_gives}
@@ -213,16 +214,17 @@ inputs_begun s count hops unit port y u l e = leapt s _ 0 (y % 2 ^ u.page) (begu
         small : (j r p : ℕ) → 0 < p → j % p ≡ r → j < r → ⊥
         small j r p z a b = omega arith
 
+-- between a number and the next that agrees with it none agrees
+pub between : (x j p : ℕ) → 0 < p → x + 1 ≤ j → j < x + p → j % p ≡ x % p → ⊥
+between x j p z a b c = by_quotient (cases_lt (x / p) (j / p))
+  where
+    by_quotient : (x / p < j / p) ⊎ (j / p ≤ x / p) → ⊥
+    by_quotient (inl m) = let n : x / p + 1 ≤ j / p = omega arith in omega (arith, mul-le-mul_left p n)
+    by_quotient (inr m) = omega (arith, mul-le-mul_left p m)
+
 -- between one input and the next none agrees
 pub inputs_leapt : (s : Sought) (count : ℕ) (hops : List Hop) (unit port y x : ℕ) (u : UnitPart) → length hops < count → unit_at s.net unit ≡ Some u → x % 2 ^ u.page ≡ y % 2 ^ u.page → NoneBelow s (to_output count hops unit port y) x → NoneUnder s (to_output count hops unit port y ++ x ∷ []) → NoneBelow s (to_output count hops unit port y) (x + 2 ^ u.page)
 inputs_leapt s count hops unit port y x u l e agree below none = leapt s _ (x + 1) (x + 2 ^ u.page) (next_one s _ x below none) (λ q j a b v. absurd (between x j (2 ^ u.page) (pow_pos u.page) a b ((x_of s count hops unit port y j u l e q v).joins.agree ∙ sym agree)))
-  where
-    between : (x j p : ℕ) → 0 < p → x + 1 ≤ j → j < x + p → j % p ≡ x % p → ⊥
-    between x j p z a b c = by_quotient (cases_lt (x / p) (j / p))
-      where
-        by_quotient : (x / p < j / p) ⊎ (j / p ≤ x / p) → ⊥
-        by_quotient (inl m) = let n : x / p + 1 ≤ j / p = omega arith in omega (arith, mul-le-mul_left p n)
-        by_quotient (inr m) = omega (arith, mul-le-mul_left p m)
 
 pub inputs_done : (s : Sought) (count : ℕ) (hops : List Hop) (unit port y x : ℕ) (u : UnitPart) → length hops < count → unit_at s.net unit ≡ Some u → u.slots * 2 ^ u.page < x + s.request.size → NoneBelow s (to_output count hops unit port y) x → NoneUnder s (to_output count hops unit port y)
 inputs_done s count hops unit port y x u l e past below = none_left s _ x below (λ q v. let w = through_output s count hops q unit port y u l e v in (w.x, omega (arith, w.through.joins.within), (w.rest, w.key ∙ sym (one_more (to_output count hops unit port y) w.x w.rest))))
@@ -259,7 +261,7 @@ pub port_read : (items ports : List ℕ) (i port : ℕ) → items ≡ ports → 
 port_read items ports i port e f l = slice_get-get_or ports port 0 l ∙ ap (λ n. Some n) (sym (ap (λ l. get_or l i 0) e ∙ ap (λ k. get_or ports k 0) f))
 
 -- a unit that has no mark for the next hop's place
-pub unmarked : (s : Sought) (count : ℕ) (hops : List Hop) (unit place : ℕ) (first second third : List Bool) → IsSearchReady s → AreMarked s first second third → length hops < count → count ≤ 3 → place ≡ count - length hops → mark_at first second third place unit ≡ false → NoneUnder s (to_unit count hops unit)
+pub unmarked : (s : Sought) (count : ℕ) (hops : List Hop) (unit place : ℕ) (first second third : List Bool) → IsSearchReady s → AreMarked s.net s.request.agent first second third → length hops < count → count ≤ 3 → place ≡ count - length hops → mark_at first second third place unit ≡ false → NoneUnder s (to_unit count hops unit)
 unmarked s count hops unit place first second third ready m l most e f = record { none = λ q u. absurd (go q u (next_of s count hops q (unit ∷ []) l u)) }
   where
     key_head : (a d : ℕ) (x y : List ℕ) → (a ∷ x) ≡ (d ∷ y) → a ≡ d
@@ -284,53 +286,127 @@ ends_with s count hops q l u = go (cases_lt (length hops) count)
     go (inl m) = let w = next_of s count hops q [] m (subst (λ f. IsUnder s f q) (sym (append_none (key_of_hops count hops))) u) in (w.opens.before ++ w.opens.hop ∷ [], w.opens.ends ∙ sym (append_assoc w.opens.before (w.opens.hop ∷ []) hops))
     go (inr m) = ([], all (omega arith))
 
--- an input that the address asked for does not reach
-pub not_allowed : (s : Sought) (count : ℕ) (hops : List Hop) (unit port y x : ℕ) (u : UnitPart) (entry : Option End) → IsSearchReady s → IsEntry s entry → length hops < count → count ≡ suc (length hops) → unit_at s.net unit ≡ Some u → (s.at ≡ None → ⊥) → (entry ≡ Some (record { node = unit; base = x }) → ⊥) → NoneUnder s (to_output count hops unit port y ++ x ∷ [])
-not_allowed s count hops unit port y x u entry ready e l one unit_is asked other = record { none = λ q v. absurd (go q v s.at refl) }
+-- the hop of a placement before all others that are chosen, where it is the first from the agent's end
+pub first_hop : (s : Sought) (count : ℕ) (hops : List Hop) (q : Place) (given : List ℕ) → count ≡ suc (length hops) → (w : Next s count hops q given) → q.hops ≡ w.opens.hop ∷ hops
+first_hop s count hops q given one w =
+    let number : length q.hops ≡ count = key_head (length q.hops) count (hops_key q.hops ++ (q.v ∷ hop_page s.net (slice_get q.hops q.own) ∷ (length q.hops - q.own) ∷ [])) (hops_key hops ++ numbers w.opens.hop w.opens.rest) w.opens.key in
+    let long : length q.hops ≡ length w.opens.before + suc (length hops) = ap length w.opens.ends ∙ length-append w.opens.before (w.opens.hop ∷ hops) in
+    w.opens.ends ∙ ap (λ (b : List Hop). b ++ (w.opens.hop ∷ hops)) (bare w.opens.before (omega arith))
   where
-    front : List ℕ
-    front = key_of_hops count hops
-
-    heads : (a b c d a' b' c' d' : ℕ) (m r : List ℕ) → (a ∷ b ∷ c ∷ d ∷ m) ≡ (a' ∷ b' ∷ c' ∷ d' ∷ r) → (a ≡ a') × (d ≡ d')
-    heads a b c d a' b' c' d' m r p = (cc, cc)
-
     key_head : (a d : ℕ) (m r : List ℕ) → (a ∷ m) ≡ (d ∷ r) → a ≡ d
     key_head a d m r p = cc
-
-    nested : to_output count hops unit port y ++ x ∷ [] ≡ front ++ (unit ∷ port ∷ y ∷ x ∷ [])
-    nested = one_more (to_port count hops unit port) y (x ∷ []) ∙ one_more (to_unit count hops unit) port (y ∷ x ∷ []) ∙ one_more front unit (port ∷ y ∷ x ∷ [])
-
-    made : (m n b c : ℕ) → m ≡ n → b ≡ c → ◌≡◌ {A = End} (record { node = m; base = b }) (record { node = n; base = c })
-    made m n b c p r = cc
 
     bare : (before : List Hop) → length before ≡ 0 → before ≡ []
     bare [] p = refl
     bare (h ∷ before) p = absurd (omega arith)
 
-    go : (q : Place) → IsUnder s (to_output count hops unit port y ++ x ∷ []) q → (at : Option ℕ) → s.at ≡ at → ⊥
-    go q v None p = asked p
-    go q v (Some at) p =
-        let w = next_of s count hops q (unit ∷ port ∷ y ∷ x ∷ []) l (subst (λ f. IsUnder s f q) nested v) in
-        let same = heads w.opens.hop.unit w.opens.hop.port w.opens.hop.y w.opens.hop.x unit port y x w.opens.rest w.rest w.split in
-        let number : length q.hops ≡ count = key_head (length q.hops) count (hops_key q.hops ++ (q.v ∷ hop_page s.net (slice_get q.hops q.own) ∷ (length q.hops - q.own) ∷ [])) (hops_key hops ++ numbers w.opens.hop w.opens.rest) w.opens.key in
-        let long : length q.hops ≡ length w.opens.before + suc (length hops) = ap length w.opens.ends ∙ length-append w.opens.before (w.opens.hop ∷ hops) in
-        let alone = w.opens.ends ∙ ap (λ (b : List Hop). b ++ (w.opens.hop ∷ hops)) (bare w.opens.before (omega arith)) in
-        let here : q.v ≡ at = subst (λ (o : Option ℕ). IsAt o q.v) p v.is.is_at in
-        let meets : StopsAt s.net (name_on s.request.agent q.v 0) (name_on w.opens.hop.unit w.opens.hop.x 0) = (subst (λ (h : List Hop). Meets s.net s.request s.request.agent q.v h) alone v.is.is_placement.meets) 0 ready.some in
-        let given = subst (λ (n : ℕ). StopsAt s.net (record { node = s.request.agent; addr = n }) (name_on w.opens.hop.unit w.opens.hop.x 0)) (let k : q.v + 0 ≡ at = omega arith in k) meets in
-        let low : at ≤ top = omega (arith, v.is.is_placement.fits, ready.some) in
-        other (e at (name_on w.opens.hop.unit w.opens.hop.x 0) p low given ∙ ap (λ (z : End). Some z) (made w.opens.hop.unit unit (w.opens.hop.x + 0) x same.0 (omega (arith, same.1))))
+-- where an address is asked for, the first hop from the agent's end has the input that the address reaches
+pub entered : (s : Sought) (count : ℕ) (hops : List Hop) (q : Place) (given : List ℕ) (entry : Option End) → IsSearchReady s → IsEntry s.net s.request.agent s.at entry → count ≡ suc (length hops) → (entry ≡ None → ⊥) → IsUnder s (key_of_hops count hops ++ given) q → (w : Next s count hops q given) → entry ≡ Some (record { node = w.opens.hop.unit; base = w.opens.hop.x })
+entered s count hops q given entry ready e one asked v w = go s.at refl
+  where
+    plain : (m b : ℕ) → ◌≡◌ {A = End} (record { node = m; base = b + 0 }) (record { node = m; base = b })
+    plain m b = let k : b + 0 ≡ b = omega arith in ap (λ (n : ℕ). record { node = m; base = n }) k
 
--- inputs that slots bar
-pub inputs_barred : (s : Sought) (count : ℕ) (hops : List Hop) (unit port y x to : ℕ) (u : UnitPart) → length hops < count → unit_at s.net unit ≡ Some u → x % 2 ^ u.page ≡ y % 2 ^ u.page → AreBarred s u (record { unit = unit; port = port; x = x; y = y }) to → NoneBelow s (to_output count hops unit port y) x → NoneBelow s (to_output count hops unit port y) to
-inputs_barred s count hops unit port y x to u l e agree barred below = leapt s _ x to below (λ q j a b v. let k = (x_of s count hops unit port y j u l e q v).joins in absurd (barred j a b (k.agree ∙ sym agree) k.usable))
+    go : (at : Option ℕ) → s.at ≡ at → entry ≡ Some (record { node = w.opens.hop.unit; base = w.opens.hop.x })
+    go None p = absurd (asked (e.unasked p))
+    go (Some at) p =
+        let here : q.v ≡ at = subst (λ (o : Option ℕ). IsAt o q.v) p v.is.is_at in
+        let meets : StopsAt s.net (name_on s.request.agent q.v 0) (name_on w.opens.hop.unit w.opens.hop.x 0) = (subst (λ (h : List Hop). Meets s.net s.request s.request.agent q.v h) (first_hop s count hops q given one w) v.is.is_placement.meets) 0 ready.some in
+        let given_at = subst (λ (n : ℕ). StopsAt s.net (record { node = s.request.agent; addr = n }) (name_on w.opens.hop.unit w.opens.hop.x 0)) (let k : q.v + 0 ≡ at = omega arith in k) meets in
+        let low : at ≤ top = omega (arith, v.is.is_placement.fits, ready.some) in
+        e.reached at (name_on w.opens.hop.unit w.opens.hop.x 0) p low given_at ∙ ap (λ (z : End). Some z) (plain w.opens.hop.unit w.opens.hop.x)
+
+-- an input that the address asked for does not reach
+pub not_entered : (s : Sought) (count : ℕ) (hops : List Hop) (unit port y x : ℕ) (entry : Option End) → IsSearchReady s → IsEntry s.net s.request.agent s.at entry → length hops < count → count ≡ suc (length hops) → (entry ≡ None → ⊥) → ((z : End) → entry ≡ Some z → z.base ≡ x → ⊥) → NoneUnder s (to_output count hops unit port y ++ x ∷ [])
+not_entered s count hops unit port y x entry ready e l one asked other = record { none = λ q v. absurd (go q v) }
+  where
+    given : List ℕ
+    given = unit ∷ port ∷ y ∷ x ∷ []
+
+    last : (a b c d a' b' c' d' : ℕ) (m r : List ℕ) → (a ∷ b ∷ c ∷ d ∷ m) ≡ (a' ∷ b' ∷ c' ∷ d' ∷ r) → d ≡ d'
+    last a b c d a' b' c' d' m r p = cc
+
+    nested : to_output count hops unit port y ++ x ∷ [] ≡ key_of_hops count hops ++ given
+    nested = one_more (to_port count hops unit port) y (x ∷ []) ∙ one_more (to_unit count hops unit) port (y ∷ x ∷ []) ∙ one_more (key_of_hops count hops) unit (port ∷ y ∷ x ∷ [])
+
+    go : (q : Place) → IsUnder s (to_output count hops unit port y ++ x ∷ []) q → ⊥
+    go q v =
+        let u = subst (λ f. IsUnder s f q) nested v in
+        let w = next_of s count hops q given l u in
+        other (record { node = w.opens.hop.unit; base = w.opens.hop.x }) (entered s count hops q given entry ready e one asked u w) (last w.opens.hop.unit w.opens.hop.port w.opens.hop.y w.opens.hop.x unit port y x w.opens.rest w.rest w.split)
+
+-- a unit that the address asked for does not reach
+pub unentered : (s : Sought) (count : ℕ) (hops : List Hop) (unit : ℕ) (entry : Option End) → IsSearchReady s → IsEntry s.net s.request.agent s.at entry → length hops < count → count ≡ suc (length hops) → (entry ≡ None → ⊥) → ((x : ℕ) → entry ≡ Some (record { node = unit; base = x }) → ⊥) → NoneUnder s (to_unit count hops unit)
+unentered s count hops unit entry ready e l one asked other = record { none = λ q v. absurd (go q v) }
+  where
+    go : (q : Place) → IsUnder s (to_unit count hops unit) q → ⊥
+    go q v =
+        let w = next_of s count hops q (unit ∷ []) l v in
+        other w.opens.hop.x (entered s count hops q (unit ∷ []) entry ready e one asked v w ∙ ap (λ (n : ℕ). Some (record { node = n; base = w.opens.hop.x })) (unit_of s count hops q unit w))
+
+-- where no other input goes on, the first with an input is the first with the output
+pub only_input : (s : Sought) (count : ℕ) (hops : List Hop) (unit port y x : ℕ) (u : UnitPart) (found : Option Place) → length hops < count → unit_at s.net unit ≡ Some u → ((j : ℕ) → (j ≡ x → ⊥) → NoneUnder s (to_output count hops unit port y ++ j ∷ [])) → IsFirstOrNone s (to_output count hops unit port y ++ x ∷ []) found → IsFirstOrNone s (to_output count hops unit port y) found
+only_input s count hops unit port y x u None l e others a = none_left s (to_output count hops unit port y) (x + 1) (next_one s (to_output count hops unit port y) x (below x) a) goes
+  where
+    below : (x : ℕ) → NoneBelow s (to_output count hops unit port y) x
+    below x = leapt s (to_output count hops unit port y) 0 x (begun s (to_output count hops unit port y)) (λ q j m n v. (others j (λ p. differ j p n)).none q v)
+      where
+        differ : (j : ℕ) → j ≡ x → j < x → ⊥
+        differ j p n = omega arith
+
+    goes : (q : Place) → IsUnder s (to_output count hops unit port y) q → (j : ℕ) × (j < x + 1) × Begins (to_output count hops unit port y ++ j ∷ []) (key_of s.net q)
+    goes q v = let w = through_output s count hops q unit port y u l e v in by w (cases_order w.x x)
+      where
+        by : (w : Output s u hops q unit port y (to_output count hops unit port y)) → (w.x ≡ x) ⊎ ((w.x < x) ⊎ (x < w.x)) → (j : ℕ) × (j < x + 1) × Begins (to_output count hops unit port y ++ j ∷ []) (key_of s.net q)
+        by w (inl p) = (w.x, omega arith, (w.rest, w.key ∙ sym (one_more (to_output count hops unit port y) w.x w.rest)))
+        by w (inr (inl p)) = (w.x, omega arith, (w.rest, w.key ∙ sym (one_more (to_output count hops unit port y) w.x w.rest)))
+        by w (inr (inr p)) = absurd ((others w.x (λ f. omega arith)).none q (record { is = v.is; begins = (w.rest, w.key ∙ sym (one_more (to_output count hops unit port y) w.x w.rest)) }))
+only_input s count hops unit port y x u (Some p) l e others a = found_first s (to_output count hops unit port y) x p (leapt s (to_output count hops unit port y) 0 x (begun s (to_output count hops unit port y)) (λ q j m n v. (others j (λ f. differ j f n)).none q v)) a
+  where
+    differ : (j : ℕ) → j ≡ x → j < x → ⊥
+    differ j f n = omega arith
+
+-- an input that does not agree with the output, or past the unit's end, or whose slots are not usable
+pub not_joined : (s : Sought) (count : ℕ) (hops : List Hop) (unit port y x : ℕ) (u : UnitPart) → length hops < count → unit_at s.net unit ≡ Some u → (JoinsIn s u (record { unit = unit; port = port; x = x; y = y }) hops → ⊥) → NoneUnder s (to_output count hops unit port y ++ x ∷ [])
+not_joined s count hops unit port y x u l e unjoined = record { none = λ q v. absurd (unjoined (x_of s count hops unit port y x u l e q v).joins) }
+
+-- an input of the first hop from the agent's end, of which two addresses of agents reach a name
+pub crowd_bars : (s : Sought) (count : ℕ) (hops : List Hop) (unit port y x : ℕ) → IsSearchReady s → length hops < count → count ≡ suc (length hops) → HasCrowd s unit x → NoneUnder s (to_output count hops unit port y ++ x ∷ [])
+crowd_bars s count hops unit port y x ready l one crowd = record { none = λ q v. absurd (go q v) }
+  where
+    given : List ℕ
+    given = unit ∷ port ∷ y ∷ x ∷ []
+
+    nested : to_output count hops unit port y ++ x ∷ [] ≡ key_of_hops count hops ++ given
+    nested = one_more (to_port count hops unit port) y (x ∷ []) ∙ one_more (to_unit count hops unit) port (y ∷ x ∷ []) ∙ one_more (key_of_hops count hops) unit (port ∷ y ∷ x ∷ [])
+
+    ends : (a b c d a' b' c' d' : ℕ) (m r : List ℕ) → (a ∷ b ∷ c ∷ d ∷ m) ≡ (a' ∷ b' ∷ c' ∷ d' ∷ r) → (a ≡ a') × (d ≡ d')
+    ends a b c d a' b' c' d' m r p = (cc, cc)
+
+    go : (q : Place) → IsUnder s (to_output count hops unit port y ++ x ∷ []) q → ⊥
+    go q v =
+        let w = next_of s count hops q given l (subst (λ f. IsUnder s f q) nested v) in
+        let same = ends w.opens.hop.unit w.opens.hop.port w.opens.hop.y w.opens.hop.x unit port y x w.opens.rest w.rest w.split in
+        let i : ℕ = crowd.0 in
+        let meets : StopsAt s.net (name_on s.request.agent q.v i) (name_on w.opens.hop.unit w.opens.hop.x i) = (subst (λ (h : List Hop). Meets s.net s.request s.request.agent q.v h) (first_hop s count hops q given one w) v.is.is_placement.meets) i crowd.1 in
+        let stop : StopsAt s.net (name_on s.request.agent q.v i) (record { node = unit; addr = x + i }) = subst (λ (n : ℕ). StopsAt s.net (name_on s.request.agent q.v i) (record { node = unit; addr = n + i })) same.1 (subst (λ (n : ℕ). StopsAt s.net (name_on s.request.agent q.v i) (record { node = n; addr = w.opens.hop.x + i })) same.0 meets) in
+        let c : IsCrowded s.net (record { node = unit; addr = x + i }) = crowd.2 in
+        let is_one : c.one ≡ name_on s.request.agent q.v i = ready.alone q i (record { node = unit; addr = x + i }) c.one v.is crowd.1 stop c.one_agent c.one_stops in
+        let is_other : c.other ≡ name_on s.request.agent q.v i = ready.alone q i (record { node = unit; addr = x + i }) c.other v.is crowd.1 stop c.other_agent c.other_stops in
+        c.differ (is_one ∙ sym is_other)
+
+-- an input that serves no hop
+pub not_served : (s : Sought) (count : ℕ) (hops : List Hop) (unit port y x place from : ℕ) (u : UnitPart) → IsSearchReady s → length hops < count → place ≡ count - length hops → unit_at s.net unit ≡ Some u → IsUseless s u place (record { unit = unit; port = port; x = from; y = y }) x → NoneUnder s (to_output count hops unit port y ++ x ∷ [])
+not_served s count hops unit port y x place from u ready l here e (inl bars) = not_joined s count hops unit port y x u l e (λ j. bars j.usable)
+not_served s count hops unit port y x place from u ready l here e (inr crowd) = crowd_bars s count hops unit port y x ready l (let k : place ≡ 1 = crowd.0 in omega arith) crowd.1
+
+-- inputs that serve no hop
+pub inputs_useless : (s : Sought) (count : ℕ) (hops : List Hop) (unit port y x to place : ℕ) (u : UnitPart) → IsSearchReady s → length hops < count → place ≡ count - length hops → unit_at s.net unit ≡ Some u → x % 2 ^ u.page ≡ y % 2 ^ u.page → AreUseless s u place (record { unit = unit; port = port; x = x; y = y }) to → NoneBelow s (to_output count hops unit port y) x → NoneBelow s (to_output count hops unit port y) to
+inputs_useless s count hops unit port y x to place u ready l here e agree useless below = leapt s _ x to below (λ q j a b v. (not_served s count hops unit port y j place x u ready l here e (useless j a b ((x_of s count hops unit port y j u l e q v).joins.agree ∙ sym agree))).none q v)
 
 -- the answer for a whole hop is the answer for its input
 pub answered_input : (s : Sought) (count : ℕ) (hops : List Hop) (unit port y x : ℕ) (found : Option Place) → IsFirstOrNone s (key_of_hops count (record { unit = unit; port = port; x = x; y = y } ∷ hops)) found → IsFirstOrNone s (to_output count hops unit port y ++ x ∷ []) found
 answered_input s count hops unit port y x found a = subst (λ f. IsFirstOrNone s f found) (sym (behind count hops unit port y x)) a
-
-pub none_ending : (s : Sought) (count : ℕ) (hops : List Hop) (unit port y x : ℕ) → NoneUnder s (to_output count hops unit port y ++ x ∷ []) → NoneUnder s (key_of_hops count (record { unit = unit; port = port; x = x; y = y } ∷ hops))
-none_ending s count hops unit port y x a = subst (λ f. NoneUnder s f) (behind count hops unit port y x) a
 
 -- where the last slot that is not usable shuts the inputs up to a slot, the hops that begin before it are barred
 pub shut_bars : (s : Sought) (u : UnitPart) (hop : Hop) (q to : ℕ) → 1 ≤ s.request.size → hop.x / 2 ^ u.page ≤ q → q ≤ (hop.x + s.request.size - 1) / 2 ^ u.page → to ≤ q + 1 → AreShut (slot_of s.slots hop.unit q) q (hop.x / 2 ^ u.page) to hop.port (hop.y / 2 ^ u.page) → AreBarred s u hop (to * 2 ^ u.page + hop.x % 2 ^ u.page)

@@ -14,12 +14,14 @@ use Rattle.dn_net.specs.Units.{has_plain_shape}
 use Rattle.dn_net.proofs.Plain.{plain_at}
 use Rattle.dn_net.proofs.Steps.{node_at, unit_is_bare}
 use Rattle.dn_kind.specs.Kind.{Meaning}
-use Rattle.dn_kind.specs.Tables.{Held, output, steps_by_unit, StepUnder}
+use Rattle.dn_kind.specs.Rights.{are_rights}
+use Rattle.dn_kind.specs.Tables.{AreHeld, Held, output, steps_by_unit, StepUnder}
 use Rattle.dn_kind.proofs.Ways.{legal_one_way_to_unit}
 use Rattle.dn_tables.specs.declared.table.NodeTable.{NodeTable}
 use Rattle.dn_tables.specs.Set.{FitsNet, has_slot, has_slot_by, unit_in, units_of}
 use Rattle.dn_placement.specs.declared.request.Request.{Request}
 use Rattle.dn_placement.specs.Slots.{Slots}
+use Rattle.dn_view.proofs.Alone.{reached_alone}
 use Rattle.dn_place.specs.Sought.{AreFormed, IsSearchReady, ReachOneStop, slot_count}
 
 -- the bounds of a unit's shape
@@ -105,10 +107,11 @@ one_stop net legal x y z a b = go (legal_one_way_to_unit net empty legal x y z a
     go (inl w) = sym (ends_there net w.0 z y b.0 w.2)
     go (inr w) = ends_there net w.0 y z a.0 w.2
 
-pub ready : (net : List NodeDecl) (slots : Slots) (rq : Request) (at : Option ℕ) → IsLegalNet net → IsTrue (is_agent_at (slice_get net rq.agent)) → 1 ≤ rq.size → rq.base + rq.size ≤ top + 1 → IsSearchReady (record { net = net; slots = slots; request = rq; at = at })
-ready net slots rq at legal agent some fits = record {
+pub ready : (net : List NodeDecl) (slots : Slots) (rq : Request) (at : Option ℕ) → IsLegalNet net → AreHeld net slots.held → ((node slot : ℕ) → IsTrue (slots.is_free node slot) → slots.held node slot ≡ None) → IsTrue (are_rights rq.rights) → IsTrue (is_agent_at (slice_get net rq.agent)) → 1 ≤ rq.size → rq.base + rq.size ≤ top + 1 → IsSearchReady (record { net = net; slots = slots; request = rq; at = at })
+ready net slots rq at legal held empty rights agent some fits = record {
   formed = formed net legal;
   one_stop = one_stop net legal;
+  alone = λ q i t w is l st there st'. reached_alone net slots rq q legal held rights empty agent is.is_placement is.admissible i l t w st there st';
   few = legal.is_net.few;
   agent = there (slice_get net rq.agent) refl agent;
   some = some;

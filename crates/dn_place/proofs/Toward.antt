@@ -1,6 +1,6 @@
 -- The rows of a node that give what hops want: those made for a buffer, those of the levels of its stops, and those of a lone level.
-use Rattle.std.proofs.Common.{◌≡◌, ℕ, suc, ◌+◌, ◌-◌, ◌<◌, ◌≤◌, ◌⊎◌, inl, inr, Bool, true, false, ◌&&◌, ◌||◌, nat_eq, nat_lt, nat_le, if◌then◌else◌, List, [], ◌∷◌, length, map, get_or, refl, sym, ap, ◌∙◌, subst, arith, IsTrue, eqb-true, eq-eqb, lt-ltb, ltb-true, leb-true}
-use Rattle.std.specs.List.{list_all, list_any}
+use Rattle.std.proofs.Common.{◌≡◌, ℕ, zero, suc, ◌+◌, ◌-◌, ◌<◌, ◌≤◌, ◌⊎◌, inl, inr, Bool, true, false, ◌&&◌, ◌||◌, nat_eq, nat_lt, nat_le, if◌then◌else◌, List, [], ◌∷◌, length, map, get_or, slice_get, Option, Some, None, refl, sym, ap, ◌∙◌, subst, arith, IsTrue, eqb-true, eq-eqb, lt-ltb, ltb-true, leb-true}
+use Rattle.std.specs.List.{AllWithin, list_all, list_any}
 use Rattle.std.proofs.lemmas.Bool.{false≢true, cases_lt, and_parts, and_from, or_cases, or_left, or_right, le-leb, le-ltb}
 use Rattle.dn_interval.specs.declared.row.End.{End}
 use Rattle.dn_interval.specs.declared.row.Row.{Row}
@@ -219,6 +219,35 @@ past_all from (r ∷ rest) a size p some f = and_from (is_past a size r) (list_a
 
 pub past_some : (rows : List Row) (a size : ℕ) → Apart 0 rows → 1 ≤ size → list_all (is_past a size) rows ≡ false → GivesNone (rows_give rows) a size → ⊥
 past_some rows a size apart some e none = false≢true (sym e ∙ past_all 0 rows a size apart some (λ i l z g. none i l z (rows_from rows (a + i) z g)))
+
+-- of rows that stand apart, the first that does not end before a stretch tells it
+
+abbrev pub begins_past : ℕ → ℕ → Option Row → Bool
+begins_past a size None = true
+begins_past a size (Some r) = nat_le (a + size) r.span.lo
+
+above_past : (from : ℕ) (rows : List Row) (a size : ℕ) → Apart from rows → a + size ≤ from → list_all (is_past a size) rows ≡ true
+above_past from [] a size p l = refl
+above_past from (r ∷ rows) a size p l = and_from (is_past a size r) (list_all (is_past a size) rows)
+    (or_right (nat_lt r.span.hi a) (nat_le (a + size) r.span.lo) (le-leb (a + size) r.span.lo (omega (arith, p.0, l))))
+    (above_past (suc r.span.hi) rows a size p.4 (omega (arith, p.0, l, r.span.ordered)))
+
+pub past_from : (from : ℕ) (rows : List Row) (i a size : ℕ) → Apart from rows → AllWithin (λ (r : Row). r.span.hi < a) rows 0 i → AllWithin (λ (r : Row). a ≤ r.span.hi) rows i (length rows) → list_all (is_past a size) rows ≡ begins_past a size (slice_get rows i)
+past_from from [] i a size p f b = refl
+past_from from (r ∷ rows) zero a size p f b = by (nat_lt r.span.hi a) refl (nat_le (a + size) r.span.lo) refl
+  where
+    ends : a ≤ r.span.hi
+    ends = b 0 r (omega arith) (omega arith)
+
+    by : (e : Bool) → nat_lt r.span.hi a ≡ e → (t : Bool) → nat_le (a + size) r.span.lo ≡ t → (is_past a size r && list_all (is_past a size) rows) ≡ nat_le (a + size) r.span.lo
+    by true g t h = absurd (let l = ltb-true r.span.hi a g in omega (arith, l, ends))
+    by false g false h = ap (λ w. (w || nat_le (a + size) r.span.lo) && list_all (is_past a size) rows) g ∙ ap (λ w. w && list_all (is_past a size) rows) h ∙ sym h
+    by false g true h =
+        let low = leb-true (a + size) r.span.lo h in
+        ap (λ w. (w || nat_le (a + size) r.span.lo) && list_all (is_past a size) rows) g ∙ ap (λ w. w && list_all (is_past a size) rows) h ∙ above_past (suc r.span.hi) rows a size p.4 (omega (arith, low, r.span.ordered)) ∙ sym h
+past_from from (r ∷ rows) (suc i) a size p f b =
+    ap (λ w. (w || nat_le (a + size) r.span.lo) && list_all (is_past a size) rows) (lt-ltb r.span.hi a (f 0 r (omega arith) (omega arith)))
+    ∙ past_from (suc r.span.hi) rows i a size p.4 (λ k d u v. f (suc k) d (omega arith) (omega (arith, v))) (λ k d u v. b (suc k) d (omega (arith, u)) (omega (arith, v)))
 
 -- levels, one after another
 

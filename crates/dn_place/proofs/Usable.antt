@@ -1,6 +1,8 @@
 -- What a hop meets in a slot, and what a placement asks of it.
-use Rattle.std.proofs.Common.{◌≡◌, ℕ, ◌+◌, ◌-◌, ◌/◌, ◌^◌, Bool, true, false, not, if◌then◌else◌, ◌&&◌, ◌==◌, nat_eq, Option, Some, None, IsTrue, refl, sym, ap, ◌∙◌, subst, eq-eqb, eqb-true}
-use Rattle.std.proofs.lemmas.Bool.{false≢true, and_parts, and_from}
+use Rattle.std.proofs.Common.{◌≡◌, ℕ, ◌+◌, ◌-◌, ◌*◌, ◌/◌, ◌^◌, ◌<◌, ◌≤◌, ◌⊎◌, inl, inr, arith, Bool, true, false, not, if◌then◌else◌, ◌&&◌, ◌==◌, nat_eq, Option, Some, None, IsTrue, refl, sym, ap, ◌∙◌, subst, eq-eqb, eqb-true}
+use Rattle.std.proofs.lemmas.Bool.{cases_lt, false≢true, and_parts, and_from}
+use Rattle.std.proofs.lemmas.Nat.{le-div, pow_pos}
+use Rattle.std.proofs.Math.Nat.{div-mul-le_self}
 use Rattle.dn_net.specs.declared.node.Unit.{Unit as UnitPart}
 use Rattle.dn_kind.specs.declared.unit_kind.Record.{Record}
 use Rattle.dn_kind.specs.Rights.{both_rights}
@@ -10,7 +12,7 @@ use Rattle.dn_placement.specs.Records.{slot_record}
 use Rattle.dn_placement.specs.Slots.{Slots}
 use Rattle.dn_place.specs.declared.slot.Slot.{Slot}
 use Rattle.dn_place.specs.declared.slot.Slot.TheVariants.{Free, Shared, Barred}
-use Rattle.dn_place.specs.Slots.{is_free_slot, is_usable_slot, shared_by, slot_of}
+use Rattle.dn_place.specs.Slots.{AreFreeTo, is_free_slot, is_usable_slot, shared_by, slot_of}
 
 -- a slot that a hop may take is usable
 pub usable_is : (slots : Slots) (u : UnitPart) (hop : Hop) (slot : ℕ) → IsUsable slots u hop slot → IsTrue (is_usable_slot hop.port (hop.y / 2 ^ u.page + (slot - hop.x / 2 ^ u.page)) (slot_of slots hop.unit slot))
@@ -75,3 +77,17 @@ free_is slots unit slot = go (slots.is_free unit slot) refl
     go : (b : Bool) → slots.is_free unit slot ≡ b → is_free_slot (if b then Free else shared_by (slots.has_owner unit slot) (slots.held unit slot)) ≡ b
     go true e = refl
     go false e = shared (slots.has_owner unit slot) (slots.held unit slot)
+
+-- a free slot is usable for each page
+pub free_usable : (port page : ℕ) (f : Slot) → IsTrue (is_free_slot f) → IsTrue (is_usable_slot port page f)
+free_usable port page Free t = refl
+free_usable port page (Shared r) t = absurd (false≢true t)
+free_usable port page Barred t = absurd (false≢true t)
+
+-- slots that are free before one, from the slot of an input on, and from that of a later input on
+pub free_onward : (slots : Slots) (unit x to page free : ℕ) → x ≤ to → AreFreeTo slots unit (x / 2 ^ page) free → AreFreeTo slots unit (to / 2 ^ page) free
+free_onward slots unit x to page free l all = λ slot a b. all slot (let m : x / 2 ^ page ≤ to / 2 ^ page = le-div (x / 2 ^ page) to (2 ^ page) (pow_pos page) (omega (arith, div-mul-le_self x (2 ^ page), l)) in omega (arith, m, a)) b
+
+-- before the first slot there is none
+pub none_free : (slots : Slots) (unit first : ℕ) → AreFreeTo slots unit first 0
+none_free slots unit first = λ slot a b. absurd (omega (arith, b))

@@ -2,6 +2,7 @@ pub mod Candidates
 pub mod Hops
 pub mod Marks
 pub mod Platforms
+pub mod Reaches
 pub mod Rows
 pub mod Slots
 pub mod Sought

@@ -1,5 +1,5 @@
 -- Marks on nodes, and what they say of the units to which an agent leads.
-use Rattle.std.specs.Prelude.{◌≡◌, ℕ, suc, ◌<◌, ◌≤◌, Bool, true, false, cond, nat_eq, List, [], ◌∷◌, length, map, slice_get, slice_index_or, Option, Some}
+use Rattle.std.specs.Prelude.{◌≡◌, ℕ, suc, ◌<◌, ◌≤◌, Bool, true, false, cond, nat_eq, List, [], ◌∷◌, length, map, slice_get, slice_index_or, Option, Some, None}
 use Rattle.dn_interval.specs.declared.row.End.{End}
 use Rattle.dn_interval.specs.declared.row.Row.{Row}
 use Rattle.dn_interval.specs.Rows.{Member, further_end, GivenBy}
@@ -7,7 +7,6 @@ use Rattle.dn_net.specs.declared.node.Name.{Name}
 use Rattle.dn_net.specs.declared.node.NodeDecl.{NodeDecl}
 use Rattle.dn_net.specs.declared.node.Unit.{Unit as UnitPart}
 use Rattle.dn_net.specs.Decode.{top, unit_at, StopsAt}
-use Rattle.dn_place.specs.Sought.{Sought}
 
 -- the node has a mark
 abbrev pub is_marked : List Bool → ℕ → Bool
@@ -61,11 +60,11 @@ abbrev pub MarksAfter : List NodeDecl → List Bool → List Bool → Type 0
 MarksAfter net from marks = (w k n : ℕ) (u : UnitPart) → is_marked from w ≡ true →
     unit_at net w ≡ Some u → slice_get u.ports k ≡ Some n → MarksAll net n marks
 
--- the units in which a first, a second and a third hop from the agent's end can stand have marks
-pub record AreMarked (s : Sought) (first second third : List Bool) : Type 0 where
-  pub firsts : MarksAll s.net s.request.agent first
-  pub seconds : MarksAfter s.net first second
-  pub thirds : MarksAfter s.net second third
+-- the units in which a first, a second and a third hop from an agent's end can stand have marks
+pub record AreMarked (net : List NodeDecl) (agent : ℕ) (first second third : List Bool) : Type 0 where
+  pub firsts : MarksAll net agent first
+  pub seconds : MarksAfter net first second
+  pub thirds : MarksAfter net second third
 
 -- the numbers of the units from a bound on, ascending
 abbrev pub AreUnitsFrom : List NodeDecl → ℕ → List ℕ → Type 0
@@ -74,8 +73,9 @@ AreUnitsFrom net bound (m ∷ rest) = (bound ≤ m)
     × ((n : ℕ) (u : UnitPart) → bound ≤ n → n < m → unit_at net n ≡ Some u → ⊥)
     × AreUnitsFrom net (suc m) rest
 
--- the stop that the address asked for reaches, where one is asked for and it reaches one
-abbrev pub IsEntry : Sought → Option End → Type 0
-IsEntry s entry = (v : ℕ) (z : Name) → s.at ≡ Some v → v ≤ top →
-    StopsAt s.net (record { node = s.request.agent; addr = v }) z →
-    entry ≡ Some (record { node = z.node; base = z.addr })
+-- the stop that the address asked for reaches in an agent, where one is asked for and it reaches one
+pub record IsEntry (net : List NodeDecl) (agent : ℕ) (at : Option ℕ) (entry : Option End) : Type 0 where
+  pub reached : (v : ℕ) (z : Name) → at ≡ Some v → v ≤ top →
+      StopsAt net (record { node = agent; addr = v }) z →
+      entry ≡ Some (record { node = z.node; base = z.addr })
+  pub unasked : at ≡ None → entry ≡ None

@@ -1,7 +1,10 @@
 -- What a hop meets in the slots of a unit.
-use Rattle.std.specs.Prelude.{◌≡◌, ℕ, ◌+◌, ◌-◌, ◌*◌, ◌/◌, ◌%◌, ◌^◌, ◌<◌, ◌≤◌, Bool, true, false, not, if◌then◌else◌, ◌&&◌, ◌==◌, nat_eq, Option, Some, None, IsTrue}
+use Rattle.std.specs.Prelude.{◌≡◌, ℕ, ◌+◌, ◌-◌, ◌*◌, ◌/◌, ◌%◌, ◌^◌, ◌<◌, ◌≤◌, ◌⊎◌, Bool, true, false, not, if◌then◌else◌, ◌&&◌, ◌==◌, nat_eq, List, Option, Some, None, IsTrue}
+use Rattle.dn_interval.specs.declared.row.End.{End}
+use Rattle.dn_net.specs.declared.node.NodeDecl.{NodeDecl}
 use Rattle.dn_net.specs.declared.node.Unit.{Unit as UnitPart}
 use Rattle.dn_net.specs.Decode.{unit_at}
+use Rattle.dn_flat.specs.Crowds.{IsCrowded}
 use Rattle.dn_kind.specs.declared.unit_kind.Record.{Record}
 use Rattle.dn_tables.specs.declared.placement.Hop.{Hop}
 use Rattle.dn_placement.specs.Slots.{Slots}
@@ -47,6 +50,11 @@ abbrev pub AreFree : Slots → ℕ → ℕ → ℕ → Type 0
 AreFree slots unit first last = (slot : ℕ) → first ≤ slot → slot ≤ last →
     IsTrue (is_free_slot (slot_of slots unit slot))
 
+-- each slot from a first one on and before another is free
+abbrev pub AreFreeTo : Slots → ℕ → ℕ → ℕ → Type 0
+AreFreeTo slots unit first to = (slot : ℕ) → first ≤ slot → slot < to →
+    IsTrue (is_free_slot (slot_of slots unit slot))
+
 -- no hop that begins in a slot from a first one on, and before another, can take a slot for the pages
 -- of a port that it would meet there
 abbrev pub AreShut : Slot → ℕ → ℕ → ℕ → ℕ → ℕ → Type 0
@@ -58,3 +66,25 @@ abbrev pub AreBarred : Sought → UnitPart → Hop → ℕ → Type 0
 AreBarred s u hop to = (x : ℕ) → hop.x ≤ x → x < to → x % 2 ^ u.page ≡ hop.x % 2 ^ u.page →
     AreUsable s.slots hop.unit (x / 2 ^ u.page) ((x + s.request.size - 1) / 2 ^ u.page) hop.port
     (hop.y / 2 ^ u.page) → ⊥
+
+-- of so many names of a unit from an input on, two addresses of agents reach one
+abbrev pub HasCrowd : Sought → ℕ → ℕ → Type 0
+HasCrowd s unit x = (i : ℕ) × (i < s.request.size) × IsCrowded s.net (record { node = unit; addr = x + i })
+
+-- a hop with this input finds a slot that is not usable; or it is the first from the agent's end, and two
+-- addresses of agents reach one of its names
+abbrev pub IsUseless : Sought → UnitPart → ℕ → Hop → ℕ → Type 0
+IsUseless s u place hop x =
+    (AreUsable s.slots hop.unit (x / 2 ^ u.page) ((x + s.request.size - 1) / 2 ^ u.page) hop.port
+    (hop.y / 2 ^ u.page) → ⊥)
+    ⊎ ((place ≡ 1) × HasCrowd s hop.unit x)
+
+-- so is each input from the hop's on and before another, in its place in a slot
+abbrev pub AreUseless : Sought → UnitPart → ℕ → Hop → ℕ → Type 0
+AreUseless s u place hop to = (x : ℕ) → hop.x ≤ x → x < to →
+    x % 2 ^ u.page ≡ hop.x % 2 ^ u.page → IsUseless s u place hop x
+
+-- no hop may take the slot of a name, or it is in no slot of a unit
+abbrev pub IsBarred : List NodeDecl → Slots → End → Type 0
+IsBarred net slots name = (u : UnitPart) → unit_at net name.node ≡ Some u →
+    name.base / 2 ^ u.page < u.slots → slot_of slots name.node (name.base / 2 ^ u.page) ≡ Barred

@@ -1,12 +1,15 @@
 -- What the search looks for and where, and what it asks of that.
-use Rattle.std.specs.Prelude.{◌≡◌, ℕ, ◌+◌, ◌<◌, ◌≤◌, false, List, [], length, slice_get, Option, Some, None}
+use Rattle.std.specs.Prelude.{◌≡◌, ℕ, ◌+◌, ◌<◌, ◌≤◌, false, List, [], length, slice_get, Option, Some, None, IsTrue}
 use Rattle.dn_net.specs.declared.node.Name.{Name}
 use Rattle.dn_net.specs.declared.node.NodeDecl.{NodeDecl}
 use Rattle.dn_net.specs.declared.node.Unit.{Unit as UnitPart}
-use Rattle.dn_net.specs.Decode.{top, unit_at, StopsAt}
+use Rattle.dn_net.specs.Decode.{top, is_agent_at, unit_at, StopsAt}
 use Rattle.dn_kind.specs.Rights.{both_rights}
 use Rattle.dn_placement.specs.declared.request.Request.{Request}
+use Rattle.dn_placement.specs.Order.{IsSuited}
+use Rattle.dn_placement.specs.Placement.{name_on}
 use Rattle.dn_placement.specs.Slots.{Slots}
+use Rattle.dn_tables.specs.Placement.{Place}
 
 -- a net with the slots of its units, a request, and the address that is asked for, where one is
 pub record Sought : Type 0 where
@@ -31,10 +34,19 @@ AreFormed net = (node : ℕ) (u : UnitPart) → unit_at net node ≡ Some u → 
 abbrev pub ReachOneStop : List NodeDecl → Type 0
 ReachOneStop net = (x y z : Name) → StopsAt net x y → StopsAt net x z → y ≡ z
 
+-- no other address of an agent reaches the stop of an address at which a placement that is looked for
+-- gives the buffer
+abbrev pub ReachAlone : Sought → Type 0
+ReachAlone s = (q : Place) (i : ℕ) (t w : Name) → IsSuited s.net s.slots s.request s.at q →
+    i < s.request.size → StopsAt s.net (name_on s.request.agent q.v i) t →
+    IsTrue (is_agent_at (slice_get s.net w.node)) → StopsAt s.net w t →
+    w ≡ name_on s.request.agent q.v i
+
 -- what the search asks
 pub record IsSearchReady (s : Sought) : Type 0 where
   pub formed : AreFormed s.net
   pub one_stop : ReachOneStop s.net
+  pub alone : ReachAlone s
   pub few : length s.net ≤ 1024
   pub agent : s.request.agent < length s.net
   pub some : 1 ≤ s.request.size

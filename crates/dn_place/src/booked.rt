@@ -3,11 +3,15 @@
 ghost use Rattle.std.specs.Prelude.{◌≡◌, ◌≤◌, ◌+◌, map, slice_get, None, IfOk, IfSome, IsTrue};
 ghost use Rattle.dn_net.specs.Terms.{is_agent_at, top};
 ghost use Rattle.dn_kind.specs.Terms.{are_rights};
+ghost use Rattle.dn_placement.specs.declared.request.Request.{Request};
 ghost use Rattle.dn_placement.specs.Terms.{IsFirst, NoneSuited};
 ghost use Rattle.dn_book.specs.Terms.{IsKept, slots_of};
 ghost use Rattle.dn_view.specs.Terms.{IsSystem};
+ghost use Rattle.dn_place.specs.Terms.{IsReach};
 
-use crate::first::first;
+use crate::first::first_from;
+use crate::reach::{Reach, reach_of};
+use crate::tables::is_barred;
 use dn_base::OutOfMemory;
 use dn_book::book::Book;
 use dn_placement::request::Request;
@@ -38,7 +42,56 @@ pub fn first_in_book(
     ensures none { IfOk result (λ found. found ≡ None → NoneSuited system.entry.net.now
         (slots_of system.entry.net.now book.now.grants) request.now at) }
 {
+    let reach = reach_of(alloc, system, request.agent, at)?;
+    first_in_book_from(alloc, book, system, request, &reach)
+}
+
+/// The same, where it is told where the hops of the request's agent can stand, at the address that is
+/// asked for with these.
+pub fn first_in_book_from(
+    alloc: Global,
+    book: &Book,
+    system: System,
+    request: &Request,
+    reach: &Reach,
+) -> Result<Option<Placement>, OutOfMemory>
+    requires system { IsSystem (λ k. meaning (k.vtable, k.value)) system }
+    requires kept { IsKept system.net.now
+        (map (λ k. meaning (k.vtable, k.value)) system.kinds.now.list.items)
+        book.now.grants book.now.set }
+    requires agent { IsTrue (is_agent_at (slice_get system.net.now request.now.agent)) }
+    requires reach { IsReach system.net.now request.now.agent reach.now }
+    requires rights { IsTrue (are_rights request.now.rights) }
+    requires some { 1 ≤ request.now.size }
+    requires buffer { request.now.base + request.now.size ≤ top + 1 }
+    ensures first { IfOk result (λ found. IfSome found (λ p. IsFirst system.entry.net.now
+        (slots_of system.entry.net.now book.now.grants) request.now reach.now.at p)) }
+    ensures none { IfOk result (λ found. found ≡ None → NoneSuited system.entry.net.now
+        (slots_of system.entry.net.now book.now.grants) request.now reach.now.at) }
+{
     let tables = book.tables();
     tables.facts();
-    first(alloc, system, tables, request, at)
+    first_from(alloc, system, tables, request, reach)
+}
+
+/// Whether no hop can stand where the address leads that is asked for: it has no stop, or no hop may take
+/// the slot of its stop. No request of the agent has an admissible placement there.
+pub fn is_shut(book: &Book, system: System, agent: u16, reach: &Reach) -> bool
+    requires system { IsSystem (λ k. meaning (k.vtable, k.value)) system }
+    requires kept { IsKept system.net.now
+        (map (λ k. meaning (k.vtable, k.value)) system.kinds.now.list.items)
+        book.now.grants book.now.set }
+    requires reach { IsReach system.net.now agent reach.now }
+    ensures { IsTrue result → (rq : Request) → rq.agent ≡ agent → NoneSuited system.entry.net.now
+        (slots_of system.entry.net.now book.now.grants) rq reach.now.at }
+{
+    if reach.at.is_none() {
+        return false;
+    }
+    let Some(entry) = reach.entry else {
+        return true;
+    };
+    let tables = book.tables();
+    tables.facts();
+    is_barred(system, tables, entry)
 }

@@ -1,17 +1,18 @@
 //! The search, hop by hop from memory's end to the agent's end.
 
-ghost use Rattle.std.specs.Prelude.{◌≡◌, ◌∷◌, ◌%◌, ◌*◌, ◌/◌, ◌^◌, ◌+◌, ◌-◌, ◌<◌, ◌≤◌, ℕ, Some, IfOk, length, slice_get};
+ghost use Rattle.std.specs.Prelude.{◌≡◌, ◌∷◌, ◌%◌, ◌*◌, ◌/◌, ◌^◌, ◌+◌, ◌-◌, ◌<◌, ◌≤◌, ℕ, false, Some, IfOk, IsTrue, length, slice_get};
 ghost use Rattle.dn_net.specs.Terms.{unit_at};
 ghost use Rattle.dn_placement.specs.Terms.{Meets};
 ghost use Rattle.dn_place.specs.Terms.{AreToward, AreUsable, IsFirstOrNone, IsSearchStage, hops_view, key_of_hops, to_output, to_port, to_unit};
 
 use crate::hops::Hops;
-use crate::marks::{Reach, can_stand, is_allowed};
+use crate::inputs::next_try;
 use crate::quest::{Found, Quest, unit_of};
+use crate::reach::{Reach, can_enter, can_stand, entry_at};
 use crate::rows::{is_clear, lent_rows, made_rows, output, wanted_name};
-use crate::slots::{next_input, power};
+use crate::slots::power;
 use crate::whole::by_agent;
-use dn_interval::Row;
+use dn_interval::{End, Row};
 use dn_net::node::Unit;
 use dn_tables::placement::Hop;
 use std::alloc::Global;
@@ -66,6 +67,9 @@ fn by_unit<Q: Quest>(quest: &Q, stage: Stage, unit: u16) -> Found
     let Some(translator) = unit_of(quest, unit) else {
         return Ok(None);
     };
+    if !can_enter(stage.reach, stage.count - stage.chosen.count(), unit) {
+        return Ok(None);
+    }
     for port in 0..translator.ports.as_slice().len() as u8 {
         if let Some(placement) = by_port(quest, stage, translator, unit, port)? {
             return Ok(Some(placement));
@@ -132,9 +136,73 @@ fn by_rows<Q: Quest>(
     Ok(None)
 }
 
-/// The same with an output: inputs agree with it modulo the page.
+/// The same with an output.
 #[cycle(hops)]
 fn by_output<Q: Quest>(
+    quest: &Q,
+    stage: Stage,
+    translator: &Unit,
+    unit: u16,
+    port: u8,
+    y: u64,
+) -> Found
+    requires sound { Q.is_sound quest.now }
+    requires stage { IsSearchStage (Q.sought quest.now) stage }
+    requires more { length (hops_view stage.chosen) < stage.count }
+    requires unit { unit_at (Q.sought quest.now).net unit ≡ Some translator.now }
+    requires port { port < length translator.now.ports }
+    requires reached { y + (Q.sought quest.now).request.size ≤ 2 ^ translator.now.reach }
+    requires meets { (n : ℕ) → slice_get translator.now.ports port ≡ Some n →
+        Meets (Q.sought quest.now).net (Q.sought quest.now).request n y (hops_view stage.chosen) }
+    ensures { IfOk result (λ found. IsFirstOrNone (Q.sought quest.now)
+        (to_output stage.entry.count (hops_view stage.entry.chosen) unit port y) found) }
+{
+    match entry_at(stage.reach, stage.count - stage.chosen.count()) {
+        Some(entry) => by_entry(quest, stage, translator, unit, port, y, entry),
+        None => by_inputs(quest, stage, translator, unit, port, y),
+    }
+}
+
+/// The same with the one input that the address asked for reaches.
+#[cycle(hops)]
+fn by_entry<Q: Quest>(
+    quest: &Q,
+    stage: Stage,
+    translator: &Unit,
+    unit: u16,
+    port: u8,
+    y: u64,
+    entry: End,
+) -> Found
+    requires sound { Q.is_sound quest.now }
+    requires stage { IsSearchStage (Q.sought quest.now) stage }
+    requires more { length (hops_view stage.chosen) < stage.count }
+    requires unit { unit_at (Q.sought quest.now).net unit ≡ Some translator.now }
+    requires port { port < length translator.now.ports }
+    requires reached { y + (Q.sought quest.now).request.size ≤ 2 ^ translator.now.reach }
+    requires meets { (n : ℕ) → slice_get translator.now.ports port ≡ Some n →
+        Meets (Q.sought quest.now).net (Q.sought quest.now).request n y (hops_view stage.chosen) }
+    requires last { stage.count ≡ length (hops_view stage.chosen) + 1 }
+    requires entry { stage.reach.now.entry ≡ Some entry }
+    ensures { IfOk result (λ found. IsFirstOrNone (Q.sought quest.now)
+        (to_output stage.entry.count (hops_view stage.entry.chosen) unit port y) found) }
+{
+    let x = entry.base;
+    if !can_meet(translator, quest.request().size, x, y) {
+        return Ok(None);
+    }
+    let hop = Hop { unit, port, x, y };
+    let tried = next_try(quest, 1, translator, hop, 0);
+    let next = tried.x;
+    if next != x {
+        return Ok(None);
+    }
+    by_input(quest, stage, translator, hop)
+}
+
+/// The same with each input in turn: inputs agree with the output modulo the page.
+#[cycle(hops)]
+fn by_inputs<Q: Quest>(
     quest: &Q,
     stage: Stage,
     translator: &Unit,
@@ -156,10 +224,14 @@ fn by_output<Q: Quest>(
     let page = power(translator.page);
     let size = quest.request().size;
     let end = u64::from(translator.slots) * page;
+    let place = stage.count - stage.chosen.count();
     let mut x = y % page;
+    let mut free = 0;
     'inputs: while x + size <= end {
         let hop = Hop { unit, port, x, y };
-        let next = next_input(quest, translator, hop);
+        let tried = next_try(quest, place, translator, hop, free);
+        let next = tried.x;
+        free = tried.free;
         if next == x {
             if let Some(placement) = by_input(quest, stage, translator, hop)? {
                 return Ok(Some(placement));
@@ -194,14 +266,21 @@ fn by_input<Q: Quest>(quest: &Q, stage: Stage, translator: &Unit, hop: Hop) -> F
     ensures { IfOk result (λ found. IsFirstOrNone (Q.sought quest.now)
         (key_of_hops stage.entry.count (hop ∷ hops_view stage.entry.chosen)) found) }
 {
-    if !is_allowed(
-        stage.reach,
-        stage.count - stage.chosen.count(),
-        hop,
-        quest.at(),
-    ) {
-        return Ok(None);
-    }
     let chosen = stage.chosen.behind(hop);
     by_hops(quest, Stage { chosen, ..stage })
+}
+
+/// Whether an input agrees with an output modulo the page of a unit, and so many addresses from it on lie
+/// within its slots.
+fn can_meet(translator: &Unit, size: u64, x: u64, y: u64) -> bool
+    requires page { translator.now.page ≤ 40 }
+    requires slots { translator.now.slots ≤ 262144 }
+    ensures agree { IsTrue result → x % 2 ^ translator.now.page ≡ y % 2 ^ translator.now.page }
+    ensures within { IsTrue result → x + size ≤ translator.now.slots * 2 ^ translator.now.page }
+    ensures no { result ≡ false → x % 2 ^ translator.now.page ≡ y % 2 ^ translator.now.page →
+        x + size ≤ translator.now.slots * 2 ^ translator.now.page → ⊥ }
+{
+    let page = power(translator.page);
+    let end = u64::from(translator.slots) * page;
+    x % page == y % page && x <= end && size <= end - x
 }

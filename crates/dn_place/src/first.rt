@@ -7,13 +7,13 @@ ghost use Rattle.dn_kind.specs.Terms.{IsLawful, are_rights};
 ghost use Rattle.dn_tables.specs.Terms.{FitsNet, fits_kinds, has_slot, record_kept};
 ghost use Rattle.dn_placement.specs.Terms.{IsAdmissible, IsFirst, IsPlacement, NoneSuited, slots_of_set};
 ghost use Rattle.dn_view.specs.Terms.{IsSystem};
-ghost use Rattle.dn_place.specs.Terms.{IsFirstOrNone, IsSearchReady, hops_view, slot_of};
+ghost use Rattle.dn_place.specs.Terms.{IsFirstOrNone, IsReach, IsSearchReady, hops_view, slot_of};
 
 use crate::chain::{Stage, by_hops};
 use crate::hops::Hops;
-use crate::marks::reach_of;
 use crate::platform::{Aim, Platform};
 use crate::quest::{Found, Quest};
+use crate::reach::{Reach, reach_of};
 use crate::slot::Slot;
 use crate::tables::slot_at;
 use dn_base::OutOfMemory;
@@ -49,8 +49,36 @@ pub fn first(
         (slots_of_set (map (λ k. meaning (k.vtable, k.value)) system.entry.kinds.now.list.items)
         tables.now) request.now at) }
 {
-    system.net.facts();
-    by_tables::<Brand>(alloc, system, tables, request, at)
+    let reach = reach_of(alloc, system, request.agent, at)?;
+    first_from(alloc, system, tables, request, &reach)
+}
+
+/// The same, where it is told where the hops of the request's agent can stand, at the address that is
+/// asked for with these.
+pub fn first_from(
+    alloc: Global,
+    system: System,
+    tables: &TableSet,
+    request: &Request,
+    reach: &Reach,
+) -> Result<Option<Placement>, OutOfMemory>
+    requires system { IsSystem (λ k. meaning (k.vtable, k.value)) system }
+    requires fits { FitsNet system.net.now
+        (map (λ k. meaning (k.vtable, k.value)) system.kinds.now.list.items) tables.now }
+    requires agent { IsTrue (is_agent_at (slice_get system.net.now request.now.agent)) }
+    requires reach { IsReach system.net.now request.now.agent reach.now }
+    requires rights { IsTrue (are_rights request.now.rights) }
+    requires some { 1 ≤ request.now.size }
+    requires buffer { request.now.base + request.now.size ≤ top + 1 }
+    ensures first { IfOk result (λ found. IfSome found (λ p. IsFirst system.entry.net.now
+        (slots_of_set (map (λ k. meaning (k.vtable, k.value)) system.entry.kinds.now.list.items)
+        tables.now) request.now reach.now.at p)) }
+    ensures none { IfOk result (λ found. found ≡ None → NoneSuited system.entry.net.now
+        (slots_of_set (map (λ k. meaning (k.vtable, k.value)) system.entry.kinds.now.list.items)
+        tables.now) request.now reach.now.at) }
+{
+    tables.facts();
+    by_tables::<Brand>(alloc, system, tables, request, reach)
 }
 
 /// The same, where what is looked for is told by the aim.
@@ -59,7 +87,7 @@ fn by_tables<A: Aim>(
     system: System,
     tables: &TableSet,
     request: &Request,
-    at: Option<u64>,
+    reach: &Reach,
 ) -> Found
     requires system { IsSystem (λ k. meaning (k.vtable, k.value)) system }
     requires fits { FitsNet system.net.now
@@ -70,9 +98,10 @@ fn by_tables<A: Aim>(
       slots = slots_of_set (map (λ k. meaning (k.vtable, k.value)) system.kinds.now.list.items)
           tables.now;
       request = request.now;
-      at = at;
+      at = reach.now.at;
     } }
     requires ready { IsSearchReady A.sought }
+    requires reach { IsReach system.net.now request.now.agent reach.now }
     ensures { IfOk result (λ found. IsFirstOrNone A.sought [] found) }
 {
     let kinds = system.kinds;
@@ -106,25 +135,26 @@ fn by_tables<A: Aim>(
         net: system.net,
         flats: system.flats,
         request: *request,
-        at,
+        at: reach.at,
         met,
         exact,
         aim: PhantomData,
     };
-    first_of(alloc, &platform)
+    first_of(alloc, &platform, reach)
 }
 
 /// The first placement that is looked for. `None` exactly where there is none.
-fn first_of<Q: Quest>(alloc: Global, quest: &Q) -> Found
+fn first_of<Q: Quest>(alloc: Global, quest: &Q, reach: &Reach) -> Found
     requires sound { Q.is_sound quest.now }
     requires ready { IsSearchReady (Q.sought quest.now) }
+    requires reach { IsReach (Q.sought quest.now).net (Q.sought quest.now).request.agent reach.now }
+    requires at { reach.now.at ≡ (Q.sought quest.now).at }
     ensures { IfOk result (λ found. IsFirstOrNone (Q.sought quest.now) [] found) }
 {
-    let reach = reach_of(alloc, quest)?;
     for count in 1..4 {
         let stage = Stage {
             alloc,
-            reach: &reach,
+            reach,
             count,
             chosen: Hops::Zero,
         };

@@ -1,15 +1,20 @@
 //! The search for the first admissible placement of a request.
 //!
-//! [`first`](mod@first) looks for it under a set of tables, and [`booked`] beside the grants of a book.
+//! [`first`](mod@first) looks for it under a set of tables, and [`booked`] beside the grants of a book;
+//! [`reach`] is what the requests of an agent share.
 #![tactic(auto)]
 
 pub mod booked;
 mod chain;
+mod entry;
 pub mod first;
+mod ground;
 mod hops;
+mod inputs;
 mod marks;
 mod platform;
 mod quest;
+pub mod reach;
 mod rows;
 mod slot;
 mod slots;

@@ -6,7 +6,7 @@ use crate::slot::Slot;
 use dn_base::OutOfMemory;
 use dn_flat::flats::Flats;
 use dn_flat::levels::Levels;
-use dn_interval::{End, Rows};
+use dn_interval::{End, Rows, Span};
 use dn_net::net::Net;
 use dn_net::node::Unit;
 use dn_placement::request::Request;
@@ -76,6 +76,10 @@ impl<
 
     fn toward(&self, alloc: Global, node: u16, first: End, size: u64) -> Result<Rows, OutOfMemory> {
         self.flats.toward(alloc, node, first, size)
+    }
+
+    fn crowd(&self, unit: u16, first: u64, size: u64) -> Option<Span> {
+        self.flats.crowd_among(unit, first, size)
     }
 
     fn slot(&self, unit: u16, slot: u32) -> Slot {

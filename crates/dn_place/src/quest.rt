@@ -8,7 +8,7 @@ use crate::hops::Hops;
 use crate::slot::Slot;
 use dn_base::OutOfMemory;
 use dn_flat::levels::Levels;
-use dn_interval::{End, Rows};
+use dn_interval::{End, Rows, Span};
 use dn_net::node::Unit;
 use dn_placement::request::Request;
 use dn_tables::placement::Placement;
@@ -19,9 +19,10 @@ pub(crate) type Found = Result<Option<Placement>, OutOfMemory>;
 
 /// A request, and the platform on which a placement of it is looked for.
 pub(crate) trait Quest {
-    ghost use Rattle.std.specs.Prelude.{◌≡◌, ◌+◌, ◌<◌, ◌≤◌, ◌↔◌, length, IfOk, IsTrue};
+    ghost use Rattle.std.specs.Prelude.{◌≡◌, ◌+◌, ◌<◌, ◌≤◌, ◌↔◌, length, IfOk, IfSome, IsTrue};
     ghost use Rattle.std.specs.Option.{option_copied};
     ghost use Rattle.dn_net.specs.Decode.{unit_at};
+    ghost use Rattle.dn_flat.specs.Crowds.{AreCrowded};
     ghost use Rattle.dn_flat.specs.Levels.{IsLevels, ResolvesWhole};
     ghost use Rattle.dn_interval.specs.declared.span.TheConstants.{TOP};
     ghost use Rattle.dn_interval.specs.Rows.{AreNormal};
@@ -72,6 +73,14 @@ pub(crate) trait Quest {
         requires within { first.base + size ≤ TOP + 1 }
         ensures { IfOk result (λ rows. AreNormal
             (ResolvesWhole (sought self.now).net node first size) rows) };
+
+    /// Names of a unit, one after another, that two addresses of agents reach, of which some are among so
+    /// many names from one on. `None` says nothing.
+    fn crowd(&self, unit: u16, first: u64, size: u64) -> Option<Span>
+        requires { is_sound self.now }
+        ensures crowded { IfSome result (λ s. AreCrowded (sought self.now).net unit s) }
+        ensures from { IfSome result (λ s. first ≤ s.hi) }
+        ensures to { IfSome result (λ s. s.lo < first + size) };
 
     /// What a hop meets in a slot.
     fn slot(&self, unit: u16, slot: u32) -> Slot

@@ -4,7 +4,7 @@ ghost use Rattle.std.specs.Prelude.{◌≡◌, ◌<◌, ◌≤◌, ◌+◌, ◌-
 ghost use Rattle.std.specs.List.{list_all};
 ghost use Rattle.dn_interval.specs.declared.row.End.{End};
 ghost use Rattle.dn_interval.specs.declared.span.TheConstants.{TOP};
-ghost use Rattle.dn_interval.specs.Terms.{AreNormal, EndsFit, in_span, rows_give, segs_give};
+ghost use Rattle.dn_interval.specs.Terms.{Apart, AreNormal, EndsFit, in_span, rows_give, segs_give};
 ghost use Rattle.dn_net.specs.declared.node.NodeDecl.{NodeDecl};
 ghost use Rattle.dn_flat.specs.Terms.{IsLevels, levels_give};
 ghost use Rattle.dn_placement.specs.declared.request.Request.{Request};
@@ -164,13 +164,17 @@ fn is_near(span: Span, end: End, target: End, size: u64) -> bool
     }
 }
 
-/// Whether no row has an address of the stretch.
+/// Whether no row has an address of the stretch: the first that does not end before it tells it.
 fn are_past(rows: &[Row], a: u64, size: u64) -> bool
-    requires { a + size < 18446744073709551616 }
+    requires apart { Apart 0 rows.now }
+    requires fits { a + size < 18446744073709551616 }
     ensures { result ≡ list_all (is_past a size) rows.now }
 {
-    rows.iter()
-        .all(|row| row.span.hi < a || a + size <= row.span.lo)
+    let place = rows.partition_point(|row| row.span.hi < a);
+    match rows.get(place) {
+        Some(row) => a + size <= row.span.lo,
+        None => true,
+    }
 }
 
 /// Whether rows give nothing to the stretch.

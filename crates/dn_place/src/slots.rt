@@ -2,7 +2,7 @@
 
 ghost use Rattle.std.specs.Prelude.{◌≡◌, ◌<◌, ◌≤◌, ◌+◌, ◌-◌, ◌*◌, ◌/◌, ◌%◌, ◌^◌, IsTrue, ◌↔◌, IfSome, IfNone, false};
 ghost use Rattle.dn_net.specs.Terms.{unit_at};
-ghost use Rattle.dn_place.specs.Terms.{AreBarred, AreFree, AreShut, AreUsable, IsSearchReady, IsWithin, is_free_slot, is_usable_slot, slot_count, slot_of};
+ghost use Rattle.dn_place.specs.Terms.{AreBarred, AreFree, AreFreeTo, AreShut, AreUsable, IsSearchReady, IsWithin, is_free_slot, is_usable_slot, slot_count, slot_of};
 
 use crate::quest::Quest;
 use crate::slot::Slot;
@@ -47,8 +47,25 @@ fn are_free<Q: Quest>(quest: &Q, unit: u16, first: u32, last: u32) -> bool
     true
 }
 
+/// Before which slot those of a unit from one on are free, of those up to a last one.
+fn free_end<Q: Quest>(quest: &Q, unit: u16, from: u32, last: u32) -> u32
+    requires sound { Q.is_sound quest.now }
+    requires within { last < slot_count (unit_at (Q.sought quest.now).net unit) }
+    requires few { last < 262144 }
+    ensures { AreFreeTo (Q.sought quest.now).slots unit from result }
+{
+    let mut end = from;
+    'slots: while end <= last {
+        if !is_free_slot(quest.slot(unit, end)) {
+            return end;
+        }
+        end += 1;
+    }
+    end
+}
+
 /// The last of the slots that is not usable for the pages of a port, the first of which is for the
-/// first slot. None where all are usable.
+/// first slot. None where all are usable. Those before the slot `free` are known to be free.
 fn last_unusable<Q: Quest>(
     quest: &Q,
     unit: u16,
@@ -56,20 +73,23 @@ fn last_unusable<Q: Quest>(
     last: u32,
     port: u8,
     page: u64,
+    free: u32,
 ) -> Option<u32>
     requires sound { Q.is_sound quest.now }
     requires ordered { first ≤ last }
     requires within { last < slot_count (unit_at (Q.sought quest.now).net unit) }
     requires few { last < 262144 }
     requires page { page < 2 ^ 60 }
+    requires free { AreFreeTo (Q.sought quest.now).slots unit first free }
     ensures past { IfSome result (λ slot. first ≤ slot) }
     ensures up_to { IfSome result (λ slot. slot ≤ last) }
     ensures unusable { IfSome result (λ slot. is_usable_slot port (page + (slot - first))
         (slot_of (Q.sought quest.now).slots unit slot) ≡ false) }
     ensures none { IfNone result (AreUsable (Q.sought quest.now).slots unit first last port page) }
 {
+    let from = first.max(free);
     let mut end = last + 1;
-    'slots: while first < end {
+    'slots: while from < end {
         end -= 1;
         if !is_usable_slot(quest.slot(unit, end), port, page + u64::from(end - first)) {
             return Some(end);
@@ -156,30 +176,56 @@ pub(crate) fn is_hop_free<Q: Quest>(quest: &Q, translator: &Unit, hop: Hop) -> b
     are_free(quest, hop.unit, slots.first, slots.last)
 }
 
+/// An input, and before which slot those from the first of an input on are known to be free.
+#[derive(Clone, Copy)]
+pub(crate) struct Input {
+    pub(crate) x: u64,
+    pub(crate) free: u32,
+}
+
 /// The first input of a unit from the hop's on, in its place in a slot, that may find its slots
-/// usable. Where it is the hop's own, it does.
-pub(crate) fn next_input<Q: Quest>(quest: &Q, translator: &Unit, hop: Hop) -> u64
+/// usable. Where it is the hop's own, it does. The slots from the first of the hop's on are known to be
+/// free before a slot, and are then known to be free before the one that is answered, so that inputs in
+/// turn look at each slot once.
+pub(crate) fn next_input<Q: Quest>(quest: &Q, translator: &Unit, hop: Hop, free: u32) -> Input
     requires sound { Q.is_sound quest.now }
     requires ready { IsSearchReady (Q.sought quest.now) }
     requires within { IsWithin (Q.sought quest.now) translator.now hop }
     requires reached { hop.y + (Q.sought quest.now).request.size ≤ 2 ^ translator.now.reach }
-    ensures onward { hop.x ≤ result }
-    ensures agree { result % 2 ^ translator.now.page ≡ hop.x % 2 ^ translator.now.page }
-    ensures few { result ≤ 2 ^ 59 }
-    ensures barred { AreBarred (Q.sought quest.now) translator.now hop result }
-    ensures usable { result ≡ hop.x → AreUsable (Q.sought quest.now).slots hop.unit
+    requires free { AreFreeTo (Q.sought quest.now).slots hop.unit
+        (hop.x / 2 ^ translator.now.page) free }
+    ensures onward { hop.x ≤ result.x }
+    ensures agree { result.x % 2 ^ translator.now.page ≡ hop.x % 2 ^ translator.now.page }
+    ensures few { result.x ≤ 2 ^ 59 }
+    ensures barred { AreBarred (Q.sought quest.now) translator.now hop result.x }
+    ensures free { AreFreeTo (Q.sought quest.now).slots hop.unit
+        (hop.x / 2 ^ translator.now.page) result.free }
+    ensures usable { result.x ≡ hop.x → AreUsable (Q.sought quest.now).slots hop.unit
         (hop.x / 2 ^ translator.now.page)
         ((hop.x + (Q.sought quest.now).request.size - 1) / 2 ^ translator.now.page)
         hop.port (hop.y / 2 ^ translator.now.page) }
 {
     let slots = slots_of_hop(quest, translator, hop);
     let output = hop.y / slots.page;
-    match last_unusable(quest, hop.unit, slots.first, slots.last, hop.port, output) {
+    let end = free_end(quest, hop.unit, slots.first.max(free), slots.last);
+    match last_unusable(
+        quest,
+        hop.unit,
+        slots.first,
+        slots.last,
+        hop.port,
+        output,
+        end,
+    ) {
         Some(slot) => {
             let found = quest.slot(hop.unit, slot);
             let next = past_slot(found, slot, slots.first, hop.port, output);
-            u64::from(next) * slots.page + hop.x % slots.page
+            let x = u64::from(next) * slots.page + hop.x % slots.page;
+            Input { x, free: end }
         }
-        None => hop.x,
+        None => Input {
+            x: hop.x,
+            free: end,
+        },
     }
 }

@@ -1,6 +1,7 @@
 //! The least vector that has an admissible placement at a line.
 
-ghost use Rattle.std.specs.Prelude.{◌≡◌, ◌≤◌, ℕ, None, IfOk, IfSome};
+ghost use Rattle.std.specs.Prelude.{◌≡◌, ◌≤◌, ℕ, Some, None, IfOk, IfSome};
+ghost use Rattle.dn_place.specs.Terms.{IsReach};
 ghost use Rattle.dn_vector.specs.Terms.{HasNoPlace, IsLeastOfSpan, IsLeastVector, IsRouteAsked, NoVector, grant_of_route, vector_request};
 
 use crate::vectors::free_vectors;
@@ -9,7 +10,8 @@ use dn_book::book::Book;
 use dn_book::grant::Grant;
 use dn_interval::Span;
 use dn_kind::rights::Rights;
-use dn_place::booked::first_in_book;
+use dn_place::booked::{first_in_book_from, is_shut};
+use dn_place::reach::{Reach, reach_of};
 use dn_placement::request::Request;
 use dn_tables::placement::Placement;
 use dn_view::system::System;
@@ -59,9 +61,13 @@ pub fn least_vector(alloc: Global, asked: Asked) -> Result<Option<Found>, OutOfM
         NoVector asked.entry.system.net.now asked.entry.book.now.grants asked.entry.agent
         asked.entry.line asked.entry.node) }
 {
+    let reach = reach_of(alloc, asked.system, asked.agent, Some(asked.line))?;
+    if is_shut(asked.book, asked.system, asked.agent, &reach) {
+        return Ok(None);
+    }
     let free = free_vectors(alloc, asked.system.net, asked.book.grants(), asked.node)?;
     for span in free.spans() {
-        if let Some(found) = least_of(alloc, asked, *span)? {
+        if let Some(found) = least_of(alloc, asked, &reach, *span)? {
             return Ok(Some(found));
         }
     }
@@ -70,8 +76,15 @@ pub fn least_vector(alloc: Global, asked: Asked) -> Result<Option<Found>, OutOfM
 
 /// The least of the vectors of a span that has an admissible placement at the line, with the first of
 /// these. `None` exactly where none has one. `Err` is want of memory.
-fn least_of(alloc: Global, asked: Asked, span: Span) -> Result<Option<Found>, OutOfMemory>
+fn least_of(
+    alloc: Global,
+    asked: Asked,
+    reach: &Reach,
+    span: Span,
+) -> Result<Option<Found>, OutOfMemory>
     requires asked { IsRouteAsked (λ k. meaning (k.vtable, k.value)) asked }
+    requires reach { IsReach asked.system.net.now asked.agent reach.now }
+    requires line { reach.now.at ≡ Some asked.line }
     ensures found { IfOk result (λ found. IfSome found (λ f.
         IsLeastOfSpan asked.entry.system.net.now asked.entry.book.now.grants asked.entry.agent
         asked.entry.line asked.entry.node span f.vector f.placement)) }
@@ -82,7 +95,7 @@ fn least_of(alloc: Global, asked: Asked, span: Span) -> Result<Option<Found>, Ou
 {
     for vector in span.lo..span.hi + 1 {
         let request = vector_request(asked.agent, asked.node, vector);
-        let placement = first_in_book(alloc, asked.book, asked.system, &request, Some(asked.line))?;
+        let placement = first_in_book_from(alloc, asked.book, asked.system, &request, reach)?;
         if let Some(placement) = placement {
             return Ok(Some(Found { vector, placement }));
         }

@@ -1,9 +1,11 @@
 -- The records that a set of tables keeps, as those that its words hold.
-use Rattle.std.proofs.Common.{◌≡◌, ℕ, ◌<◌, ◌≤◌, Bool, true, false, if◌then◌else◌, nat_lt, List, slice_get, Option, Some, None, IsTrue, refl, sym, ap, ◌∙◌, subst, arith}
+use Rattle.std.proofs.Common.{◌≡◌, ℕ, zero, suc, ◌+◌, ◌-◌, ◌*◌, ◌<◌, ◌≤◌, ◌⊎◌, inl, inr, Bool, true, false, if◌then◌else◌, nat_lt, List, [], ◌∷◌, ◌++◌, length, replicate, get_or, slice_get, Option, Some, None, IsTrue, refl, sym, ap, ◌∙◌, subst, arith}
 use Rattle.std.specs.Option.{option_map}
 use Rattle.std.specs.List.{All}
-use Rattle.std.proofs.lemmas.Bool.{lt-ltb}
-use Rattle.std.proofs.lemmas.Option.{same_Some}
+use Rattle.std.proofs.lemmas.Bool.{cases_lt, lt-ltb}
+use Rattle.std.proofs.lemmas.Option.{same_Some, slice_get-map}
+use Rattle.std.proofs.Math.Nat.{mul-le-mul_left}
+use Rattle.dn_base.proofs.Lists.{list_all-at}
 use Rattle.dn_net.specs.declared.node.NodeDecl.{NodeDecl}
 use Rattle.dn_net.specs.declared.node.Unit.{Unit as UnitPart}
 use Rattle.dn_net.specs.Decode.{unit_at}
@@ -14,13 +16,16 @@ use Rattle.dn_kind.specs.declared.shape.Shape.{Shape}
 use Rattle.dn_kind.specs.declared.rights.Access.{Access}
 use Rattle.dn_kind.specs.declared.unit_kind.Record.{Record}
 use Rattle.dn_kind.specs.Rights.{allows}
-use Rattle.dn_kind.specs.Kind.{Meaning, IsLawful, is_plain_unit_shape, is_within}
-use Rattle.dn_kind.specs.Tables.{Held, record_spelled, record_of_unit, record_held, record_allowing, AreHeld}
+use Rattle.dn_kind.specs.Kind.{Meaning, IsLawful, gate_word, is_plain_unit_shape, is_within}
+use Rattle.dn_kind.specs.Tables.{Held, record_spelled, record_of_unit, record_held, record_allowing, slot_words, AreHeld}
 use Rattle.dn_kind.specs.Units.{IsLegalWith, unit_shape}
-use Rattle.dn_kind.proofs.Held.{held_records_fit}
+use Rattle.dn_kind.proofs.Held.{held_past, held_records_fit}
 use Rattle.dn_kind.proofs.Outputs.{has_pages}
 use Rattle.dn_tables.specs.declared.table.NodeTable.{NodeTable}
-use Rattle.dn_tables.specs.Set.{FitsNet, has_slot, has_slot_by, words_of, record_kept}
+use Rattle.dn_tables.specs.Set.{FitsNet, IsSet, fits_by, has_slot, has_slot_by, is_sized, is_sized_by, unit_in, unit_of_table, words_in, words_of, words_of_table, record_kept}
+use Rattle.dn_tables.proofs.Gates.{gate_of_width, none_by_gate}
+use Rattle.dn_tables.proofs.Kept.{sized_unit, slot_room}
+use Rattle.dn_tables.proofs.Slots.{width_of_kind}
 use Rattle.dn_tables.proofs.Fresh.{shape_there, plain_there}
 use Rattle.dn_tables.proofs.Units.{unit_fits}
 
@@ -42,6 +47,46 @@ none_past net kinds set fits node slot u at past =
     by None ws = refl
     by (Some k) None = refl
     by (Some k) (Some ws) = rw past refl
+
+-- what stands behind the written words is 0
+behind_written : (ws : List ℕ) (n at : ℕ) → length ws ≤ at → get_or (ws ++ replicate n 0) at 0 ≡ 0
+behind_written [] n at l = zeros n at
+  where
+    zeros : (n at : ℕ) → get_or (replicate n 0) at 0 ≡ 0
+    zeros zero at = refl
+    zeros (suc n) zero = refl
+    zeros (suc n) (suc at) = zeros n at
+behind_written (w ∷ ws) n zero l = absurd (omega arith)
+behind_written (w ∷ ws) n (suc at) l = behind_written ws n at (omega arith)
+
+-- of a slot past the last one of the unit, and of one behind all words that were ever set where the others are 0, it keeps none
+pub none_behind : (net : List NodeDecl) (kinds : List Meaning) (set : List NodeTable) → All IsLawful kinds → FitsNet net kinds set → IsSet set → (node : ℕ) (u : UnitPart) → unit_at net node ≡ Some u → (written : List ℕ) (n : ℕ) → words_in set node ≡ written ++ replicate n 0 → (slot : ℕ) → (u.slots ≤ slot) ⊎ (length written ≤ slot) → record_kept kinds set node slot ≡ None
+none_behind net kinds set lawful fits is node u at written n words slot (inl l) = held_past net (record_kept kinds set) (kept_are_held net kinds set lawful fits) node slot u at l
+none_behind net kinds set lawful fits is node u at written n words slot (inr l) = by (cases_lt slot u.slots)
+  where
+    unit : unit_in set node ≡ Some u
+    unit = unit_fits net kinds set fits node ∙ at
+
+    never : None ≡ Some u → ⊥
+    never e = cc
+
+    within : slot < u.slots → (o : Option NodeTable) → slice_get set node ≡ o → record_kept kinds set node slot ≡ None
+    within m None e = absurd (never (sym (ap unit_of_table e) ∙ unit))
+    within m (Some t) e =
+        let is_u : t.unit ≡ Some u = sym (ap unit_of_table e) ∙ unit in
+        let s = sized_unit t u (subst (λ o. IsTrue (is_sized_by t o)) is_u (list_all-at is_sized set node t is.sized e)) in
+        let spelled : slice_get (words_of set) node ≡ Some t.words = slice_get-map (λ (x : NodeTable). x.words) set node ∙ ap (option_map (λ (x : NodeTable). x.words)) e in
+        let ws : t.words ≡ written ++ replicate n 0 = sym (ap words_of_table e) ∙ words in
+        let room : slot * t.width + t.width ≤ length t.words = slot_room slot u.slots t.width (length t.words) m s.words in
+        let far : length written ≤ slot * t.width + (t.width - 1) = omega (arith, mul-le-mul_left slot s.least, s.least, l) in
+        let gate : 0 ≡ gate_word (slot_words t.width t.words slot) = gate_of_width t.width slot t.words 0 s.least room (sym (ap (λ (x : List ℕ). get_or x (slot * t.width + (t.width - 1)) 0) ws ∙ behind_written written n (slot * t.width + (t.width - 1)) far)) in
+        ap (λ o. record_of_unit kinds o (slice_get (words_of set) node) slot) unit
+        ∙ ap (λ o. record_of_unit kinds (Some u) o slot) spelled
+        ∙ none_by_gate kinds u t.width slot t.words lawful (width_of_kind kinds t.width t.unit u is_u (list_all-at (λ (x : NodeTable). fits_by kinds x.width x.unit) set node t fits.wide e)) room (sym gate)
+
+    by : (slot < u.slots) ⊎ (u.slots ≤ slot) → record_kept kinds set node slot ≡ None
+    by (inl m) = within m (slice_get set node) refl
+    by (inr m) = held_past net (record_kept kinds set) (kept_are_held net kinds set lawful fits) node slot u at m
 
 -- a record that allows an access was there before
 pub allowed_was : (access : Access) (o : Option Record) (r : Record) → record_allowing access o ≡ Some r → o ≡ Some r

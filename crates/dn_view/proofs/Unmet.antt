@@ -22,7 +22,9 @@ use Rattle.dn_kind.specs.declared.rights.Rights.{Rights}
 use Rattle.dn_kind.specs.declared.unit_kind.Record.{Record}
 use Rattle.dn_kind.specs.Rights.{allows}
 use Rattle.dn_kind.specs.Tables.{Held, allowing, name_at_port, output, record_allowing}
-use Rattle.dn_flat.specs.Levels.{AreFlats, FlatsView, levels_give}
+use Rattle.dn_flat.specs.declared.levels.Levels.{Levels}
+use Rattle.dn_flat.specs.Levels.{AreFlats, FlatsView, is_among, levels_give, stops_in, units_in}
+use Rattle.dn_flat.proofs.Shown.{levels_there}
 use Rattle.dn_flat.proofs.Reached.{some_rows}
 use Rattle.dn_tables.specs.declared.placement.Hop.{Hop}
 use Rattle.dn_tables.specs.Placement.{Place}
@@ -34,7 +36,7 @@ use Rattle.dn_view.specs.Exact.{IsAdded, IsExactAt}
 use Rattle.dn_view.specs.Passes.{outputs_by, stops_of}
 use Rattle.dn_view.specs.Records.{fresh_record, fresh_records}
 use Rattle.dn_view.specs.Through.{ComesNewly, Newly}
-use Rattle.dn_view.specs.Untouched.{can_meet, has_hop, layers_meet, leads_to_units}
+use Rattle.dn_view.specs.Untouched.{can_meet, has_hop, leads_to_units}
 use Rattle.dn_view.proofs.Added.{not_asked}
 use Rattle.dn_view.proofs.Buffers.{exact_none}
 use Rattle.dn_view.proofs.Cuts.{none_at}
@@ -56,23 +58,11 @@ unplaced net size rights own place (hop ∷ hops) node slot e =
 layer_given : (layers : List (List Row)) (a : ℕ) (z : End) → levels_give layers a z ≡ true → list_any has_rows layers ≡ true
 layer_given layers a z e = let r = any_member (λ (rows : List Row). rows_give rows a z) layers e in member_any has_rows layers r.0 r.1 (some_rows r.0 a z r.2)
 
--- the node of a name that rows give is that of one of their names
-row_met : (p : ℕ → Bool) (rows : List Row) (a : ℕ) (z : End) → list_any (λ (r : Row). list_any (λ (e : End). p e.node) r.ends) rows ≡ false → rows_give rows a z ≡ true → p z.node ≡ false
-row_met p rows a z none g =
-    let r = any_member (λ (r : Row). row_gives r a z) rows g in
-    let row : Row = r.0 in
-    let given = and_parts (in_span row.span a) (ends_give row.ends row.span.lo a z) r.2 in
-    let e = any_member (λ (e : End). nat_eq e.node z.node && nat_eq (e.base + (a - row.span.lo)) z.base) row.ends given.1 in
-    let end : End = e.0 in
-    let same = and_parts (nat_eq end.node z.node) (nat_eq (end.base + (a - row.span.lo)) z.base) e.2 in
-    subst (λ n. p n ≡ false) (eqb-true end.node z.node same.0)
-    (member_none (λ (e : End). p e.node) row.ends end (member_none (λ (r : Row). list_any (λ (e : End). p e.node) r.ends) rows row none r.1) e.1)
-
--- and so it is of layers
-layer_met : (p : ℕ → Bool) (layers : List (List Row)) (a : ℕ) (z : End) → list_any (λ (rows : List Row). list_any (λ (r : Row). list_any (λ (e : End). p e.node) r.ends) rows) layers ≡ false → levels_give layers a z ≡ true → p z.node ≡ false
-layer_met p layers a z none g =
-    let r = any_member (λ (rows : List Row). rows_give rows a z) layers g in
-    row_met p r.0 a z (member_none (λ (rows : List Row). list_any (λ (s : Row). list_any (λ (e : End). p e.node) s.ends) rows) layers r.0 none r.1) r.2
+-- what holds of no listed node does not hold of one that is listed
+unlisted : (p : ℕ → Bool) (nodes : List ℕ) (n : ℕ) → list_any p nodes ≡ false → is_among n nodes ≡ true → p n ≡ false
+unlisted p nodes n none there =
+    let m = any_member (λ other. nat_eq other n) nodes there in
+    subst (λ k. p k ≡ false) (eqb-true m.0 n m.2) (member_none p nodes m.0 none m.1)
 
 module _ (net : List NodeDecl) (legal : IsLegalNet net) (flats : FlatsView) (are : AreFlats net flats) (rq : Request) (p : Place) (access : Access) (h : Held) where
   abbrev added : Held
@@ -131,8 +121,14 @@ module _ (net : List NodeDecl) (legal : IsLegalNet net) (flats : FlatsView) (are
       by (inl n) = not_fresh n.0 (unit_at net t.node) n.1
       by (inr n) = not_on n.0 n.2.0 (unit_at net t.node) refl parts.1 n.1 n.2.1
 
+  -- the units of a node's stops are listed
+  listed : (node : ℕ) → node < length flats.nodes → (a : ℕ) (z : End) → a ≤ TOP → levels_give (stops_of flats node) a z ≡ true → is_among z.node (units_in (slice_get flats.nodes node)) ≡ true
+  listed node l a z low given =
+      let t = levels_there net flats are node (subst (λ n. node < n) are.every l) in
+      subst (λ (o : Option Levels). is_among z.node (units_in o) ≡ true) (sym t.1) ((are.each node t.0 t.1).units a z low (ap (λ (o : Option Levels). levels_give (stops_in o) a z) (sym t.1) ∙ given))
+
   -- a node at which nothing is asked for, and from which no hop can be met, is exact
-  pub untouched : (node : ℕ) → node < length flats.nodes → (nat_eq node rq.agent && allows rq.rights access) ≡ false → layers_meet net flats p.hops (stops_of flats node) ≡ false → IsExactAt net h rq p access node
+  pub untouched : (node : ℕ) → node < length flats.nodes → (nat_eq node rq.agent && allows rq.rights access) ≡ false → list_any (can_meet net flats p.hops) (units_in (slice_get flats.nodes node)) ≡ false → IsExactAt net h rq p access node
   unfolding ComesNewly
   untouched node l asked none = (exact_none net h rq p access node [] (not_asked net h rq p access node asked) (λ a z low. ((λ e. absurd (false≢true e)), (λ k. absurd (never a z low k))))).0 refl
     where
@@ -140,4 +136,4 @@ module _ (net : List NodeDecl) (legal : IsLegalNet net) (flats : FlatsView) (are
       never a z low k =
           let layers : List (List Row) = stops_of flats node in
           let given : levels_give layers a (end_of k.0) ≡ true = (node_stops net flats are node l (levels_give layers a (end_of k.0)) a (end_of k.0) low refl).1 k.1 in
-          not_newly k.0 (name_of_end z) (layer_met (can_meet net flats p.hops) layers a (end_of k.0) none given) k.2
+          not_newly k.0 (name_of_end z) (unlisted (can_meet net flats p.hops) (units_in (slice_get flats.nodes node)) k.0.node none (listed node l a (end_of k.0) low given)) k.2

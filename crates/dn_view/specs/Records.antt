@@ -30,6 +30,10 @@ records_taken net h Kept = h
 records_taken net h (Fresh rq p) = fresh_records h (placed_records net rq.now p.now)
 records_taken net h (Joined rq p) = joined_records h (placed_records net rq.now p.now)
 
+-- no slot of the node from this one on holds a record
+abbrev pub HoldsBelow : Held → ℕ → ℕ → Type 0
+HoldsBelow h node end = (slot : ℕ) → end ≤ slot → h node slot ≡ None
+
 -- a hop fits its unit for so many addresses: it is a unit with the port, `x` and `y` agree modulo the
 -- page, and both ends lie within
 pub record IsFitted (net : List NodeDecl) (size : ℕ) (hop : Hop) : Type 0 where

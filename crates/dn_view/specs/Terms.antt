@@ -4,9 +4,9 @@ pub use Rattle.dn_view.specs.Courses.{IsCourse, course_records}
 pub use Rattle.dn_view.specs.Exact.{IsAskedAt, IsExactAt, are_buffer, is_buffer_end, is_buffer_row, is_part}
 pub use Rattle.dn_view.specs.Named.{AddsGiven, AddsOne, AddsResolved, AddsStops, IsAlone}
 pub use Rattle.dn_view.specs.Passes.{in_slot, names_go, outputs, part_gives, part_leads, seg_name, seg_passes, segs_pass, stops_of}
-pub use Rattle.dn_view.specs.Records.{AreFitted, IsFitted, IsFitting, fresh_record, records_taken}
+pub use Rattle.dn_view.specs.Records.{AreFitted, HoldsBelow, IsFitted, IsFitting, fresh_record, records_taken}
 pub use Rattle.dn_view.specs.Systems.{AreSystemTables, IsSystem}
 pub use Rattle.dn_view.specs.Through.{ComesThrough}
 pub use Rattle.dn_view.specs.Trials.{AreExactIn, ComesIn, IsExactIn, IsPassedIn, IsTrial}
-pub use Rattle.dn_view.specs.Untouched.{can_meet, has_hop, layers_meet, leads_to_units, rows_meet}
+pub use Rattle.dn_view.specs.Untouched.{can_meet, has_hop, leads_to_units}
 pub use Rattle.dn_view.specs.Views.{AreViewed, ReachesUnit, ResolvesFromUnder}

@@ -1,7 +1,6 @@
 -- From which nodes a placement can be met.
 use Rattle.std.specs.Prelude.{ℕ, Bool, false, ◌||◌, nat_eq, List, Option, Some, None}
 use Rattle.std.specs.List.{list_any}
-use Rattle.dn_interval.specs.declared.row.Row.{Row}
 use Rattle.dn_net.specs.declared.node.NodeDecl.{NodeDecl}
 use Rattle.dn_net.specs.declared.node.Unit.{Unit as UnitPart}
 use Rattle.dn_net.specs.Decode.{unit_at}
@@ -23,12 +22,3 @@ leads_to_units flats (Some u) =
 -- what stands in the node can come to a hop: to one in the node itself, or through it to others
 abbrev pub can_meet : List NodeDecl → FlatsView → List Hop → ℕ → Bool
 can_meet net flats hops node = has_hop hops node || leads_to_units flats (unit_at net node)
-
--- some name of the rows can
-abbrev pub rows_meet : List NodeDecl → FlatsView → List Hop → List Row → Bool
-rows_meet net flats hops rows =
-    list_any (λ r. list_any (λ e. can_meet net flats hops e.node) r.ends) rows
-
--- some name of the layers can
-abbrev pub layers_meet : List NodeDecl → FlatsView → List Hop → List (List Row) → Bool
-layers_meet net flats hops layers = list_any (λ rows. rows_meet net flats hops rows) layers

@@ -11,7 +11,7 @@ ghost use Rattle.dn_flat.specs.Terms.{has_rows};
 ghost use Rattle.dn_view.specs.Terms.{IsCourse, course_records, in_slot, names_go, outputs, part_gives, part_leads, seg_name, seg_passes, segs_pass, stops_of};
 
 use crate::course::Course;
-use crate::range::slot_range;
+use crate::range::{held_end, slot_range};
 use crate::records::record_for;
 use dn_base::OutOfMemory;
 use dn_flat::flats::Flats;
@@ -77,7 +77,8 @@ fn pass_seg(
     let checked = CheckedNet {
         net: course.system.net,
     };
-    let range = slot_range(checked, course.records, unit, seg);
+    let end = held_end(course.system, course.tables, seg.node, unit);
+    let range = slot_range(checked, course.records, unit, seg, end);
     for slot in range.0..range.1 {
         pass_slot(out, mid, course, part, unit, seg, slot)?;
     }
@@ -176,7 +177,7 @@ pub(crate) fn unit_of(net: &Net, node: u16) -> Option<&Unit>
 }
 
 /// The layers of the stops of a node.
-pub(crate) fn stop_layers(flats: &Flats, node: u16) -> &[Rows]
+fn stop_layers(flats: &Flats, node: u16) -> &[Rows]
     requires { node < length flats.now.nodes }
     ensures { result.now ≡ stops_of flats.now node }
 {

@@ -1,29 +1,40 @@
 //! Which slots of a unit a pass looks at.
 
-ghost use Rattle.std.specs.Prelude.{◌≡◌, ℕ, ◌+◌, ◌-◌, ◌/◌, ◌^◌, ◌<◌, ◌≤◌, ◌⊎◌, Some, None};
+ghost use Rattle.std.specs.Prelude.{◌≡◌, ℕ, ◌+◌, ◌-◌, ◌/◌, ◌^◌, ◌<◌, ◌≤◌, ◌⊎◌, map, Some, None};
 ghost use Rattle.dn_net.specs.declared.node.Unit.{Unit as UnitPart};
 ghost use Rattle.dn_net.specs.Terms.{unit_at};
-ghost use Rattle.dn_kind.specs.Terms.{AreHeld, Held};
+ghost use Rattle.dn_kind.specs.Terms.{Held};
 ghost use Rattle.dn_kind.specs.declared.rights.Rights.{Rights};
+ghost use Rattle.dn_tables.specs.Terms.{FitsNet, record_kept};
 ghost use Rattle.dn_placement.specs.Terms.{hop_record, placed_records};
-ghost use Rattle.dn_view.specs.Terms.{AreFitted, IsFitted, IsFitting, records_taken};
+ghost use Rattle.dn_view.specs.Terms.{AreFitted, HoldsBelow, IsFitted, IsFitting, IsSystem, records_taken};
 
 use crate::records::{Records, unit_page};
+use crate::system::System;
 use dn_interval::Seg;
 use dn_net::checked::CheckedNet;
 use dn_net::node::Unit;
 use dn_placement::request::Request;
 use dn_tables::placement::{Hop, Placement};
+use dn_tables::set::TableSet;
 
 /// From which slot to before which one a pass looks at the slots of a unit for a segment: of those in
-/// which the segment has names, none outside of them has a record that is taken.
-pub(crate) fn slot_range(checked: CheckedNet, records: Records, unit: &Unit, seg: Seg) -> (u64, u64)
+/// which the segment has names, none outside of them has a record that is taken. The tables hold none
+/// from the slot `end` on.
+pub(crate) fn slot_range(
+    checked: CheckedNet,
+    records: Records,
+    unit: &Unit,
+    seg: Seg,
+    end: u64,
+) -> (u64, u64)
     requires unit { unit_at checked.net.now seg.node ≡ Some unit.now }
     requires fitting { IsFitting checked.net.now records }
+    requires end { end ≤ unit.now.slots }
     ensures begins { seg.base / 2 ^ unit.now.page ≤ result.0 }
     ensures ends { result.1 ≤ (seg.base + (seg.span.hi - seg.span.lo)) / 2 ^ unit.now.page + 1 }
     ensures there { result.1 ≤ unit.now.slots }
-    ensures rest { (h : Held) (slot : ℕ) → AreHeld checked.entry.net.now h
+    ensures rest { (h : Held) (slot : ℕ) → HoldsBelow h seg.node end
         → seg.base / 2 ^ unit.now.page ≤ slot
         → slot ≤ (seg.base + (seg.span.hi - seg.span.lo)) / 2 ^ unit.now.page
         → (slot < result.0) ⊎ (result.1 ≤ slot)
@@ -31,25 +42,51 @@ pub(crate) fn slot_range(checked: CheckedNet, records: Records, unit: &Unit, seg
 {
     let first = seg.base >> unit.page;
     let last = (seg.base + (seg.span.hi - seg.span.lo)) >> unit.page;
-    let taken = taken_range(checked, records, seg.node, u64::from(unit.slots));
+    let taken = taken_range(checked, records, seg.node, u64::from(unit.slots), end);
     (first.max(taken.0), (last + 1).min(taken.1))
 }
 
-/// From which slot to before which one a unit may have records that are taken.
-fn taken_range(checked: CheckedNet, records: Records, node: u16, slots: u64) -> (u64, u64)
+/// From which slot to before which one a unit may have records that are taken, where the tables hold none
+/// from the slot `end` on.
+fn taken_range(checked: CheckedNet, records: Records, node: u16, slots: u64, end: u64) -> (u64, u64)
     requires unit { (u : UnitPart) × (unit_at checked.net.now node ≡ Some u) × (slots ≡ u.slots) }
     requires fitting { IsFitting checked.net.now records }
+    requires end { end ≤ slots }
     ensures there { result.1 ≤ slots }
-    ensures rest { (h : Held) (slot : ℕ) → AreHeld checked.entry.net.now h
+    ensures rest { (h : Held) (slot : ℕ) → HoldsBelow h node end
         → (slot < result.0) ⊎ (result.1 ≤ slot)
         → records_taken checked.entry.net.now h records.entry node slot ≡ None }
 {
     match records {
+        Records::Kept => (0, end),
         Records::Fresh(request, placement) => placed_range(
             checked, request, placement, node, slots,
         ),
-        _ => (0, slots),
+        Records::Joined(request, placement) => {
+            let placed = placed_range(checked, request, placement, node, slots);
+            (0, placed.1.max(end))
+        }
     }
+}
+
+/// From which slot on no slot of a unit holds a record: no word of these was ever set, or the unit has
+/// none of them.
+pub(crate) fn held_end(system: System, tables: &TableSet, node: u16, unit: &Unit) -> u64
+    requires system { IsSystem (λ k. meaning (k.vtable, k.value)) system }
+    requires fits { FitsNet system.net.now
+        (map (λ k. meaning (k.vtable, k.value)) system.kinds.now.list.items) tables.now }
+    requires unit { unit_at system.net.now node ≡ Some unit.now }
+    ensures most { result ≤ unit.now.slots }
+    ensures none { HoldsBelow (record_kept
+        (map (λ k. meaning (k.vtable, k.value)) system.entry.kinds.now.list.items) tables.now)
+        node result }
+{
+    let slots = u64::from(unit.slots);
+    let (written, rest) = tables.words(node).parts();
+    if rest != 0 {
+        return slots;
+    }
+    slots.min(written.len() as u64)
 }
 
 /// From which slot to before which one a placement has records in a unit.

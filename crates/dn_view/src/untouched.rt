@@ -3,19 +3,19 @@
 ghost use Rattle.std.specs.Prelude.{◌≡◌, ◌<◌, length, IsTrue};
 ghost use Rattle.dn_net.specs.Terms.{unit_at};
 ghost use Rattle.dn_kind.specs.Terms.{Held};
-ghost use Rattle.dn_view.specs.Terms.{IsExactAt, IsSystem, IsTrial, can_meet, has_hop, layers_meet, leads_to_units, rows_meet};
+ghost use Rattle.dn_view.specs.Terms.{IsExactAt, IsSystem, IsTrial, can_meet, has_hop, leads_to_units};
 ghost use Rattle.dn_view.specs.declared.pass.Part.TheVariants.{Stops};
 ghost use Rattle.std.specs.List.{list_any};
 
 use crate::exact::is_asked;
-use crate::pass::{Part, leads_on, stop_layers, unit_of};
+use crate::pass::{Part, leads_on, unit_of};
 use crate::system::System;
 use crate::trial::Trial;
-use dn_interval::{End, Row, Rows};
 use dn_tables::placement::Placement;
 
 /// Whether nothing is asked for at a node, and no name to which the node leads can come to a hop of the
-/// placement: then it shows nothing newly, whatever the tables hold. It takes no memory.
+/// placement: then it shows nothing newly, whatever the tables hold. It takes no memory, and time of the
+/// units to which the node leads.
 pub(crate) fn is_untouched(trial: Trial, node: u16) -> bool
     requires trial { IsTrial (λ k. meaning (k.vtable, k.value)) trial }
     requires there { node < length trial.system.flats.now.nodes }
@@ -25,46 +25,18 @@ pub(crate) fn is_untouched(trial: Trial, node: u16) -> bool
     if is_asked(trial.request, node, trial.access) {
         return false;
     }
-    !layers_meet(trial, stop_layers(trial.system.flats, node))
+    let units = trial.system.flats.of(node).units.as_slice();
+    !some_meets(trial, units)
 }
 
-/// Whether some name of the layers can come to a hop.
-fn layers_meet(trial: Trial, layers: &[Rows]) -> bool
+/// Whether what stands in one of the nodes can come to a hop.
+fn some_meets(trial: Trial, nodes: &[u16]) -> bool
     requires { IsTrial (λ k. meaning (k.vtable, k.value)) trial }
-    ensures { result ≡ layers_meet trial.entry.system.net.now trial.entry.system.flats.now
-        trial.entry.placement.now.hops layers.now }
+    ensures { result ≡ list_any (can_meet trial.entry.system.net.now
+        trial.entry.system.flats.now trial.entry.placement.now.hops) nodes.now }
 {
-    for layer in layers {
-        let rows = layer.rows();
-        if rows_meet(trial, rows) {
-            return true;
-        }
-    }
-    false
-}
-
-/// Whether some name of the rows can come to a hop.
-fn rows_meet(trial: Trial, rows: &[Row]) -> bool
-    requires { IsTrial (λ k. meaning (k.vtable, k.value)) trial }
-    ensures { result ≡ rows_meet trial.entry.system.net.now trial.entry.system.flats.now
-        trial.entry.placement.now.hops rows.now }
-{
-    for row in rows {
-        if ends_meet(trial, row.ends()) {
-            return true;
-        }
-    }
-    false
-}
-
-/// Whether one of the names can come to a hop.
-fn ends_meet(trial: Trial, ends: &[End]) -> bool
-    requires { IsTrial (λ k. meaning (k.vtable, k.value)) trial }
-    ensures { result ≡ list_any (λ e. can_meet trial.entry.system.net.now
-        trial.entry.system.flats.now trial.entry.placement.now.hops e.node) ends.now }
-{
-    for end in ends {
-        if can_meet(trial, end.node) {
+    for node in nodes {
+        if can_meet(trial, *node) {
             return true;
         }
     }

@@ -1,20 +1,26 @@
-use Rattle.std.proofs.Common.{◌≡◌, ℕ, suc, List, Some, ◌+◌, ◌-◌, ◌*◌, ◌^◌, ◌<◌, ◌≤◌, arith, length, refl, subst, sym, ap, ◌∙◌, rules, get_or, slice_get}
+use Rattle.std.proofs.Common.{◌≡◌, ℕ, suc, List, ◌∷◌, [], ◌++◌, Option, Some, None, ◌+◌, ◌-◌, ◌*◌, ◌/◌, ◌%◌, ◌^◌, ◌<◌, ◌≤◌, arith, length, refl, subst, sym, ap, ◌∙◌, rules, get_or, slice_get}
 use Rattle.std.proofs.lemmas.Nat.{pow_pos}
+use Rattle.std.proofs.lemmas.Result.{IfOk-weaker}
 use Rattle.std.proofs.Math.Nat.{mod-mod, mod-le}
 use Rattle.dn_view.proofs.Pages.{power_below}
+use Rattle.dn_interval.specs.declared.row.End.{End}
 use Rattle.dn_interval.specs.declared.row.Row.{Row}
 use Rattle.dn_tables.specs.declared.placement.Hop.{Hop}
 use Rattle.dn_placement.specs.declared.request.Request.{Request}
 use Rattle.dn_placement.specs.Placement.{Meets}
 use Rattle.dn_place.specs.Hops.{hops_view}
 use Rattle.dn_place.specs.Rows.{AreToward, IsClear, wanted_name}
-use Rattle.dn_place.specs.Marks.{AreUnitsFrom}
-use Rattle.dn_place.specs.Candidates.{to_unit, to_port, to_output, IsChosen}
+use Rattle.dn_place.specs.Marks.{AreUnitsFrom, IsEntry}
+use Rattle.dn_place.specs.Candidates.{to_unit, to_port, to_output, key_of_hops, IsChosen, IsFirstOrNone, NoneUnder}
+use Rattle.dn_place.specs.Sought.{Sought}
+use Rattle.dn_place.specs.Stages.{IsSearchStage}
+use Rattle.dn_place.specs.declared.chain.Stage.{Stage}
 use Rattle.dn_place.proofs.Agents.{row_asked, row_fits, step, step_found, step_done, step_meets, only_there}
 use Rattle.dn_place.proofs.Levels.{next_one, found_first}
 use Rattle.dn_place.proofs.Meetings.{unclear}
-use Rattle.dn_place.proofs.Nexts.{answered_input, chosen_on, inputs_barred, inputs_begun, inputs_done, inputs_leapt, next_agrees, node_there, none_ending, not_allowed, not_met, out_of_reach, port_goes, port_node, port_read, port_stretches, ports_done, unmarked}
+use Rattle.dn_place.proofs.Nexts.{answered_input, chosen_on, inputs_useless, inputs_begun, inputs_done, inputs_leapt, next_agrees, node_there, not_entered, not_joined, not_met, not_served, only_input, out_of_reach, port_goes, port_node, port_read, port_stretches, ports_done, unentered, unmarked}
 use Rattle.dn_place.proofs.Pages.{input_bound, page_few}
+use Rattle.dn_place.proofs.Usable.{free_onward, none_free}
 use Rattle.dn_place.proofs.Units.{sifted_begun, sifted_done, sifted_found, sifted_on}
 use Rattle.dn_place.proofs.Walks.{set_out}
 use Rattle.dn_place.proofs.chain.+hops.Goals as goal
@@ -22,7 +28,7 @@ use Rattle.dn_place.proofs.chain.+hops.Goals.{by_hops-then-can_stand+in_ok-place
 use Rattle.dn_place.proofs.chain.+hops.Goals.{by_rows-in-Some+then-y-size+then-is_clear+in_ok-placement+in_default-2, by_rows-in-Some+else-y-size, by_rows-else-y-size-via-then-y-size+else-is_clear, by_rows-else-y-size-via-else-y-size, by_rows-in_default}
 
 pub by_hops-loop-unit-init : goal.by_hops-loop-unit-init
-by_hops-loop-unit-init g t c = sifted_begun (g.Q.Quest.sought c.args.quest.now) c.args.stage.count (hops_view c.args.stage.chosen) c.as_slice-units.result.now (subst (λ (l : List ℕ). AreUnitsFrom (g.Q.Quest.sought c.args.quest.now).net 0 l) (sym c.as_slice-units.ensures.value) c.requires.stage.units)
+by_hops-loop-unit-init g t c = sifted_begun (g.Q.Quest.sought c.args.quest.now) c.args.stage.count (hops_view c.args.stage.chosen) c.as_slice-units.result.now (subst (λ (l : List ℕ). AreUnitsFrom (g.Q.Quest.sought c.args.quest.now).net 0 l) (sym c.as_slice-units.ensures.value) c.requires.stage.reach.units)
 
 pub by_hops-returns-in-Some : goal.by_hops-returns-in-Some
 by_hops-returns-in-Some g t c = sifted_found (g.Q.Quest.sought c.args.quest.now) c.args.stage.count (hops_view c.args.stage.chosen) c.as_slice-units.result.now c.loop-unit.unit-index (get_or c.as_slice-units.result.now c.loop-unit.unit-index 0) c.in-Some.placement (omega (arith, c.count.ensures, c.if-count-stage.false)) c.loop-unit-test.true refl (rw c.in-Some.is at c.in_ok-placement.ensures) c.loop-unit.invariant
@@ -31,12 +37,15 @@ pub by_hops-loop-unit-preserved : goal.by_hops-loop-unit-preserved
 by_hops-loop-unit-preserved g t c = sifted_on (g.Q.Quest.sought c.args.quest.now) c.args.stage.count (hops_view c.args.stage.chosen) c.as_slice-units.result.now c.loop-unit.unit-index (get_or c.as_slice-units.result.now c.loop-unit.unit-index 0) (omega (arith, c.count.ensures, c.if-count-stage.false)) c.loop-unit-test.true refl
     (elim c.if-can_stand.branch [
       | by_hops-then-can_stand+in_ok-placement+in_default w ↦ rw w.in_default.is at w.in_ok-placement.ensures
-      | by_hops-else-can_stand w ↦ unmarked (g.Q.Quest.sought c.args.quest.now) c.args.stage.count (hops_view c.args.stage.chosen) (get_or c.as_slice-units.result.now c.loop-unit.unit-index 0) (c.args.stage.count - c.count-2.result) c.args.stage.reach.now.first.items c.args.stage.reach.now.second.items c.args.stage.reach.now.third.items c.requires.stage.ready c.requires.stage.marked (omega (arith, c.count.ensures, c.if-count-stage.false)) c.requires.stage.chosen.most (omega (arith, c.count-2.ensures)) (sym c.can_stand.ensures ∙ w.if-can_stand.false)
+      | by_hops-else-can_stand w ↦ unmarked (g.Q.Quest.sought c.args.quest.now) c.args.stage.count (hops_view c.args.stage.chosen) (get_or c.as_slice-units.result.now c.loop-unit.unit-index 0) (c.args.stage.count - c.count-2.result) c.args.stage.reach.now.first.items c.args.stage.reach.now.second.items c.args.stage.reach.now.third.items c.requires.stage.ready c.requires.stage.reach.marked (omega (arith, c.count.ensures, c.if-count-stage.false)) c.requires.stage.chosen.most (omega (arith, c.count-2.ensures)) (sym c.can_stand.ensures ∙ w.if-can_stand.false)
     ])
     c.loop-unit.invariant
 
 pub by_hops-returns : goal.by_hops-returns
 by_hops-returns g t c = sifted_done (g.Q.Quest.sought c.args.quest.now) c.args.stage.count (hops_view c.args.stage.chosen) c.as_slice-units.result.now c.loop-unit.unit-index (omega (arith, c.count.ensures, c.if-count-stage.false)) c.loop-unit-test.false c.loop-unit.invariant
+
+pub by_unit-returns-then-not-can_enter : goal.by_unit-returns-then-not-can_enter
+by_unit-returns-then-not-can_enter g t c = unentered (g.Q.Quest.sought c.args.quest.now) c.args.stage.count (hops_view c.args.stage.chosen) c.args.unit c.args.stage.reach.now.entry c.requires.stage.ready (subst (λ (o : Option ℕ). IsEntry (g.Q.Quest.sought c.args.quest.now).net (g.Q.Quest.sought c.args.quest.now).request.agent o c.args.stage.reach.now.entry) c.requires.stage.at c.requires.stage.reach.entry) c.requires.more (omega (arith, c.can_enter.ensures.first c.if-not-can_enter.true, c.count.ensures)) (c.can_enter.ensures.asked c.if-not-can_enter.true) (c.can_enter.ensures.other c.if-not-can_enter.true)
 
 pub by_unit-returns-in-Some-2 : goal.by_unit-returns-in-Some-2
 by_unit-returns-in-Some-2 g t c = found_first (g.Q.Quest.sought c.args.quest.now) (to_unit c.args.stage.count (hops_view c.args.stage.chosen) c.args.unit) c.loop-port.port c.in-Some-2.placement c.loop-port.invariant (rw c.in-Some-2.is at c.in_ok-placement.ensures)
@@ -138,49 +147,117 @@ by_rows-returns g t c =
     c.rows-test.false c.requires.stage.ready.some (port_stretches (g.Q.Quest.sought c.args.quest.now) c.args.stage.count hops c.args.unit c.args.port node c.args.translator.now c.args.rows.now c.requires.stage.ready (c.requires.toward node read) c.requires.more c.requires.unit read)
     (port_goes (g.Q.Quest.sought c.args.quest.now) c.args.stage.count hops c.args.unit c.args.port c.args.translator.now c.requires.more c.requires.unit) c.rows.invariant
 
-pub by_output-power-page-requires : goal.by_output-power-page-requires
-by_output-power-page-requires g t c = let f = c.requires.stage.ready.formed c.args.unit c.args.translator.now c.requires.unit in omega (arith, f.page)
+-- the inputs other than that of the entry go on with nothing
+others : (s : Sought) (stage : Stage) (unit port y : ℕ) (entry : End) → IsSearchStage s stage → length (hops_view stage.chosen) < stage.count → stage.count ≡ length (hops_view stage.chosen) + 1 → stage.reach.now.entry ≡ Some entry → (j : ℕ) → (j ≡ entry.base → ⊥) → NoneUnder s (to_output stage.count (hops_view stage.chosen) unit port y ++ j ∷ [])
+others s stage unit port y entry ready more last is j differ =
+    not_entered s stage.count (hops_view stage.chosen) unit port y j stage.reach.now.entry ready.ready (subst (λ (o : Option ℕ). IsEntry s.net s.request.agent o stage.reach.now.entry) ready.at ready.reach.entry) more (omega (arith, last)) (λ none. never (sym is ∙ none)) (λ z e f. differ (sym f ∙ ap (λ (x : End). x.base) (some z entry (sym e ∙ is))))
+  where
+    never : Some entry ≡ None → ⊥
+    never p = cc
 
-pub by_output-overflow_mul-end : goal.by_output-overflow_mul-end
-by_output-overflow_mul-end g t c =
+    some : (a b : End) → Some a ≡ Some b → a ≡ b
+    some a b p = cc
+
+pub by_entry-can_meet-requires-clause-page : goal.by_entry-can_meet-requires-clause-page
+by_entry-can_meet-requires-clause-page g t c = (c.requires.stage.ready.formed c.args.unit c.args.translator.now c.requires.unit).page
+
+pub by_entry-can_meet-requires-clause-slots : goal.by_entry-can_meet-requires-clause-slots
+by_entry-can_meet-requires-clause-slots g t c = (c.requires.stage.ready.formed c.args.unit c.args.translator.now c.requires.unit).few
+
+pub by_entry-returns-then-not-can_meet : goal.by_entry-returns-then-not-can_meet
+by_entry-returns-then-not-can_meet g t c =
+    let s = g.Q.Quest.sought c.args.quest.now in
+    let hops = hops_view c.args.stage.chosen in
+    let same : c.request.result.size ≡ s.request.size = ap (λ (r : Request). r.size) c.request.ensures in
+    only_input s c.args.stage.count hops c.args.unit c.args.port c.args.y c.args.entry.base c.args.translator.now None c.requires.more c.requires.unit
+    (others s c.args.stage c.args.unit c.args.port c.args.y c.args.entry c.requires.stage c.requires.more c.requires.last c.requires.entry)
+    (not_joined s c.args.stage.count hops c.args.unit c.args.port c.args.y c.args.entry.base c.args.translator.now c.requires.more c.requires.unit (λ j. c.can_meet.ensures.no c.if-not-can_meet.true j.agree (omega (arith, j.within, same))))
+
+pub by_entry-next_try-tried-requires-clause-within : goal.by_entry-next_try-tried-requires-clause-within
+by_entry-next_try-tried-requires-clause-within g t c =
+    let same : c.request.result.size ≡ (g.Q.Quest.sought c.args.quest.now).request.size = ap (λ (r : Request). r.size) c.request.ensures in
+    record { unit = c.requires.unit; ends = omega (arith, c.can_meet.ensures.within c.if-not-can_meet.false, same) }
+
+pub by_entry-next_try-tried-requires-clause-free : goal.by_entry-next_try-tried-requires-clause-free
+by_entry-next_try-tried-requires-clause-free g t c = none_free (g.Q.Quest.sought c.args.quest.now).slots c.args.unit (c.args.entry.base / 2 ^ c.args.translator.now.page)
+
+pub by_entry-returns-then-next-x : goal.by_entry-returns-then-next-x
+by_entry-returns-then-next-x g t c =
+    let s = g.Q.Quest.sought c.args.quest.now in
+    let hops = hops_view c.args.stage.chosen in
+    only_input s c.args.stage.count hops c.args.unit c.args.port c.args.y c.args.entry.base c.args.translator.now None c.requires.more c.requires.unit
+    (others s c.args.stage c.args.unit c.args.port c.args.y c.args.entry c.requires.stage c.requires.more c.requires.last c.requires.entry)
+    (not_served s c.args.stage.count hops c.args.unit c.args.port c.args.y c.args.entry.base 1 c.args.entry.base c.args.translator.now c.requires.stage.ready c.requires.more (omega (arith, c.requires.last)) c.requires.unit
+    (c.next_try-tried.ensures.useless c.args.entry.base (omega arith) (omega (arith, c.next_try-tried.ensures.onward, c.if-next-x.true)) refl))
+
+pub by_entry-returns : goal.by_entry-returns
+by_entry-returns g t c =
+    let s = g.Q.Quest.sought c.args.quest.now in
+    let count = c.args.stage.count in
+    let hops = hops_view c.args.stage.chosen in
+    let unit = c.args.unit in
+    let port = c.args.port in
+    let y = c.args.y in
+    let x = c.args.entry.base in
+    IfOk-weaker c.by_input.result (λ found. IsFirstOrNone s (key_of_hops count (record { unit = unit; port = port; x = x; y = y } ∷ hops)) found) (λ found. IsFirstOrNone s (to_output count hops unit port y) found)
+    (λ found a. only_input s count hops unit port y x c.args.translator.now found c.requires.more c.requires.unit
+    (others s c.args.stage unit port y c.args.entry c.requires.stage c.requires.more c.requires.last c.requires.entry) (answered_input s count hops unit port y x found a))
+    c.by_input.ensures
+
+pub by_entry-by_input-requires : goal.by_entry-by_input-requires
+by_entry-by_input-requires g t c =
+    let same : c.request.result.size ≡ (g.Q.Quest.sought c.args.quest.now).request.size = ap (λ (r : Request). r.size) c.request.ensures in
+    let agree = c.can_meet.ensures.agree c.if-not-can_meet.false in
+    let within : c.args.entry.base + (g.Q.Quest.sought c.args.quest.now).request.size ≤ c.args.translator.now.slots * 2 ^ c.args.translator.now.page = omega (arith, c.can_meet.ensures.within c.if-not-can_meet.false, same) in
+    let usable = c.next_try-tried.ensures.usable c.if-next-x.false in
+    search rules
+
+pub by_inputs-power-page-requires : goal.by_inputs-power-page-requires
+by_inputs-power-page-requires g t c = let f = c.requires.stage.ready.formed c.args.unit c.args.translator.now c.requires.unit in omega (arith, f.page)
+
+pub by_inputs-overflow_mul-end : goal.by_inputs-overflow_mul-end
+by_inputs-overflow_mul-end g t c =
     let f = c.requires.stage.ready.formed c.args.unit c.args.translator.now c.requires.unit in
     rw (c.power-page.ensures, c.from.ensures) (omega (arith, input_bound c.args.translator.now.slots c.args.translator.now.page f.page f.few))
 
-pub by_output-inputs-init : goal.by_output-inputs-init
-by_output-inputs-init g t c = rw c.power-page.ensures (record {
+pub by_inputs-inputs-init : goal.by_inputs-inputs-init
+by_inputs-inputs-init g t c = rw c.power-page.ensures (record {
   agree = mod-mod c.args.y (2 ^ c.args.translator.now.page);
   few = omega (arith, mod-le c.args.y (2 ^ c.args.translator.now.page), power_below c.args.translator.now.reach (c.requires.stage.ready.formed c.args.unit c.args.translator.now c.requires.unit).reach, c.requires.reached);
+  free = none_free (g.Q.Quest.sought c.args.quest.now).slots c.args.unit (c.args.y % 2 ^ c.args.translator.now.page / 2 ^ c.args.translator.now.page);
   below = inputs_begun (g.Q.Quest.sought c.args.quest.now) c.args.stage.count (hops_view c.args.stage.chosen) c.args.unit c.args.port c.args.y c.args.translator.now c.requires.more c.requires.unit;
 })
 
-pub by_output-returns-in-Some : goal.by_output-returns-in-Some
-by_output-returns-in-Some g t c = found_first (g.Q.Quest.sought c.args.quest.now) (to_output c.args.stage.count (hops_view c.args.stage.chosen) c.args.unit c.args.port c.args.y) c.inputs.x c.in-Some.placement c.inputs.invariant.below (rw c.in-Some.is at (answered_input (g.Q.Quest.sought c.args.quest.now) c.args.stage.count (hops_view c.args.stage.chosen) c.args.unit c.args.port c.args.y c.inputs.x c.in_ok-placement.field-0 c.in_ok-placement.ensures))
+pub by_inputs-returns-in-Some : goal.by_inputs-returns-in-Some
+by_inputs-returns-in-Some g t c = found_first (g.Q.Quest.sought c.args.quest.now) (to_output c.args.stage.count (hops_view c.args.stage.chosen) c.args.unit c.args.port c.args.y) c.inputs.x c.in-Some.placement c.inputs.invariant.below (rw c.in-Some.is at (answered_input (g.Q.Quest.sought c.args.quest.now) c.args.stage.count (hops_view c.args.stage.chosen) c.args.unit c.args.port c.args.y c.inputs.x c.in_ok-placement.field-0 c.in_ok-placement.ensures))
 
-pub by_output-inputs-preserved : goal.by_output-inputs-preserved
-by_output-inputs-preserved g t c = record {
-  agree = c.next_input-next.ensures.agree ∙ c.inputs.invariant.agree;
-  few = omega (arith, c.next_input-next.ensures.few);
-  below = inputs_barred (g.Q.Quest.sought c.args.quest.now) c.args.stage.count (hops_view c.args.stage.chosen) c.args.unit c.args.port c.args.y c.inputs.x c.next_input-next.result c.args.translator.now c.requires.more c.requires.unit c.inputs.invariant.agree c.next_input-next.ensures.barred c.inputs.invariant.below;
+pub by_inputs-inputs-preserved : goal.by_inputs-inputs-preserved
+by_inputs-inputs-preserved g t c = record {
+  agree = c.next_try-tried.ensures.agree ∙ c.inputs.invariant.agree;
+  few = omega (arith, c.next_try-tried.ensures.few);
+  free = free_onward (g.Q.Quest.sought c.args.quest.now).slots c.args.unit c.inputs.x c.next_try-tried.result.x c.args.translator.now.page c.next_try-tried.result.free c.next_try-tried.ensures.onward c.next_try-tried.ensures.free;
+  below = inputs_useless (g.Q.Quest.sought c.args.quest.now) c.args.stage.count (hops_view c.args.stage.chosen) c.args.unit c.args.port c.args.y c.inputs.x c.next_try-tried.result (c.args.stage.count - c.count-place.result) c.args.translator.now c.requires.stage.ready c.requires.more (omega (arith, c.count-place.ensures)) c.requires.unit c.inputs.invariant.agree c.next_try-tried.ensures.useless c.inputs.invariant.below;
 }
 
-pub by_output-returns : goal.by_output-returns
-by_output-returns g t c =
+pub by_inputs-returns : goal.by_inputs-returns
+by_inputs-returns g t c =
     let same : c.request-size.result.size ≡ (g.Q.Quest.sought c.args.quest.now).request.size = ap (λ (r : Request). r.size) c.request-size.ensures in
     let past : c.args.translator.now.slots * 2 ^ c.args.translator.now.page < c.inputs.x + c.request-size.result.size = subst (λ (n : ℕ). c.args.translator.now.slots * n < c.inputs.x + c.request-size.result.size) c.power-page.ensures (subst (λ (n : ℕ). n * c.power-page.result < c.inputs.x + c.request-size.result.size) c.from.ensures c.inputs-test.false) in
     inputs_done (g.Q.Quest.sought c.args.quest.now) c.args.stage.count (hops_view c.args.stage.chosen) c.args.unit c.args.port c.args.y c.inputs.x c.args.translator.now c.requires.more c.requires.unit (omega (arith, past, same)) c.inputs.invariant.below
 
-pub by_output-overflow_add-x-then-next-x : goal.by_output-overflow_add-x-then-next-x
-by_output-overflow_add-x-then-next-x g t c =
+pub by_inputs-overflow_add-x-then-next-x : goal.by_inputs-overflow_add-x-then-next-x
+by_inputs-overflow_add-x-then-next-x g t c =
     let f = c.requires.stage.ready.formed c.args.unit c.args.translator.now c.requires.unit in
     omega (arith, page_few c.args.translator.now.page f.page, c.power-page.ensures, c.inputs.invariant.few)
 
-pub by_output-inputs-preserved-then-next-x : goal.by_output-inputs-preserved-then-next-x
-by_output-inputs-preserved-then-next-x g t c = rw c.power-page.ensures (record {
+pub by_inputs-inputs-preserved-then-next-x : goal.by_inputs-inputs-preserved-then-next-x
+by_inputs-inputs-preserved-then-next-x g t c = rw c.power-page.ensures (record {
   agree = next_agrees c.inputs.x (2 ^ c.args.translator.now.page) (pow_pos c.args.translator.now.page) ∙ c.inputs.invariant.agree;
   few =
       let f = c.requires.stage.ready.formed c.args.unit c.args.translator.now c.requires.unit in
       let within : c.inputs.x + c.request-size.result.size ≤ c.args.translator.now.slots * 2 ^ c.args.translator.now.page = subst (λ (n : ℕ). c.inputs.x + c.request-size.result.size ≤ c.args.translator.now.slots * n) c.power-page.ensures (subst (λ (n : ℕ). c.inputs.x + c.request-size.result.size ≤ n * c.power-page.result) c.from.ensures c.inputs-test.true) in
       omega (arith, page_few c.args.translator.now.page f.page, input_bound c.args.translator.now.slots c.args.translator.now.page f.page f.few, within);
+  free = free_onward (g.Q.Quest.sought c.args.quest.now).slots c.args.unit c.inputs.x (c.inputs.x + 2 ^ c.args.translator.now.page) c.args.translator.now.page c.next_try-tried.result.free (omega arith) c.next_try-tried.ensures.free;
   below = inputs_leapt (g.Q.Quest.sought c.args.quest.now) c.args.stage.count (hops_view c.args.stage.chosen) c.args.unit c.args.port c.args.y c.inputs.x c.args.translator.now c.requires.more c.requires.unit c.inputs.invariant.agree c.inputs.invariant.below (rw c.in_default.is at (answered_input (g.Q.Quest.sought c.args.quest.now) c.args.stage.count (hops_view c.args.stage.chosen) c.args.unit c.args.port c.args.y c.inputs.x c.in_ok-placement.field-0 c.in_ok-placement.ensures));
 })
 
@@ -190,7 +267,3 @@ by_input-by_hops-requires g t c =
     let chosen : IsChosen (g.Q.Quest.sought c.args.quest.now) c.args.stage.count (hops_view c.behind-chosen.result) = subst (λ (l : List Hop). IsChosen (g.Q.Quest.sought c.args.quest.now) c.args.stage.count l) (sym c.behind-chosen.ensures) next in
     let longer : length (hops_view c.behind-chosen.result) ≡ suc (length (hops_view c.args.stage.chosen)) = ap length c.behind-chosen.ensures in
     search rules
-
-pub by_input-returns-then-not-is_allowed : goal.by_input-returns-then-not-is_allowed
-by_input-returns-then-not-is_allowed g t c = none_ending (g.Q.Quest.sought c.args.quest.now) c.args.stage.count (hops_view c.args.stage.chosen) c.args.hop.unit c.args.hop.port c.args.hop.y c.args.hop.x
-    (not_allowed (g.Q.Quest.sought c.args.quest.now) c.args.stage.count (hops_view c.args.stage.chosen) c.args.hop.unit c.args.hop.port c.args.hop.y c.args.hop.x c.args.translator.now c.args.stage.reach.now.entry c.requires.stage.ready c.requires.stage.entry c.requires.more (omega (arith, c.is_allowed.ensures.first c.if-not-is_allowed.true, c.count.ensures)) c.requires.unit (λ none. c.is_allowed.ensures.asked c.if-not-is_allowed.true (c.at.ensures ∙ none)) (c.is_allowed.ensures.other c.if-not-is_allowed.true))

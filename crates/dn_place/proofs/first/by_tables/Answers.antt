@@ -7,6 +7,7 @@ use Rattle.dn_kind.specs.Kind.{Meaning}
 use Rattle.dn_placement.specs.Exposure.{IsAdmissible}
 use Rattle.dn_placement.specs.Placement.{IsPlacement}
 use Rattle.dn_place.specs.Hops.{hops_view}
+use Rattle.dn_place.specs.Reaches.{IsReach}
 use Rattle.dn_place.specs.Slots.{slot_of}
 use Rattle.dn_place.specs.Sought.{Sought, slot_count}
 use Rattle.dn_place.proofs.Readies.{slot_in_set}
@@ -26,3 +27,9 @@ first_of-requires-clause-sound g c =
       can_test = λ v hops own p. (c.requires.system, (c.requires.fits, (c.requires.rights, (slice_get_within (hops_view hops) own p.own p.is_own, subst (λ (s : Sought). IsPlacement s.net s.slots s.request (record { v = v; hops = hops_view hops; own = own })) c.requires.aim p))));
       is_tested = λ v hops own answer p posted. subst (λ (s : Sought). IfOk answer (λ yes. IsTrue yes ↔ IsAdmissible s.net s.slots.held s.request (record { v = v; hops = hops_view hops; own = own }))) (sym c.requires.aim) posted.1;
     }
+
+pub first_of-requires-clause-reach : goal.first_of-requires-clause-reach
+first_of-requires-clause-reach g c = subst (λ (s : Sought). IsReach s.net s.request.agent c.args.reach.now) (sym c.requires.aim) c.requires.reach
+
+pub first_of-requires-clause-at : goal.first_of-requires-clause-at
+first_of-requires-clause-at g c = sym (ap (λ (s : Sought). s.at) c.requires.aim)

@@ -1,5 +1,7 @@
-use Rattle.dn_place.proofs.Readies.{ready}
 use Rattle.dn_place.proofs.first.first.Goals as goal
 
-pub by_tables-requires-clause-ready : goal.by_tables-requires-clause-ready
-by_tables-requires-clause-ready g c = ready c.args.system.net.now _ c.args.request.now c.args.at c.requires.system.legal.legal c.requires.agent c.requires.some c.requires.buffer
+pub returns : goal.returns
+returns g c = record {
+  first = rw c.in_ok-reach.ensures.at at c.first_from.ensures.first;
+  none = rw c.in_ok-reach.ensures.at at c.first_from.ensures.none;
+}

@@ -1,11 +1,12 @@
-use Rattle.std.proofs.Common.{◌+◌, ◌*◌, ◌/◌, ◌%◌, ◌^◌, ◌≤◌, arith, subst}
+use Rattle.std.proofs.Common.{◌+◌, ◌*◌, ◌/◌, ◌%◌, ◌^◌, ◌<◌, ◌≤◌, inl, inr, arith, subst, sym}
+use Rattle.std.proofs.lemmas.Bool.{cases_lt}
 use Rattle.dn_view.proofs.Pages.{power_below}
 use Rattle.dn_place.specs.declared.slot.Slot.{Slot}
-use Rattle.dn_place.specs.Slots.{AreShut, slot_of}
+use Rattle.dn_place.specs.Slots.{AreFreeTo, AreShut, slot_of}
 use Rattle.dn_place.proofs.Nexts.{shut_bars}
 use Rattle.dn_place.proofs.Pages.{input_bound, past_bound, quotient_within}
 use Rattle.dn_place.proofs.slots.next_input.Given.{Over}
-use Rattle.dn_place.proofs.slots.next_input.Goals.{After-past_slot-next}
+use Rattle.dn_place.proofs.slots.next_input.Goals.{After-free_end-end, After-past_slot-next}
 use Rattle.dn_place.proofs.slots.next_input.Goals as goal
 
 -- the input past the slot is below a bound
@@ -13,6 +14,16 @@ low : (g : Over) (c : After-past_slot-next g) → c.past_slot-next.result * 2 ^ 
 low g c =
     let f = c.requires.ready.formed _ _ c.requires.within.unit in
     past_bound c.past_slot-next.result c.args.translator.now.page c.args.translator.now.slots c.args.hop.x f.page f.few (omega (arith, c.slots_of_hop-slots.ensures.below, c.in-Some.ensures.up_to, c.past_slot-next.ensures.most))
+
+-- the slots from the first of the hop's on are free before the end
+free_here : (g : Over) (c : After-free_end-end g) → AreFreeTo (g.Q.Quest.sought c.args.quest.now).slots c.args.hop.unit (c.args.hop.x / 2 ^ c.args.translator.now.page) c.free_end-end.result
+free_here g c = λ slot a b. elim (cases_lt slot c.args.free) [
+  | inl l ↦ c.requires.free slot a l
+  | inr l ↦ c.free_end-end.ensures slot (omega (arith, c.max.ensures, c.slots_of_hop-slots.ensures.first, a, l)) b
+]
+
+pub last_unusable-requires-clause-free : goal.last_unusable-requires-clause-free
+last_unusable-requires-clause-free g c = subst (λ n. AreFreeTo (g.Q.Quest.sought c.args.quest.now).slots c.args.hop.unit n c.free_end-end.result) (sym c.slots_of_hop-slots.ensures.first) (free_here g (goal.at.last_unusable-requires-clause-free g c).After-free_end-end)
 
 pub last_unusable-requires-clause-page : goal.last_unusable-requires-clause-page
 last_unusable-requires-clause-page g c =
@@ -22,11 +33,11 @@ last_unusable-requires-clause-page g c =
 pub past_slot-next-requires-clause-few : goal.past_slot-next-requires-clause-few
 past_slot-next-requires-clause-few g c = omega (arith, c.slots_of_hop-slots.ensures.few, c.in-Some.ensures.up_to)
 
-pub overflow_mul-result : goal.overflow_mul-result
-overflow_mul-result g c = rw (c.from.ensures, c.slots_of_hop-slots.ensures.page) (omega (arith, low g (goal.at.overflow_mul-result g c).After-past_slot-next))
+pub overflow_mul-x : goal.overflow_mul-x
+overflow_mul-x g c = rw (c.from.ensures, c.slots_of_hop-slots.ensures.page) (omega (arith, low g (goal.at.overflow_mul-x g c).After-past_slot-next))
 
-pub overflow_add-result : goal.overflow_add-result
-overflow_add-result g c = rw (c.from.ensures, c.slots_of_hop-slots.ensures.page) (omega (arith, low g (goal.at.overflow_add-result g c).After-past_slot-next))
+pub overflow_add-x : goal.overflow_add-x
+overflow_add-x g c = rw (c.from.ensures, c.slots_of_hop-slots.ensures.page) (omega (arith, low g (goal.at.overflow_add-x g c).After-past_slot-next))
 
 pub returns-in-Some-clause-few : goal.returns-in-Some-clause-few
 returns-in-Some-clause-few g c = rw (c.from.ensures, c.slots_of_hop-slots.ensures.page) (low g (goal.at.returns-in-Some-clause-few g c).After-past_slot-next)
@@ -41,3 +52,9 @@ pub returns-in-None-clause-few : goal.returns-in-None-clause-few
 returns-in-None-clause-few g c =
     let f = c.requires.ready.formed _ _ c.requires.within.unit in
     omega (arith, input_bound c.args.translator.now.slots c.args.translator.now.page f.page f.few, c.requires.within.ends)
+
+pub returns-in-Some-clause-free : goal.returns-in-Some-clause-free
+returns-in-Some-clause-free g c = free_here g (goal.at.returns-in-Some-clause-free g c).After-free_end-end
+
+pub returns-in-None-clause-free : goal.returns-in-None-clause-free
+returns-in-None-clause-free g c = free_here g (goal.at.returns-in-None-clause-free g c).After-free_end-end

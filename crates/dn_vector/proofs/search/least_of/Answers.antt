@@ -11,7 +11,7 @@ loop-vector-preserved g c =
     let book = c.args.asked.book.now.grants in
     let here : HasNoPlace net book c.args.asked.agent c.args.asked.line c.args.asked.node c.loop-vector.vector =
     subst (λ rq. NoneSuited net (slots_of net book) rq (Some c.args.asked.line)) c.vector_request-request.ensures
-    (c.in_ok-placement.ensures.none c.in_default.is) in
+    (subst (λ at. NoneSuited net (slots_of net book) c.vector_request-request.result at) c.requires.line (c.in_ok-placement.ensures.none c.in_default.is)) in
     λ a from to. elim (cases_lt a c.loop-vector.vector) [
       | inl before ↦ c.loop-vector.invariant a from before
       | inr last ↦ subst (λ v. HasNoPlace net book c.args.asked.agent c.args.asked.line c.args.asked.node v) (omega arith) here
@@ -25,7 +25,7 @@ returns-in-Some-clause-found g c =
       from = c.loop-vector.auto.vector;
       to = omega arith;
       first = subst (λ rq. IsFirst net (slots_of net book) rq (Some c.args.asked.line) c.in-Some.placement) c.vector_request-request.ensures
-          (rw c.in-Some.is at c.in_ok-placement.ensures.first);
+          (subst (λ at. IsFirst net (slots_of net book) c.vector_request-request.result at c.in-Some.placement) c.requires.line (rw c.in-Some.is at c.in_ok-placement.ensures.first));
       least = c.loop-vector.invariant;
     }
 

@@ -7,12 +7,11 @@ use Rattle.dn_interval.specs.Spans.{in_span}
 use Rattle.dn_net.specs.declared.node.Unit.{Unit as UnitPart}
 use Rattle.dn_net.specs.Decode.{unit_at}
 use Rattle.dn_net.proofs.Steps.{ports_at}
-use Rattle.dn_kind.specs.Tables.{Held, AreHeld, record_allowing}
+use Rattle.dn_kind.specs.Tables.{Held, record_allowing}
 use Rattle.dn_tables.specs.Set.{record_kept}
 use Rattle.dn_view.specs.Courses.{course_records}
 use Rattle.dn_view.specs.Passes.{part_gives, names_go, outputs, seg_name}
 use Rattle.dn_view.proofs.Cuts.{slots_more, slots_none, slots_all, none_leads, none_pushed}
-use Rattle.dn_view.proofs.Courses.{system_held}
 use Rattle.dn_view.proofs.pass.pass_seg.Goals as goal
 
 pub leads_on-requires : goal.leads_on-requires
@@ -51,8 +50,7 @@ returns g c a z =
     let s = c.args.seg in
     let at : unit_at net s.node ≡ Some c.in-Some.unit.now = sym c.unit_of.ensures ∙ ap option_copied c.in-Some.is in
     let u : UnitPart = c.in-Some.unit.now in
-    let kept : AreHeld net (record_kept (map (λ k. (goal.UnitKind-dyn g (k.vtable, k.value)).meaning k.value) c.args.course.system.kinds.now.list.items) c.args.course.tables.now) = system_held (λ k. (goal.UnitKind-dyn g (k.vtable, k.value)).meaning k.value) c.args.course.system c.args.course.tables.now c.requires.system c.requires.fits in
     let over : c.slot_range-range.result.1 ≤ c.loop-slot.slot = c.loop-slot-test.false in
     slots_all net h next s u c.slot_range-range.result.0 c.slot_range-range.result.1 c.loop-slot.slot a z (segs_give c.args.out.now.items a z) (segs_give c.loop-slot.out.items a z) at over
-    (λ slot first last out. ap (record_allowing c.args.course.access) (c.slot_range-range.ensures.rest (record_kept (map (λ k. (goal.UnitKind-dyn g (k.vtable, k.value)).meaning k.value) c.args.course.system.kinds.now.list.items) c.args.course.tables.now) slot kept first last out))
+    (λ slot first last out. ap (record_allowing c.args.course.access) (c.slot_range-range.ensures.rest (record_kept (map (λ k. (goal.UnitKind-dyn g (k.vtable, k.value)).meaning k.value) c.args.course.system.kinds.now.list.items) c.args.course.tables.now) slot c.held_end-end.ensures.none first last out))
     (c.loop-slot.invariant.so_far a z)

@@ -1,0 +1,80 @@
+//! Which input a hop can have next.
+
+ghost use Rattle.std.specs.Prelude.{◌≡◌, ℕ, ◌+◌, ◌-◌, ◌*◌, ◌/◌, ◌%◌, ◌^◌, ◌<◌, ◌≤◌};
+ghost use Rattle.dn_interval.specs.declared.span.TheConstants.{TOP};
+ghost use Rattle.dn_place.specs.Terms.{AreFreeTo, AreUsable, AreUseless, HasCrowd, IsSearchReady, IsWithin};
+
+use crate::quest::Quest;
+use crate::slots::{Input, next_input, power};
+use dn_net::node::Unit;
+use dn_tables::placement::Hop;
+
+/// The first input of a unit from the hop's on, in its place in a slot, that may serve a hop at this place
+/// from the agent's end. Where it is the hop's own, it finds its slots usable. The slots from the first of
+/// the hop's on are known to be free before a slot, and are then known to be free before the one that is
+/// answered.
+pub(crate) fn next_try<Q: Quest>(
+    quest: &Q,
+    place: u8,
+    translator: &Unit,
+    hop: Hop,
+    free: u32,
+) -> Input
+    requires sound { Q.is_sound quest.now }
+    requires ready { IsSearchReady (Q.sought quest.now) }
+    requires within { IsWithin (Q.sought quest.now) translator.now hop }
+    requires reached { hop.y + (Q.sought quest.now).request.size ≤ 2 ^ translator.now.reach }
+    requires free { AreFreeTo (Q.sought quest.now).slots hop.unit
+        (hop.x / 2 ^ translator.now.page) free }
+    ensures onward { hop.x ≤ result.x }
+    ensures agree { result.x % 2 ^ translator.now.page ≡ hop.x % 2 ^ translator.now.page }
+    ensures few { result.x ≤ 2 ^ 59 }
+    ensures useless { AreUseless (Q.sought quest.now) translator.now place hop result.x }
+    ensures free { AreFreeTo (Q.sought quest.now).slots hop.unit
+        (hop.x / 2 ^ translator.now.page) result.free }
+    ensures usable { result.x ≡ hop.x → AreUsable (Q.sought quest.now).slots hop.unit
+        (hop.x / 2 ^ translator.now.page)
+        ((hop.x + (Q.sought quest.now).request.size - 1) / 2 ^ translator.now.page)
+        hop.port (hop.y / 2 ^ translator.now.page) }
+{
+    if place == 1 {
+        let past = past_crowd(quest, translator, hop);
+        if past != hop.x {
+            return Input { x: past, free };
+        }
+    }
+    next_input(quest, translator, hop, free)
+}
+
+/// The first input of a unit from the hop's on, in its place in a slot, past names that are known to be
+/// reached by two addresses of agents.
+fn past_crowd<Q: Quest>(quest: &Q, translator: &Unit, hop: Hop) -> u64
+    requires sound { Q.is_sound quest.now }
+    requires ready { IsSearchReady (Q.sought quest.now) }
+    requires within { IsWithin (Q.sought quest.now) translator.now hop }
+    ensures onward { hop.x ≤ result }
+    ensures agree { result % 2 ^ translator.now.page ≡ hop.x % 2 ^ translator.now.page }
+    ensures few { result ≤ 2 ^ 59 }
+    ensures crowded { (x : ℕ) → hop.x ≤ x → x < result →
+        x % 2 ^ translator.now.page ≡ hop.x % 2 ^ translator.now.page →
+        HasCrowd (Q.sought quest.now) hop.unit x }
+{
+    match quest.crowd(hop.unit, hop.x, quest.request().size) {
+        Some(span) => past_last(hop.x, span.hi, power(translator.page)),
+        None => hop.x,
+    }
+}
+
+/// The first number past another that agrees with one modulo the page.
+fn past_last(x: u64, last: u64, page: u64) -> u64
+    requires onward { x ≤ last }
+    requires within { last ≤ TOP }
+    requires some { 1 ≤ page }
+    requires few { page ≤ 2 ^ 40 }
+    ensures past { last < result }
+    ensures next { result ≤ last + page }
+    ensures agree { result % page ≡ x % page }
+{
+    let rest = x % page;
+    ((last - rest) / page + 1) * page + rest
+}

@@ -1,0 +1,96 @@
+//! Where the hops of an agent's requests can stand: made once for all of its requests at an address.
+
+ghost use Rattle.std.specs.Prelude.{◌≡◌, ℕ, false, slice_get, Some, None, IfOk, IfSome, IsTrue};
+ghost use Rattle.dn_net.specs.Terms.{is_agent_at};
+ghost use Rattle.dn_view.specs.Terms.{IsSystem};
+ghost use Rattle.dn_place.specs.Terms.{IsReach, mark_at};
+
+use crate::entry::entry_of;
+use crate::ground::Ground;
+use crate::marks::{after, from_agent, has_mark, units_of};
+use dn_base::OutOfMemory;
+use dn_interval::End;
+use dn_view::system::System;
+use std::alloc::Global;
+
+/// Where the hops of an agent's requests can stand; where an address is asked for, of those at it: for each node whether a first, a second or a third hop from the agent's end can stand in it.
+#[derive(Drop)]
+pub struct Reach {
+    /// The address that is asked for, if one is.
+    pub(crate) at: Option<u64>,
+    /// The numbers of the units, ascending.
+    pub(crate) units: Vec<u16>,
+    pub(crate) first: Vec<bool>,
+    pub(crate) second: Vec<bool>,
+    pub(crate) third: Vec<bool>,
+    /// The stop of the address that is asked for, if one is and it has one.
+    pub(crate) entry: Option<End>,
+}
+
+/// Where the hops of an agent's requests can stand; where an address is given, of those at this address.
+/// `Err` is want of memory.
+pub fn reach_of(
+    alloc: Global,
+    system: System,
+    agent: u16,
+    at: Option<u64>,
+) -> Result<Reach, OutOfMemory>
+    requires system { IsSystem (λ k. meaning (k.vtable, k.value)) system }
+    requires agent { IsTrue (is_agent_at (slice_get system.net.now agent)) }
+    ensures reach { IfOk result (λ r. IsReach system.entry.net.now agent r) }
+    ensures at { IfOk result (λ r. r.at ≡ at) }
+{
+    let ground = Ground {
+        net: system.net,
+        flats: system.flats,
+    };
+    let entry = entry_of(ground, agent, at);
+    let units = units_of(alloc, ground)?;
+    let first = from_agent(alloc, ground, agent)?;
+    let second = after(alloc, ground, &first)?;
+    let third = after(alloc, ground, &second)?;
+    Ok(Reach {
+        at,
+        units,
+        first,
+        second,
+        third,
+        entry,
+    })
+}
+
+/// Whether a hop at this place from the agent's end can stand in the unit.
+pub(crate) fn can_stand(reach: &Reach, place: u8, unit: u16) -> bool
+    ensures { result ≡ mark_at reach.now.first.items reach.now.second.items
+        reach.now.third.items place unit }
+{
+    if place == 1 {
+        has_mark(&reach.first, unit)
+    } else if place == 2 {
+        has_mark(&reach.second, unit)
+    } else {
+        has_mark(&reach.third, unit)
+    }
+}
+
+/// Whether a hop at this place from the agent's end can stand in the unit, by the address that is asked
+/// for.
+pub(crate) fn can_enter(reach: &Reach, place: u8, unit: u16) -> bool
+    ensures first { result ≡ false → place ≡ 1 }
+    ensures asked { result ≡ false → reach.now.entry ≡ None → ⊥ }
+    ensures other { result ≡ false → (x : ℕ) →
+        reach.now.entry ≡ Some (record { node = unit; base = x }) → ⊥ }
+{
+    match entry_at(reach, place) {
+        Some(entry) => entry.node == unit,
+        None => true,
+    }
+}
+
+/// The one name that a hop at this place from the agent's end can enter, where there is but one.
+pub(crate) fn entry_at(reach: &Reach, place: u8) -> Option<End>
+    ensures first { IfSome result (λ z. place ≡ 1) }
+    ensures entry { IfSome result (λ z. reach.now.entry ≡ Some z) }
+{
+    if place == 1 { reach.entry } else { None }
+}
