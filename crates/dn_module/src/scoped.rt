@@ -1,0 +1,82 @@
+//! The full names to which the statements of a body refer.
+
+ghost use Rattle.std.specs.Prelude.{◌≡◌, ◌++◌, IfOk, IfSome};
+ghost use Rattle.std.specs.Rc.{rc_str_bytes};
+ghost use Rattle.std.specs.String.{string_bytes};
+
+use crate::shared::SharedName;
+use std::alloc::{AllocError, Global};
+use std::marker::Model;
+use std::rc::RcStr;
+
+/// A full name as a body has it: the full name of the use in whose body it stands, which all names of that
+/// body share, and the text behind it. Contracts see the list of all its bytes.
+#[derive(Drop)]
+pub struct ScopedName {
+    /// The full name of the use, where it stands in the body of one.
+    front: Option<SharedName>,
+    /// What stands behind it.
+    own: RcStr,
+}
+
+impl Model for ScopedName {
+    ghost use Rattle.std.specs.Prelude.{List, ℕ, [], ◌++◌, unwrap_or};
+    ghost use Rattle.std.specs.Rc.{rc_str_bytes};
+
+    ghost Value = { List ℕ };
+
+    ghost view = { λ n. unwrap_or n.front [] ++ rc_str_bytes n.own };
+}
+
+impl ScopedName {
+    /// The name of a text outside of modules. It takes no memory.
+    pub fn outside(own: RcStr) -> ScopedName
+        ensures { result ≡ rc_str_bytes own }
+    {
+        ScopedName { front: None, own }
+    }
+
+    /// The name in the body of a use, behind whose full name the text stands. It takes no memory.
+    pub fn within(front: SharedName, own: RcStr) -> ScopedName
+        ensures { result ≡ front ++ rc_str_bytes own }
+    {
+        ScopedName {
+            front: Some(front),
+            own,
+        }
+    }
+
+    /// The same name once more. Only the numbers of owners are changed.
+    pub fn share(&self) -> Result<ScopedName, AllocError>
+        ensures { IfOk result (λ n. n ≡ self.now) }
+    {
+        let front = match &self.front {
+            Some(front) => Some(front.share()?),
+            None => None,
+        };
+        let own = self.own.clone()?;
+        Ok(ScopedName { front, own })
+    }
+
+    /// The whole text, where it is in one piece.
+    pub fn whole(&self) -> Option<&str>
+        ensures { IfSome result (λ t. t.now ≡ self.now) }
+    {
+        match &self.front {
+            Some(_) => None,
+            None => Some(self.own.as_str()),
+        }
+    }
+
+    /// A copy of the whole text.
+    pub fn to_text(&self, alloc: Global) -> Result<String, AllocError>
+        ensures { IfOk result (λ t. string_bytes t ≡ self.now) }
+    {
+        let mut text = String::new(alloc);
+        if let Some(front) = &self.front {
+            text.push_str(front.as_str())?;
+        }
+        text.push_str(self.own.as_str())?;
+        Ok(text)
+    }
+}
