@@ -23,6 +23,7 @@ mod scope;
 mod scoped;
 mod shared;
 mod stack;
+pub mod text_table;
 mod titles;
 mod uses;
 mod values;
