@@ -1,6 +1,6 @@
 //! Different texts with their numbers.
 
-ghost use Rattle.std.specs.Prelude.{◌≡◌, [], ◌∷◌, ◌++◌, if◌then◌else◌, not, false, length, map, position, IfOk, OnOk, OnErr};
+ghost use Rattle.std.specs.Prelude.{◌≡◌, ◌<◌, [], ◌∷◌, ◌++◌, if◌then◌else◌, not, false, length, map, position, IfOk, IfSome, OnOk, OnErr};
 ghost use Rattle.std.specs.List.{list_any};
 ghost use Rattle.std.specs.Rc.{rc_str_bytes};
 ghost use Rattle.std.specs.Str.{bytes_eq};
@@ -51,7 +51,8 @@ impl TextTable {
 
     /// The number of a text. `None` exactly where it is not there.
     pub fn number(&self, text: &str) -> Option<usize>
-        ensures { result ≡ position (bytes_eq text.now) self.now }
+        ensures number { result ≡ position (bytes_eq text.now) self.now }
+        ensures within { IfSome result (λ n. n < length self.now) }
     {
         match self.numbers.get(text) {
             Some(number) => Some(*number),

@@ -5,4 +5,4 @@ use Rattle.dn_module.proofs.titles.Titles.place.Goals as goal
 pub returns : goal.returns
 returns c =
     let w = c.args.word.now in
-    c.number.ensures ∙ ap (position (bytes_eq w)) (c.as_ref.ensures ∙ c.self.view_is)
+    c.number.ensures.number ∙ ap (position (bytes_eq w)) (c.as_ref.ensures ∙ c.self.view_is)
