@@ -18,11 +18,11 @@ pub struct Titles {
 }
 
 impl Model for Titles {
-    ghost use Rattle.std.specs.Prelude.{List, ℕ, map};
+    ghost use Rattle.std.specs.Prelude.{List, ℕ};
 
     ghost Value = { List (List ℕ) };
 
-    ghost view = { λ t. map (λ s. string_bytes s) t.words.value.keys };
+    ghost view = { λ t. t.words.value };
 }
 
 impl Titles {
