@@ -7,19 +7,28 @@ use Rattle.std.proofs.lemmas.Slice.Eq.{bytes_eq-Decides}
 use Rattle.std.specs.BTreeMap.{insert_entry, is_at}
 use Rattle.std.specs.Cmp.Lexicographic.{slice_cmp}
 use Rattle.std.specs.List.{list_any, prefix_len}
-use Rattle.std.specs.Option.{option_map}
+use Rattle.std.specs.Option.{is_some, option_map}
 use Rattle.std.specs.Map.{lookup}
 use Rattle.std.specs.Ordering.{is_eq, match_ordering, nat_cmp}
 use Rattle.std.specs.Str.{bytes_eq}
 use Rattle.std.specs.declared.cmp.Ordering.{Ordering}
 use Rattle.std.specs.declared.cmp.Ordering.TheVariants.{Less, Equal, Greater}
 use Rattle.dn_base.proofs.Booleans.{or_parts}
+use Rattle.dn_base.proofs.Lists.{prefix_len-any}
 use Rattle.dn_module.specs.Numbered.{AreNumbered}
 use Rattle.dn_module.proofs.Places.{first_less, next_less}
 
 -- PLACES
 
 module _ {X : Type 0} (p : X → Bool) where
+  -- a place is found exactly where an item passes
+  pub found_any : (xs : List X) → is_some (position p xs) ≡ list_any p xs
+  found_any xs = by (nat_lt (prefix_len (λ y. not (p y)) xs) (length xs)) ∙ prefix_len-any p xs
+    where
+      by : (t : Bool) → is_some (cond t (Some (prefix_len (λ y. not (p y)) xs)) None) ≡ t
+      by true = refl
+      by false = refl
+
   -- the place of a first item that passes, and of those behind it
   place_first : (x : X) (xs : List X) → position p (x ∷ xs) ≡ cond (p x) (Some 0) (option_map (λ n. 1 + n) (position p xs))
   place_first x xs = go (p x) refl

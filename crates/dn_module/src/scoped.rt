@@ -1,6 +1,6 @@
 //! The full names to which the statements of a body refer.
 
-ghost use Rattle.std.specs.Prelude.{◌≡◌, ◌++◌, IfOk, IfSome};
+ghost use Rattle.std.specs.Prelude.{◌≡◌, [], ◌++◌, IfOk, IfSome, unwrap_or};
 ghost use Rattle.std.specs.Rc.{rc_str_bytes};
 ghost use Rattle.std.specs.String.{string_bytes};
 
@@ -50,10 +50,7 @@ impl ScopedName {
     pub fn share(&self) -> Result<ScopedName, AllocError>
         ensures { IfOk result (λ n. n ≡ self.now) }
     {
-        let front = match &self.front {
-            Some(front) => Some(front.share()?),
-            None => None,
-        };
+        let front = shared_front(&self.front)?;
         let own = self.own.clone()?;
         Ok(ScopedName { front, own })
     }
@@ -72,11 +69,28 @@ impl ScopedName {
     pub fn to_text(&self, alloc: Global) -> Result<String, AllocError>
         ensures { IfOk result (λ t. string_bytes t ≡ self.now) }
     {
-        let mut text = String::new(alloc);
-        if let Some(front) = &self.front {
-            text.push_str(front.as_str())?;
-        }
+        let mut text = front_text(alloc, &self.front)?;
         text.push_str(self.own.as_str())?;
         Ok(text)
+    }
+}
+
+/// The full name of a use once more, where there is one.
+fn shared_front(front: &Option<SharedName>) -> Result<Option<SharedName>, AllocError>
+    ensures { IfOk result (λ f. f ≡ front.now) }
+{
+    match front {
+        Some(front) => Ok(Some(front.share()?)),
+        None => Ok(None),
+    }
+}
+
+/// A copy of the full name of a use, or no text where there is none.
+fn front_text(alloc: Global, front: &Option<SharedName>) -> Result<String, AllocError>
+    ensures { IfOk result (λ t. string_bytes t ≡ unwrap_or front.now []) }
+{
+    match front {
+        Some(front) => String::from_str(alloc, front.as_str()),
+        None => Ok(String::new(alloc)),
     }
 }
