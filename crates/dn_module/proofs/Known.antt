@@ -6,9 +6,7 @@ use Rattle.std.proofs.lemmas.Cmp.{nat_list_eq_equiv}
 use Rattle.std.proofs.lemmas.List.Folds.{list_any-append, list_any_at, list_all_at}
 use Rattle.std.proofs.lemmas.List.Quantifiers.{position-Some}
 use Rattle.std.proofs.lemmas.List.{map_more, map-append, take-append-drop}
-use Rattle.std.proofs.lemmas.Option.{none-some, same_Some}
-use Rattle.std.proofs.lemmas.Slice.Eq.{bytes_eq-Decides}
-use Rattle.std.specs.List.{find, list_all, list_any}
+use Rattle.std.specs.List.{list_all, list_any}
 use Rattle.std.specs.Str.{bytes_eq}
 use Rattle.dn_module.specs.declared.draft.Draft.{Draft}
 use Rattle.dn_net.specs.declared.node.NodeDecl.{NodeDecl}
@@ -28,14 +26,6 @@ is_known-None known text e = let h = prefix_len-any (bytes_eq text) known in gri
 -- a place among names that are seen by their bytes
 pub place_seen : {X : Type 0} (text : X → List ℕ) (w : List ℕ) (keys : List X) {view : List (List ℕ)} {o : Option ℕ} → map text keys ≡ view → o ≡ position (λ k. bytes_eq w (text k)) keys → o ≡ position (bytes_eq w) view
 place_seen text w keys seen is = is ∙ sym (position-map text (bytes_eq w) keys) ∙ ap (position (bytes_eq w)) seen
-
-pub kept_is : {X : Type 0} (bytes : X → List ℕ) (text : List ℕ) (xs : List X) (x : X) → find (λ k. bytes_eq text (bytes k)) xs ≡ Some x → bytes x ≡ text
-kept_is bytes text [] x at = absurd (none-some x at)
-kept_is {X} bytes text (y ∷ ys) x at = go (bytes_eq text (bytes y)) refl (λ later. kept_is bytes text ys x later) at
-  where
-    go : (same : Bool) → bytes_eq text (bytes y) ≡ same → (find (λ (k : X). bytes_eq text (bytes k)) ys ≡ Some x → bytes x ≡ text) → (if same then Some y else find (λ (k : X). bytes_eq text (bytes k)) ys) ≡ Some x → bytes x ≡ text
-    go true same later found = ap bytes (sym (same_Some y x found)) ∙ sym ((bytes_eq-Decides text (bytes y)).0 same)
-    go false same later found = later found
 
 twice_step : (a b d e : Bool) → (d ≡ true → e ≡ true) → (a || d) ≡ true → ((a || b) || e) ≡ true
 twice_step true b d e k l = refl

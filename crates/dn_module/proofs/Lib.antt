@@ -10,6 +10,7 @@ pub mod Limits
 pub mod Replaced
 pub mod Scopes
 pub mod Naming
+pub mod Numbers
 pub mod Unreplaced
 pub mod Works
 pub mod Whole

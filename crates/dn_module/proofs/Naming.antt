@@ -1,5 +1,5 @@
 -- Modules by their names, and the words of their parameters.
-use Rattle.std.proofs.Common.{◌≡◌, ◌∙◌, ap, sym, refl, arith, ℕ, zero, suc, ◌+◌, ◌<◌, ◌≤◌, nat_lt, Bool, true, false, not, ◌||◌, cond, List, [], ◌∷◌, ◌++◌, length, map, take, drop, get_or, slice_get, position, is_some, Option, Some, None, Result, Ok, Err, OnOk, OnErr}
+use Rattle.std.proofs.Common.{◌≡◌, ◌∙◌, ap, sym, refl, arith, ℕ, zero, suc, ◌+◌, ◌<◌, ◌≤◌, nat_lt, Bool, true, false, not, if◌then◌else◌, ◌||◌, cond, List, [], ◌∷◌, ◌++◌, length, map, take, drop, get_or, slice_get, position, is_some, Option, Some, None, Result, Ok, Err, OnOk, OnErr}
 use Rattle.std.proofs.lemmas.Bool.Decides.{nat_tests}
 use Rattle.std.proofs.lemmas.Bool.{ltb-false, ltb-true}
 use Rattle.std.proofs.lemmas.List.{length-map, map_more, map-append, take-append-drop, take_all}
@@ -14,7 +14,6 @@ use Rattle.dn_module.specs.Stack.{sees, known_view}
 use Rattle.dn_module.proofs.Known.{twice-push, twice-append}
 use Rattle.dn_module.proofs.Limits.{found_is}
 use Rattle.dn_module.proofs.Scopes.{at_any}
-use Rattle.dn_base.proofs.Lists.{list_any-map}
 use Rattle.dn_base.proofs.Orders.{one-add}
 use Rattle.dn_module.specs.Faults.{is_duplicate}
 
@@ -159,25 +158,21 @@ module _ (ps : List CodeParam) (i : ℕ) (d : CodeParam) (h : i < length ps) whe
       ap (λ (q : CodeParam). param_words (take i ps) ++ word_of_param (param_view q) ∷ []) (at_any ps i d h)
       ∙ sym (map_more (λ (q : CodeParam). word_of_param (param_view q)) ps i (get_or ps i d) h)
 
--- a word that was put among others, by the answer of the set that keeps them
-module _ {S : Type 0} (text : S → List ℕ) (keys : List S) (key : S) where
-  pub was_known : (words : List (List ℕ)) (w : List ℕ) (is_new : Bool) → is_new ≡ not (list_any (λ k. bytes_eq (text key) (text k)) keys) → text key ≡ w → map text keys ≡ words → is_known words w ≡ not is_new
-  was_known words w is_new e t k =
-      ap (is_known words) (sym t)
-      ∙ ap (λ l. is_known l (text key)) (sym k)
-      ∙ list_any-map text (bytes_eq (text key)) keys
-      ∙ twice_not (list_any (λ k. bytes_eq (text key) (text k)) keys)
+-- a word that was put among others, by the answer of the table that keeps them
+module _ (words : List (List ℕ)) (word : List ℕ) where
+  pub was_known : (ws : List (List ℕ)) (w : List ℕ) (is_new : Bool) → is_new ≡ not (list_any (bytes_eq word) words) → word ≡ w → words ≡ ws → is_known ws w ≡ not is_new
+  was_known ws w is_new e t k =
+      ap (is_known ws) (sym t)
+      ∙ ap (λ l. is_known l word) (sym k)
+      ∙ twice_not (list_any (bytes_eq word) words)
       ∙ ap not (sym e)
     where
       twice_not : (b : Bool) → b ≡ not (not b)
       twice_not true = refl
       twice_not false = refl
 
-  pub put_last : (now : List S) (is_new : Bool) → is_new ≡ not (list_any (λ k. bytes_eq (text key) (text k)) keys) → is_new ≡ true → now ≡ cond (list_any (λ k. bytes_eq (text key) (text k)) keys) keys (keys ++ key ∷ []) → map text now ≡ map text keys ++ text key ∷ []
-  put_last now is_new e n is = go (list_any (λ k. bytes_eq (text key) (text k)) keys) e is where
-    go : (b : Bool) → is_new ≡ not b → now ≡ cond b keys (keys ++ key ∷ []) → map text now ≡ map text keys ++ text key ∷ []
-    go true e is = cc
-    go false e is = ap (map text) is ∙ map-append text keys (key ∷ [])
+  pub put_last : (now : List (List ℕ)) (is_new : Bool) → now ≡ (if is_new then words ++ word ∷ [] else words) → is_new ≡ true → now ≡ words ++ word ∷ []
+  put_last now is_new e is = e ∙ ap (λ b. if b then words ++ word ∷ [] else words) is
 
 pub words_all : (ps : List CodeParam) (i : ℕ) → length ps ≤ i → param_words (take i ps) ≡ map word_of_param (map param_view ps)
 words_all ps i h = ap param_words (take_all i ps h) ∙ sym (words_are ps)

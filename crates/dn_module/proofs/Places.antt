@@ -19,10 +19,10 @@ use Rattle.dn_base.proofs.Orders.{one-add, le-ltb}
 no_less : (n : ℕ) → nat_lt n 0 ≡ false
 no_less n = grind (arith, nat_tests)
 
-first_less : (k : ℕ) → nat_lt 0 (suc k) ≡ true
+pub first_less : (k : ℕ) → nat_lt 0 (suc k) ≡ true
 first_less k = grind (arith, nat_tests)
 
-next_less : (n k : ℕ) → nat_lt n k ≡ nat_lt (1 + n) (suc k)
+pub next_less : (n k : ℕ) → nat_lt n k ≡ nat_lt (1 + n) (suc k)
 next_less n k = go (nat_lt n k) (nat_lt (1 + n) (suc k)) refl refl where
   go : (a b : Bool) → nat_lt n k ≡ a → nat_lt (1 + n) (suc k) ≡ b → a ≡ b
   go true true e f = refl

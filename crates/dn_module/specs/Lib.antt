@@ -9,4 +9,5 @@ pub mod Words
 pub mod Flaws
 pub mod Stack
 pub mod Machine
+pub mod Numbered
 pub mod Finish

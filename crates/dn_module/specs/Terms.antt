@@ -6,6 +6,7 @@ pub use Rattle.dn_module.specs.Faults.{expand_fault_view, flaw_fault, flaw_fault
 pub use Rattle.dn_module.specs.Finish.{outcome_of, outcome_view}
 pub use Rattle.dn_module.specs.Flaws.{Appends, Links, dots_before}
 pub use Rattle.dn_module.specs.Machine.{expansion_state_view, found_view, limit_by, replaced_by, with_declaration, works_in_front}
+pub use Rattle.dn_module.specs.Numbered.{AreNumbered}
 pub use Rattle.dn_module.specs.Replace.{Replacement, as_they_stand, in_arg, in_block, in_declaration, in_declared, in_dest, in_entry, in_expression, in_item, in_items, in_option, in_part, in_reference, in_spec, node_by, numbers_by, prefix_of, replacement_hiding, under, value_for_word, word_of_name}
 pub use Rattle.dn_module.specs.Stack.{after_works, body_view, first_works, rest_works, stack_view, turn_works, turns_works, use_view, visibility_view, work_view}
 pub use Rattle.dn_module.specs.Values.{difference, each, full_name, full_name_or_none, number_or_flaw, part_text, value, value_or_default, value_within}

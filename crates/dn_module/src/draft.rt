@@ -1,5 +1,6 @@
 //! The nodes that declarations make, before the nodes to which they refer have numbers.
 
+use crate::scoped::ScopedName;
 use crate::shared::SharedName;
 use dn_base::items::Items;
 use dn_net::node::{Block, Role};
@@ -15,7 +16,7 @@ pub struct Draft {
     pub accepts: Items<Block>,
     pub entries: Items<DraftEntry>,
     /// The full name of the node that serves the rest.
-    pub over: Option<SharedName>,
+    pub over: Option<ScopedName>,
     pub unit: Option<DraftUnit>,
 }
 
@@ -29,7 +30,7 @@ pub struct DraftEntry {
 /// A destination: the full name of its node, and the address to which the block's first one goes.
 #[derive(Drop)]
 pub struct DraftDest {
-    pub to: SharedName,
+    pub to: ScopedName,
     pub addr: u64,
 }
 
@@ -44,5 +45,5 @@ pub struct DraftUnit {
     /// Outputs are below `2^reach`.
     pub reach: u8,
     /// The full names of the nodes to which it sends.
-    pub ports: Items<SharedName>,
+    pub ports: Items<ScopedName>,
 }

@@ -10,7 +10,7 @@ ghost use Rattle.dn_base.specs.Terms.{Answers};
 use crate::draft::{Draft, DraftDest, DraftEntry, DraftUnit};
 use crate::fault::ExpandFault;
 use crate::names::NameTable;
-use crate::shared::SharedName;
+use crate::scoped::ScopedName;
 use crate::values::{Flaw, NameFault};
 use dn_base::items::Items;
 use dn_base::text::Text;
@@ -56,7 +56,7 @@ fn node_in(alloc: Global, names: &NameTable, draft: &Draft) -> Result<NodeDecl, 
     ensures links { Links result (refers_to_known names.now draft.now) }
 {
     let over = match &draft.over {
-        Some(text) => Some(number_of(names, text.as_str())?),
+        Some(name) => Some(number_of(alloc, names, name)?),
         None => None,
     };
     let unit = match &draft.unit {
@@ -74,7 +74,21 @@ fn node_in(alloc: Global, names: &NameTable, draft: &Draft) -> Result<NodeDecl, 
 }
 
 /// The number of the node with this full name.
-fn number_of(names: &NameTable, text: &str) -> Result<u16, NameFault>
+fn number_of(alloc: Global, names: &NameTable, name: &ScopedName) -> Result<u16, NameFault>
+    ensures number { IfOk result (λ n. n ≡ node_number_of names.now name.now) }
+    ensures links { Links result (is_known names.now name.now) }
+{
+    match name.whole() {
+        Some(text) => number_by_text(names, text),
+        None => {
+            let text = name.to_text(alloc)?;
+            number_by_text(names, text.as_str())
+        }
+    }
+}
+
+/// The number of the node with this text.
+fn number_by_text(names: &NameTable, text: &str) -> Result<u16, NameFault>
     ensures number { IfOk result (λ n. n ≡ node_number_of names.now text.now) }
     ensures links { Links result (is_known names.now text.now) }
 {
@@ -126,8 +140,8 @@ impl Named for DraftDest {
 
     ghost known_by = { λ known d. is_known known d.to };
 
-    fn with_numbers(&self, _alloc: Global, names: &NameTable) -> Result<Dest, NameFault> {
-        let node = number_of(names, self.to.as_str())?;
+    fn with_numbers(&self, alloc: Global, names: &NameTable) -> Result<Dest, NameFault> {
+        let node = number_of(alloc, names, &self.to)?;
         Ok(Dest {
             node,
             addr: self.addr,
@@ -150,15 +164,15 @@ impl Named for DraftEntry {
     }
 }
 
-impl Named for SharedName {
+impl Named for ScopedName {
     type Linked = u16;
 
     ghost linked_by = { λ known text. node_number_of known text };
 
     ghost known_by = { λ known text. is_known known text };
 
-    fn with_numbers(&self, _alloc: Global, names: &NameTable) -> Result<u16, NameFault> {
-        number_of(names, self.as_str())
+    fn with_numbers(&self, alloc: Global, names: &NameTable) -> Result<u16, NameFault> {
+        number_of(alloc, names, self)
     }
 }
 

@@ -9,8 +9,8 @@ use crate::drafts::Drafts;
 use crate::fault::ExpandFault;
 use crate::modules::{Module, Modules};
 use crate::nodes::draft_of;
+use crate::recent::Recent;
 use crate::scope::Scope;
-use crate::shared::Interner;
 use crate::stack::{Stack, Turns, Work};
 use crate::uses::new_use;
 use crate::values::{NameFault, value};
@@ -21,13 +21,13 @@ use std::alloc::Global;
 /// The most steps: each statement that is reached is one, and each turn of a loop.
 const MOST_STEPS: u32 = 65_536;
 
-/// What the statements so far have made: the modules that are known, the nodes, and the full names that
-/// they have and refer to.
+/// What the statements so far have made: the modules that are known, and the nodes; and the texts that were
+/// met lately in names.
 #[derive(Drop)]
 pub struct Made<'a, 't> {
     pub modules: Modules<'a, 't>,
     pub drafts: Drafts,
-    pub interner: Interner,
+    pub recent: Recent,
 }
 
 /// What the statements of a text make, or the first fault.
@@ -45,7 +45,7 @@ pub fn expand_body<'a, 't>(
     let mut made = Made {
         modules: Modules::new(alloc),
         drafts: Drafts::new(alloc),
-        interner: Interner::new(alloc),
+        recent: Recent::new(alloc),
     };
     let mut left = MOST_STEPS;
     while let Some(work) = stack.next() {
@@ -130,8 +130,8 @@ fn take<'a, 't>(
     match statement {
         Stmt::Decl { line, decl } => {
             let scope = &stack.inner.scope;
-            let (interner, drafts) = (&mut made.interner, &mut made.drafts);
-            declare(alloc, kinds, interner, scope, drafts, *line, decl)
+            let (recent, drafts) = (&mut made.recent, &mut made.drafts);
+            declare(alloc, kinds, recent, scope, drafts, *line, decl)
         }
         Stmt::Module {
             line,
@@ -150,7 +150,7 @@ fn take<'a, 't>(
             let found = made.modules.find(stack.inner.visible, title);
             let scope = &stack.inner.scope;
             let (args, prefix) = (args.as_slice(), prefix.as_slice());
-            let inner = new_use(alloc, &mut made.interner, scope, *line, found, args, prefix)?;
+            let inner = new_use(alloc, &mut made.recent, scope, *line, found, args, prefix)?;
             Ok(stack.enter(inner)?)
         }
         Stmt::Loop {
@@ -172,7 +172,7 @@ fn take<'a, 't>(
 fn declare(
     alloc: Global,
     kinds: &Kinds,
-    interner: &mut Interner,
+    recent: &mut Recent,
     scope: &Scope,
     drafts: &mut Drafts,
     line: u32,
@@ -183,7 +183,7 @@ fn declare(
         (with_declaration (map (λ k. meaning (k.vtable, k.value)) kinds.now.list.items)
         drafts.old line (in_declaration scope.now (declaration_view decl.now))) }
 {
-    match draft_of(alloc, kinds, interner, scope, line, decl) {
+    match draft_of(alloc, kinds, recent, scope, line, decl) {
         Ok(draft) => drafts.add(alloc, draft),
         Err(fault) => Err(fault.at(line)),
     }

@@ -7,8 +7,10 @@ ghost use Rattle.dn_module.specs.Terms.{bare_draft, block_of, dest_of, draft_of,
 ghost use Rattle.dn_base.specs.Terms.{Answers};
 
 use crate::draft::{Draft, DraftDest, DraftEntry, DraftUnit};
+use crate::recent::Recent;
 use crate::scope::Scope;
-use crate::shared::{Interner, SharedName};
+use crate::scoped::ScopedName;
+use crate::shared::SharedName;
 use crate::values::{Flaw, NameFault, reference, shared_name, value, value_or, value_within};
 use dn_base::items::Items;
 use dn_kind::kinds::Kinds;
@@ -20,7 +22,7 @@ use std::alloc::Global;
 pub fn draft_of(
     alloc: Global,
     kinds: &Kinds,
-    interner: &mut Interner,
+    recent: &mut Recent,
     scope: &Scope,
     line: u32,
     decl: &Decl,
@@ -32,9 +34,9 @@ pub fn draft_of(
 {
     match decl {
         Decl::Node { role, name, spec } => node_draft(
-            alloc, interner, scope, line, *role, name, spec,
+            alloc, recent, scope, line, *role, name, spec,
         ),
-        Decl::Unit(unit) => unit_of(alloc, kinds, interner, scope, line, unit),
+        Decl::Unit(unit) => unit_of(alloc, kinds, recent, scope, line, unit),
     }
 }
 
@@ -42,7 +44,7 @@ pub fn draft_of(
 fn unit_of(
     alloc: Global,
     kinds: &Kinds,
-    interner: &mut Interner,
+    recent: &mut Recent,
     scope: &Scope,
     line: u32,
     unit: &UnitExpr,
@@ -52,12 +54,12 @@ fn unit_of(
         (draft_of (map (λ k. meaning (k.vtable, k.value)) kinds.now.list.items) line
         (in_declaration scope.now (unit_view unit.now))) }
 {
-    let name = shared_name(alloc, interner, scope, unit.name.as_slice())?;
+    let name = shared_name(alloc, scope, unit.name.as_slice())?;
     let kind = kind_number(kinds, unit.kind)?;
     let page = value_within(scope, 255, &unit.page)? as u8;
     let slots = value_within(scope, 4_294_967_295, &unit.slots)? as u32;
     let reach = value_within(scope, 255, &unit.reach)? as u8;
-    let ports = references(alloc, interner, scope, unit.ports.as_slice())?;
+    let ports = references(alloc, recent, scope, unit.ports.as_slice())?;
     let unit = DraftUnit {
         kind,
         page,
@@ -84,7 +86,7 @@ fn kind_number(kinds: &Kinds, name: &str) -> Result<u8, Flaw>
 /// A node with its parts.
 fn node_draft(
     alloc: Global,
-    interner: &mut Interner,
+    recent: &mut Recent,
     scope: &Scope,
     line: u32,
     role: DeclRole,
@@ -95,13 +97,13 @@ fn node_draft(
         (node_draft line (role_view role) (in_declared scope.now (name_view name.now))
         (in_spec scope.now (spec_view spec.now))) }
 {
-    let name = shared_name(alloc, interner, scope, name.as_slice())?;
+    let name = shared_name(alloc, scope, name.as_slice())?;
     let Some(spec) = spec else {
         return Ok(bare_draft(alloc, line, role_of(role), name, None));
     };
     let accepts = blocks(alloc, scope, spec.accepts.as_slice())?;
-    let entries = entries(alloc, interner, scope, spec.entries.as_slice())?;
-    let over = over(alloc, interner, scope, &spec.over)?;
+    let entries = entries(alloc, recent, scope, spec.entries.as_slice())?;
+    let over = over(alloc, recent, scope, &spec.over)?;
     Ok(Draft {
         line,
         role: role_of(role),
@@ -147,17 +149,17 @@ fn role_of(role: DeclRole) -> Role
 /// The full name of the node that serves the rest, where there is one.
 fn over(
     alloc: Global,
-    interner: &mut Interner,
+    recent: &mut Recent,
     scope: &Scope,
     name: &Option<NameExpr>,
-) -> Result<Option<SharedName>, NameFault>
+) -> Result<Option<ScopedName>, NameFault>
     ensures { Answers (λ x. x) name_fault_view result
         (full_name_or_none (option_map (in_reference scope.now) (maybe_name_view name.now))) }
 {
     match name {
         None => Ok(None),
         Some(name) => {
-            let name = reference(alloc, interner, scope, name.as_slice())?;
+            let name = reference(alloc, recent, scope, name.as_slice())?;
             Ok(Some(name))
         }
     }
@@ -188,7 +190,7 @@ fn blocks(alloc: Global, scope: &Scope, ranges: &[BlockExpr]) -> Result<Items<Bl
 /// A destination of a block with this first address, which is its own where none is given.
 fn dest(
     alloc: Global,
-    interner: &mut Interner,
+    recent: &mut Recent,
     scope: &Scope,
     lo: u64,
     dest: &DestExpr,
@@ -196,14 +198,14 @@ fn dest(
     ensures { Answers (λ x. x) name_fault_view result
         (dest_of lo (in_dest scope.now (dest_view dest.now))) }
 {
-    let to = reference(alloc, interner, scope, dest.name.as_slice())?;
+    let to = reference(alloc, recent, scope, dest.name.as_slice())?;
     let addr = value_or(scope, lo, &dest.addr)?;
     Ok(DraftDest { to, addr })
 }
 
 fn dests(
     alloc: Global,
-    interner: &mut Interner,
+    recent: &mut Recent,
     scope: &Scope,
     lo: u64,
     dests: &[DestExpr],
@@ -213,7 +215,7 @@ fn dests(
 {
     let mut made = Items::from_vec(Vec::with_capacity(alloc, dests.len())?);
     for expr in dests {
-        let dest = dest(alloc, interner, scope, lo, expr)?;
+        let dest = dest(alloc, recent, scope, lo, expr)?;
         made.push(dest)?;
     }
     Ok(made)
@@ -221,7 +223,7 @@ fn dests(
 
 fn entry(
     alloc: Global,
-    interner: &mut Interner,
+    recent: &mut Recent,
     scope: &Scope,
     mapping: &EntryExpr,
 ) -> Result<DraftEntry, NameFault>
@@ -229,13 +231,13 @@ fn entry(
         (entry_of (in_entry scope.now (entry_view mapping.now))) }
 {
     let block = block(scope, &mapping.block)?;
-    let dests = dests(alloc, interner, scope, block.lo, mapping.dests.as_slice())?;
+    let dests = dests(alloc, recent, scope, block.lo, mapping.dests.as_slice())?;
     Ok(DraftEntry { block, dests })
 }
 
 fn entries(
     alloc: Global,
-    interner: &mut Interner,
+    recent: &mut Recent,
     scope: &Scope,
     mappings: &[EntryExpr],
 ) -> Result<Items<DraftEntry>, NameFault>
@@ -244,7 +246,7 @@ fn entries(
 {
     let mut made = Items::from_vec(Vec::with_capacity(alloc, mappings.len())?);
     for mapping in mappings {
-        let entry = entry(alloc, interner, scope, mapping)?;
+        let entry = entry(alloc, recent, scope, mapping)?;
         made.push(entry)?;
     }
     Ok(made)
@@ -253,16 +255,16 @@ fn entries(
 /// The full names to which names refer.
 fn references(
     alloc: Global,
-    interner: &mut Interner,
+    recent: &mut Recent,
     scope: &Scope,
     names: &[NameExpr],
-) -> Result<Items<SharedName>, NameFault>
+) -> Result<Items<ScopedName>, NameFault>
     ensures { Answers (λ x. x) name_fault_view result
         (each full_name (map (in_reference scope.now) (map name_view names.now))) }
 {
     let mut made = Items::from_vec(Vec::with_capacity(alloc, names.len())?);
     for name in names {
-        let text = reference(alloc, interner, scope, name.as_slice())?;
+        let text = reference(alloc, recent, scope, name.as_slice())?;
         made.push(text)?;
     }
     Ok(made)

@@ -1,9 +1,8 @@
-//! The full names that are in use, each of which is kept once.
+//! The full names of nodes, uses and modules, each of which is kept once.
 
 ghost use Rattle.std.specs.Prelude.{◌≡◌, IfOk};
 ghost use Rattle.std.specs.Rc.{rc_str_bytes};
 
-use indexmap::IndexSet;
 use std::alloc::{AllocError, Global};
 use std::marker::Model;
 use std::rc::RcStr;
@@ -60,33 +59,5 @@ impl SharedName {
         ensures { result.now ≡ self.now }
     {
         self.text.as_str()
-    }
-}
-
-/// The full names that were met so far. A name is found by its hash.
-#[derive(Drop)]
-pub struct Interner {
-    names: IndexSet<RcStr>,
-}
-
-impl Interner {
-    /// No names. It takes no memory.
-    pub fn new(alloc: Global) -> Interner {
-        Interner {
-            names: IndexSet::new(alloc),
-        }
-    }
-
-    /// The name with this text: the one that is kept, or a new one, which is kept from now on. `Err` is
-    /// want of memory.
-    pub fn name_with_text(&mut self, alloc: Global, text: &str) -> Result<SharedName, AllocError>
-        ensures { IfOk result (λ n. n ≡ text.now) }
-    {
-        if let Some(kept) = self.names.get(text) {
-            return Ok(SharedName::from_text(kept.clone()?));
-        }
-        let name = SharedName::of(alloc, text)?;
-        self.names.insert(name.share()?.into_text())?;
-        Ok(name)
     }
 }

@@ -2,30 +2,27 @@
 
 ghost use Rattle.std.specs.Prelude.{◌≡◌, map, position, IfOk, IfSome, not, is_some};
 ghost use Rattle.std.specs.Str.{bytes_eq};
-ghost use Rattle.std.specs.String.{string_bytes};
 ghost use Rattle.dn_parse.specs.Terms.{param_view};
 ghost use Rattle.dn_module.specs.Terms.{has_twice, word_of_param};
 
+use crate::text_table::TextTable;
 use dn_parse::syntax::Param;
-use indexmap::IndexSet;
 use std::alloc::{AllocError, Global};
 use std::marker::Model;
 use std::rc::Rc;
 
-/// The words of a module's parameters in their order, which all its uses share. The place of one is found
-/// by its hash.
+/// The words of a module's parameters in their order, which all its uses share.
 #[derive(Drop)]
 pub struct Titles {
-    words: Rc<IndexSet<String>>,
+    words: Rc<TextTable>,
 }
 
 impl Model for Titles {
-    ghost use Rattle.std.specs.Prelude.{List, ℕ, map};
-    ghost use Rattle.std.specs.String.{string_bytes};
+    ghost use Rattle.std.specs.Prelude.{List, ℕ};
 
     ghost Value = { List (List ℕ) };
 
-    ghost view = { λ t. map (λ s. string_bytes s) t.words.value.keys };
+    ghost view = { λ t. t.words.value };
 }
 
 impl Titles {
@@ -36,11 +33,11 @@ impl Titles {
         ensures different { IfOk result (λ found. is_some found ≡
             not (has_twice (map word_of_param (map param_view params.now)))) }
     {
-        let mut words: IndexSet<String> = IndexSet::new(alloc);
+        let mut words = TextTable::new(alloc);
         for i in 0..params.len() {
-            let param = &params[i];
-            let word = word_of(alloc, param)?;
-            if !words.insert(word)? {
+            let word = word_of(&params[i]);
+            let is_new = words.add(alloc, word)?;
+            if !is_new {
                 return Ok(None);
             }
         }
@@ -60,16 +57,16 @@ impl Titles {
     pub fn place(&self, word: &str) -> Option<usize>
         ensures { result ≡ position (bytes_eq word.now) self.now }
     {
-        self.words.as_ref().get_index_of(word)
+        self.words.as_ref().number(word)
     }
 }
 
-/// A copy of the word of a parameter.
-fn word_of(alloc: Global, param: &Param) -> Result<String, AllocError>
-    ensures { IfOk result (λ w. string_bytes w ≡ word_of_param (param_view param.now)) }
+/// The word of a parameter.
+fn word_of<'a>(param: &'a Param) -> &'a str
+    ensures { result.now ≡ word_of_param (param_view param.now) }
 {
     match param {
-        Param::Num(word) => String::from_str(alloc, word),
-        Param::Node(word) => String::from_str(alloc, word),
+        Param::Num(word) => word,
+        Param::Node(word) => word,
     }
 }

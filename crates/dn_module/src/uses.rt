@@ -7,11 +7,11 @@ ghost use Rattle.dn_base.specs.Terms.{Answers};
 
 use crate::fault::ExpandFault;
 use crate::modules::{Known, Visible};
+use crate::recent::Recent;
 use crate::scope::Scope;
-use crate::shared::Interner;
 use crate::stack::Use;
 use crate::titles::Titles;
-use crate::values::{NameFault, declared_name, reference, value};
+use crate::values::{NameFault, reference, shared_name, value};
 use crate::words::{Given, Words};
 use dn_base::items::Items;
 use dn_parse::syntax::{Arg, Param, PartExpr};
@@ -20,7 +20,7 @@ use std::alloc::Global;
 /// The use of a module that was found, with its number, from the statement's arguments and its prefix.
 pub fn new_use<'a, 't>(
     alloc: Global,
-    interner: &mut Interner,
+    recent: &mut Recent,
     scope: &Scope,
     line: u32,
     found: Option<(u16, &Known<'a, 't>)>,
@@ -38,7 +38,7 @@ pub fn new_use<'a, 't>(
     if !fit(known.module.params, args) {
         return Err(ExpandFault::Arguments { line });
     }
-    match inner_scope(alloc, interner, scope, &known.titles, args, prefix) {
+    match inner_scope(alloc, recent, scope, &known.titles, args, prefix) {
         Ok(inner) => Ok(Use::new(alloc, inner, Visible::First(number), known.module.body)),
         Err(fault) => Err(fault.at(line)),
     }
@@ -47,7 +47,7 @@ pub fn new_use<'a, 't>(
 /// What stands for the words of a module's body, with an argument for each parameter.
 fn inner_scope<'a>(
     alloc: Global,
-    interner: &mut Interner,
+    recent: &mut Recent,
     scope: &Scope,
     titles: &Titles,
     args: &[Arg],
@@ -58,8 +58,8 @@ fn inner_scope<'a>(
         (replaced_by titles.now (map (in_arg scope.now) (map arg_view args.now))
         (in_declared scope.now (name_view prefix.now))) }
 {
-    let values = values_of(alloc, interner, scope, args)?;
-    let text = declared_name(alloc, scope, prefix)?;
+    let values = values_of(alloc, recent, scope, args)?;
+    let text = shared_name(alloc, scope, prefix)?;
     let words = Words::new(titles.share()?, values);
     Ok(Scope::of_use(alloc, text, words))
 }
@@ -67,7 +67,7 @@ fn inner_scope<'a>(
 /// The values of arguments.
 fn values_of(
     alloc: Global,
-    interner: &mut Interner,
+    recent: &mut Recent,
     scope: &Scope,
     args: &[Arg],
 ) -> Result<Items<Given>, NameFault>
@@ -76,7 +76,7 @@ fn values_of(
 {
     let mut made = Items::from_vec(Vec::with_capacity(alloc, args.len())?);
     for arg in args {
-        let value = value_of(alloc, interner, scope, arg)?;
+        let value = value_of(alloc, recent, scope, arg)?;
         made.push(value)?;
     }
     Ok(made)
@@ -85,7 +85,7 @@ fn values_of(
 /// The value of an argument.
 fn value_of(
     alloc: Global,
-    interner: &mut Interner,
+    recent: &mut Recent,
     scope: &Scope,
     arg: &Arg,
 ) -> Result<Given, NameFault>
@@ -98,7 +98,7 @@ fn value_of(
             Ok(Given::Number(number))
         }
         Arg::Node(name) => {
-            let name = reference(alloc, interner, scope, name.as_slice())?;
+            let name = reference(alloc, recent, scope, name.as_slice())?;
             Ok(Given::Named(name))
         }
     }

@@ -9,8 +9,10 @@ ghost use Rattle.dn_module.specs.declared.values.NameFault.TheVariants.{OutOfMem
 ghost use Rattle.dn_base.specs.Terms.{Answers};
 
 use crate::fault::ExpandFault;
+use crate::recent::Recent;
 use crate::scope::Scope;
-use crate::shared::{Interner, SharedName};
+use crate::scoped::ScopedName;
+use crate::shared::SharedName;
 use dn_base::text::Text;
 use dn_parse::syntax::{Expr, PartExpr};
 use std::alloc::{AllocError, Global};
@@ -184,7 +186,7 @@ pub fn declared_name(alloc: Global, scope: &Scope, name: &[PartExpr]) -> Result<
     let mut text = String::new(alloc);
     match scope.prefix() {
         Some(prefix) => {
-            text.push_str(prefix)?;
+            text.push_str(prefix.as_str())?;
             push_after_dots(&mut text, scope, name)?;
         }
         None => push_dotted(&mut text, scope, name)?,
@@ -192,40 +194,60 @@ pub fn declared_name(alloc: Global, scope: &Scope, name: &[PartExpr]) -> Result<
     Ok(Text::from_string(text))
 }
 
-/// The same full name, which all who declare it and refer to it share.
-pub fn shared_name(
-    alloc: Global,
-    interner: &mut Interner,
-    scope: &Scope,
-    name: &[PartExpr],
-) -> Result<SharedName, NameFault>
+/// The same full name, which all who hold it share.
+pub fn shared_name(alloc: Global, scope: &Scope, name: &[PartExpr]) -> Result<SharedName, NameFault>
     ensures { Answers (λ x. x) name_fault_view result
         (full_name (in_declared scope.now (name_view name.now))) }
 {
     let text = declared_name(alloc, scope, name)?;
-    Ok(interner.name_with_text(alloc, text.as_str())?)
+    Ok(SharedName::of(alloc, text.as_str())?)
+}
+
+/// The same full name, behind that of the use.
+fn scoped_name(
+    alloc: Global,
+    recent: &mut Recent,
+    scope: &Scope,
+    name: &[PartExpr],
+) -> Result<ScopedName, NameFault>
+    ensures { Answers (λ x. x) name_fault_view result
+        (full_name (in_declared scope.now (name_view name.now))) }
+{
+    let mut text = String::new(alloc);
+    match scope.prefix() {
+        Some(prefix) => {
+            push_after_dots(&mut text, scope, name)?;
+            let own = recent.text(alloc, text.as_str())?;
+            Ok(ScopedName::within(prefix.share()?, own))
+        }
+        None => {
+            push_dotted(&mut text, scope, name)?;
+            let own = recent.text(alloc, text.as_str())?;
+            Ok(ScopedName::outside(own))
+        }
+    }
 }
 
 /// The full name to which a name refers: one part without an index that spells a node parameter is the
 /// argument's, and any other is as a declared name.
 pub fn reference(
     alloc: Global,
-    interner: &mut Interner,
+    recent: &mut Recent,
     scope: &Scope,
     name: &[PartExpr],
-) -> Result<SharedName, NameFault>
+) -> Result<ScopedName, NameFault>
     ensures { Answers (λ x. x) name_fault_view result
         (full_name (in_reference scope.now (name_view name.now))) }
 {
     match argument(scope, name) {
         Some(known) => Ok(known.share()?),
-        None => shared_name(alloc, interner, scope, name),
+        None => scoped_name(alloc, recent, scope, name),
     }
 }
 
 /// The full name that stands for a name of one part without an index. `None` exactly where it spells no
 /// node parameter.
-fn argument<'a>(scope: &'a Scope, name: &[PartExpr]) -> Option<&'a SharedName>
+fn argument<'a>(scope: &'a Scope, name: &[PartExpr]) -> Option<&'a ScopedName>
     ensures { option_map (λ t. t.now) result ≡ node_by scope.now.naming
         (word_of_name (name_view name.now)) }
 {

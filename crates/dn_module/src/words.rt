@@ -3,7 +3,7 @@
 ghost use Rattle.std.specs.Prelude.{◌≡◌, List, ℕ, map, drop, option_map, slice_get, is_some, false};
 ghost use Rattle.dn_module.specs.Terms.{given_view, has_twice, name_part, nodes_of, number_part, numbers_from, numbers_of, part_in, value_for_word};
 
-use crate::shared::SharedName;
+use crate::scoped::ScopedName;
 use crate::titles::Titles;
 use dn_base::items::Items;
 use std::marker::Model;
@@ -14,7 +14,7 @@ pub enum Given {
     /// A number.
     Number(u64),
     /// The full name of a node.
-    Named(SharedName),
+    Named(ScopedName),
 }
 
 /// What stands for the words of a module's parameters: at the place of each word its value. Contracts see
@@ -72,7 +72,7 @@ impl Words {
     }
 
     /// The full name that stands for a word. `None` exactly where none does.
-    pub fn name(&self, word: &str) -> Option<&SharedName>
+    pub fn name(&self, word: &str) -> Option<&ScopedName>
         ensures { option_map (λ t. t.now) result ≡ value_for_word word.now self.now.1 }
     {
         let Some(place) = self.titles.place(word) else {
@@ -100,7 +100,7 @@ fn number_at(values: &[Given], place: usize) -> Option<u64>
 }
 
 /// The full name at a place. `None` exactly where there is none.
-fn name_at(values: &[Given], place: usize) -> Option<&SharedName>
+fn name_at(values: &[Given], place: usize) -> Option<&ScopedName>
     ensures { option_map (λ t. t.now) result ≡
         part_in name_part (slice_get (map given_view values.now) place) }
 {

@@ -4,7 +4,7 @@ ghost use Rattle.std.specs.Prelude.{◌≡◌, [], length, position, IfOk, OnOk}
 ghost use Rattle.std.specs.Str.{bytes_eq};
 ghost use Rattle.dn_tool.specs.Terms.{id_number, with_id};
 
-use indexmap::IndexSet;
+use dn_module::text_table::TextTable;
 use std::alloc::{AllocError, Global};
 use std::marker::Model;
 
@@ -12,18 +12,17 @@ use std::marker::Model;
 /// see the list of their bytes.
 #[derive(Drop)]
 pub struct Ids {
-    ids: IndexSet<String>,
+    ids: TextTable,
 }
 
 impl Model for Ids {
-    ghost use Rattle.std.specs.Prelude.{List, ℕ, map, length, ◌≤◌};
-    ghost use Rattle.std.specs.String.{string_bytes};
+    ghost use Rattle.std.specs.Prelude.{List, ℕ, length, ◌≤◌};
 
     ghost Value = { List (List ℕ) };
 
-    ghost view = { λ n. map (λ s. string_bytes s) n.ids.keys };
+    ghost view = { λ n. n.ids };
 
-    ghost invariant = { λ n. length n.ids.keys ≤ 4294967295 };
+    ghost invariant = { λ n. length n.ids ≤ 4294967295 };
 }
 
 impl Ids {
@@ -32,7 +31,7 @@ impl Ids {
         ensures { result ≡ [] }
     {
         Ids {
-            ids: IndexSet::new(alloc),
+            ids: TextTable::new(alloc),
         }
     }
 
@@ -52,7 +51,7 @@ impl Ids {
     fn find(&self, id: &str) -> Option<u32>
         ensures { result ≡ position (bytes_eq id.now) self.now }
     {
-        match self.ids.get_index_of(id) {
+        match self.ids.number(id) {
             Some(number) => Some(number as u32),
             None => None,
         }
@@ -67,8 +66,7 @@ impl Ids {
         if number >= 4_294_967_295 {
             return Err(AllocError);
         }
-        let name = String::from_str(alloc, id)?;
-        let _is_new = self.ids.insert(name)?;
+        let _is_new = self.ids.add(alloc, id)?;
         Ok(number as u32)
     }
 }

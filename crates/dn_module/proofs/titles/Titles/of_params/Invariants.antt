@@ -1,5 +1,4 @@
-use Rattle.std.proofs.Common.{◌≡◌, false, length, map, take}
-use Rattle.std.specs.String.{string_bytes}
+use Rattle.std.proofs.Common.{◌≡◌, false, length, take}
 use Rattle.dn_module.specs.Expand.{has_twice}
 use Rattle.dn_module.proofs.Naming.{param_words}
 use Rattle.dn_module.proofs.titles.Titles.of_params.Given as goal
@@ -7,6 +6,6 @@ use Rattle.dn_module.proofs.titles.Titles.of_params.Given as goal
 abbrev pub invariant-loop-i : goal.invariant-loop-i
 invariant-loop-i l = record {
   end : l.i-end ≡ length l.params;
-  keys : map (λ s. string_bytes s) l.words.keys ≡ param_words (take l.i l.params);
+  words : l.words ≡ param_words (take l.i l.params);
   once : has_twice (param_words (take l.i l.params)) ≡ false;
 }

@@ -1,13 +1,9 @@
-use Rattle.std.proofs.Common.{◌∙◌, sym}
-use Rattle.std.specs.String.{string_bytes}
+use Rattle.std.proofs.Common.{◌∙◌, ap, position}
 use Rattle.std.specs.Str.{bytes_eq}
-use Rattle.dn_base.proofs.Lists.{position-map}
 use Rattle.dn_tool.proofs.ids.Ids.find.Goals as goal
 
 pub returns-in-Some : goal.returns-in-Some
-returns-in-Some c =
-    rw (← c.self.view_is) (c.in-Some.ensures.index ∙ sym (position-map (λ s. string_bytes s) (bytes_eq c.args.id.now) c.self.inside.ids.keys))
+returns-in-Some c = c.in-Some.ensures.number ∙ ap (position (bytes_eq c.args.id.now)) c.self.view_is
 
 pub returns-in-None : goal.returns-in-None
-returns-in-None c =
-    rw (← c.self.view_is) (c.in-None.ensures.index ∙ sym (position-map (λ s. string_bytes s) (bytes_eq c.args.id.now) c.self.inside.ids.keys))
+returns-in-None c = c.in-None.ensures.number ∙ ap (position (bytes_eq c.args.id.now)) c.self.view_is

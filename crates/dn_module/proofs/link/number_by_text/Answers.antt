@@ -1,6 +1,6 @@
 use Rattle.std.proofs.Common.{refl, sym}
 use Rattle.dn_module.proofs.Known.{is_known-Some, is_known-None}
-use Rattle.dn_module.proofs.link.number_of.Goals as goal
+use Rattle.dn_module.proofs.link.number_by_text.Goals as goal
 
 pub returns-in-Some-clause-links : goal.returns-in-Some-clause-links
 returns-in-Some-clause-links c = is_known-Some c.args.names.now c.args.text.now _ (sym c.in-Some.ensures)
