@@ -16,14 +16,14 @@ AreAmong nodes count segs = (k : ℕ) (s : Seg) → k < count → slice_get segs
 -- so the node of each name that they give is
 pub given_among : (nodes : List ℕ) (segs : List Seg) (a : ℕ) (y : End) → ((k : ℕ) (s : Seg) → slice_get segs k ≡ Some s → is_among s.node nodes ≡ true) → segs_give segs a y ≡ true → is_among y.node nodes ≡ true
 given_among nodes [] a y f e = absurd (false≢true e)
-given_among nodes (s ∷ segs) a y f e = by (or_cases (seg_gives s a y) (segs_give segs a y) e)
+given_among nodes (s ∷ segs) a y f e = by (or_cases (seg_gives s a y) (segs_give segs a y) e) (λ g. given_among nodes segs a y (λ k t q. f (suc k) t q) g)
   where
-    by : (seg_gives s a y ≡ true) ⊎ (segs_give segs a y ≡ true) → is_among y.node nodes ≡ true
-    by (inl g) =
+    by : (seg_gives s a y ≡ true) ⊎ (segs_give segs a y ≡ true) → (segs_give segs a y ≡ true → is_among y.node nodes ≡ true) → is_among y.node nodes ≡ true
+    by (inl g) later =
         let w = and_parts (in_span s.span a) (nat_eq s.node y.node && nat_eq (s.base + (a - s.span.lo)) y.base) g in
         let v = and_parts (nat_eq s.node y.node) (nat_eq (s.base + (a - s.span.lo)) y.base) w.1 in
         subst (λ n. is_among n nodes ≡ true) (eqb-true s.node y.node v.0) (f 0 s refl)
-    by (inr g) = given_among nodes segs a y (λ k t q. f (suc k) t q) g
+    by (inr g) later = later g
 
 -- a node that is put last is listed, and so are those before it
 pub last_among : (nodes : List ℕ) (node : ℕ) → is_among node (nodes ++ node ∷ []) ≡ true

@@ -19,7 +19,7 @@ pub(crate) struct Ground<'a> {
 }
 
 /// The unit that a node is, if it is one.
-pub(crate) fn unit_in(ground: Ground<'_>, node: u16) -> Option<&Unit>
+pub(crate) fn unit_in<'a>(ground: Ground<'a>, node: u16) -> Option<&'a Unit>
     ensures some { IfSome result (λ u. unit_at ground.entry.net.now node ≡ Some u.now) }
     ensures formed { IfSome result (λ u. IsFormed ground.entry.net.now u.now) }
     ensures none { IfNone result (unit_at ground.entry.net.now node ≡ None) }

@@ -2,7 +2,7 @@
 use Rattle.std.proofs.Common.{List, ◌+◌, ◌<◌, ◌≤◌, sym, subst, get_or, arith}
 use Rattle.std.proofs.lemmas.List.Elements.{All-nil}
 use Rattle.dn_flat.specs.declared.crowds.Crowd.{Crowd}
-use Rattle.dn_flat.specs.Crowds.{AreCrowded, AreCrowds}
+use Rattle.dn_flat.specs.Crowds.{AreCrowded, AreCrowds, IsWay}
 use Rattle.dn_flat.proofs.crowds.crowds_between.Goals as goal
 
 pub loop-at-init : goal.loop-at-init
@@ -14,5 +14,5 @@ loop-at-init c = record {
 pub loop-at-preserved : goal.loop-at-preserved
 loop-at-preserved c = record {
   before = omega (arith, c.further-top.ensures);
-  crowded = λ net ways. c.in_ok-push_crowd.ensures net (ways c.loop-at.top _ (omega (arith, c.loop-at.invariant.before, c.loop-at-test.true))) (ways c.loop-at.at _ (omega (arith, c.loop-at-test.true))) (c.loop-at.invariant.crowded net ways);
+  crowded = λ net ways. c.in_ok-push_crowd.ensures net (subst (IsWay net) (sym c.index-ways-top.is) (ways c.loop-at.top c.index-ways-top.result (omega (arith, c.loop-at.invariant.before, c.loop-at-test.true)))) (subst (IsWay net) (sym c.index-ways-at.is) (ways c.loop-at.at c.index-ways-at.result (omega (arith, c.loop-at-test.true)))) (c.loop-at.invariant.crowded net ways);
 }

@@ -14,11 +14,6 @@ add-requires-clause-below c = c.loop-node.invariant.below
 pub loop-node-preserved : goal.loop-node-preserved
 loop-node-preserved c = record { below = c.in_ok-add.ensures }
 
-pub crowds_of-crowds-requires : goal.crowds_of-crowds-requires
-crowds_of-crowds-requires c =
-    let all : c.loop-node.node ≡ length c.args.net.now = omega (arith, c.loop-node-test.false, c.loop-node.auto.node-end, c.nodes-node-end.ensures) in
-    subst (λ n. AreLevelsBelow c.args.net.now n c.loop-node.nodes) all c.loop-node.invariant.below
-
 pub returns : goal.returns
 returns c =
     let below = c.loop-node.invariant.below in
