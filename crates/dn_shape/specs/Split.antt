@@ -103,13 +103,16 @@ split_net net = with_accepters (sending_nodes (length net) net) net
 abbrev pub split_outcome : List NodeDecl → Result (List NodeDecl) ℕ
 split_outcome net = value_by_limit (split_net net) (passed_limit (split_net net))
 
+-- the parts of a node by which its addresses go on: its entries, and its `over`
+abbrev pub ways_of : NodeDecl → ℕ
+ways_of n = length n.entries + (if is_some n.over then 1 else 0)
+
 -- the parts of a node in the split net, with those of the new one for it: each span is an entry of the
 -- one and an accept block of the other
 abbrev pub parts_when_split : NodeDecl → ℕ
 parts_when_split n =
     if is_divided n
-    then length (maximal_spans n.accepts)
-    + (length (maximal_spans n.accepts) + (length n.entries + (if is_some n.over then 1 else 0)))
+    then length (maximal_spans n.accepts) + (length (maximal_spans n.accepts) + ways_of n)
     else parts_of_node n
 
 -- those of all nodes
