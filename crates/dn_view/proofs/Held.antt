@@ -49,10 +49,10 @@ none_past net kinds set fits node slot u at past =
     by (Some k) (Some ws) = rw past refl
 
 -- what stands behind the written words is 0
-behind_written : (ws : List ℕ) (n at : ℕ) → length ws ≤ at → get_or (ws ++ replicate n 0) at 0 ≡ 0
+behind_written : (ws : List ℕ) (n at : ℕ) → length ws ≤ at → ◌≡◌ {A = ℕ} (get_or (ws ++ replicate n 0) at 0) 0
 behind_written [] n at l = zeros n at
   where
-    zeros : (n at : ℕ) → get_or (replicate n 0) at 0 ≡ 0
+    zeros : (n at : ℕ) → ◌≡◌ {A = ℕ} (get_or (replicate n 0) at 0) 0
     zeros zero at = refl
     zeros (suc n) zero = refl
     zeros (suc n) (suc at) = zeros n at
@@ -79,7 +79,7 @@ none_behind net kinds set lawful fits is node u at written n words slot (inr l) 
         let ws : t.words ≡ written ++ replicate n 0 = sym (ap words_of_table e) ∙ words in
         let room : slot * t.width + t.width ≤ length t.words = slot_room slot u.slots t.width (length t.words) m s.words in
         let far : length written ≤ slot * t.width + (t.width - 1) = omega (arith, mul-le-mul_left slot s.least, s.least, l) in
-        let gate : 0 ≡ gate_word (slot_words t.width t.words slot) = gate_of_width t.width slot t.words 0 s.least room (sym (ap (λ (x : List ℕ). get_or x (slot * t.width + (t.width - 1)) 0) ws ∙ behind_written written n (slot * t.width + (t.width - 1)) far)) in
+        let gate : ◌≡◌ {A = ℕ} 0 (gate_word (slot_words t.width t.words slot)) = gate_of_width t.width slot t.words 0 s.least room (sym (ap (λ (x : List ℕ). get_or x (slot * t.width + (t.width - 1)) 0) ws ∙ behind_written written n (slot * t.width + (t.width - 1)) far)) in
         ap (λ o. record_of_unit kinds o (slice_get (words_of set) node) slot) unit
         ∙ ap (λ o. record_of_unit kinds (Some u) o slot) spelled
         ∙ none_by_gate kinds u t.width slot t.words lawful (width_of_kind kinds t.width t.unit u is_u (list_all-at (λ (x : NodeTable). fits_by kinds x.width x.unit) set node t fits.wide e)) room (sym gate)

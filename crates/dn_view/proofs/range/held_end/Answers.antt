@@ -27,10 +27,10 @@ returns g c =
     let net = c.args.system.net.now in
     let set = c.args.tables.now in
     let lawful = all_of_map _ c.args.system.kinds.now.list.items c.requires.system.lawful in
-    let written = c.parts.result.0.now in
-    let zero : c.parts.result.1 ≡ 0 = c.if-rest-ne0.false in
+    let written = c.parts-rest.result.0.now in
+    let zero : c.parts-rest.result.1 ≡ 0 = c.if-rest-ne0.false in
     let behind = length c.words.result.now - length written in
-    let words = sym c.words.ensures.value ∙ c.parts.ensures ∙ ap (λ n. written ++ replicate behind n) zero in
+    let words = sym c.words.ensures.value ∙ c.parts-rest.ensures ∙ ap (λ n. written ++ replicate behind n) zero in
     record {
       most = omega (arith, c.from-slots.ensures);
       none = λ slot l. none_behind net kinds set lawful c.requires.fits c.words.ensures.set c.args.node c.args.unit.now c.requires.unit written behind words slot
