@@ -282,7 +282,7 @@ fn image_names(
 }
 
 /// Writes the reply to `view`: a line, and below it a line for each row.
-pub fn view_reply<K: Sink>(
+pub(crate) fn view_reply<K: Sink>(
     alloc: Global,
     machine: Machine,
     state: &mut State,

@@ -1,8 +1,8 @@
 -- What one name comes to, alone.
 use Rattle.std.proofs.Common.{◌≡◌, ◌∙◌, ℕ, zero, suc, ◌+◌, ◌-◌, ◌<◌, ◌≤◌, ◌==◌, ◌⊎◌, ◌↔◌, inl, inr, Bool, true, false, ◌&&◌, ◌||◌, nat_le, nat_eq, ◌/◌, ◌^◌, if◌then◌else◌, List, [], ◌∷◌, ◌++◌, length, slice_get, Option, Some, None, IsTrue, refl, sym, ap, subst, arith, eqb-true}
-use Rattle.std.proofs.lemmas.Bool.{lt-leb, le-leb, eq-eqb}
+use Rattle.std.proofs.lemmas.Bool.{lt-leb, le-leb, eq-eqb, or_cases}
 use Rattle.std.proofs.lemmas.List.Folds.{list_any-append}
-use Rattle.dn_base.proofs.Booleans.{or-false, or_parts, or_left, or_right}
+use Rattle.dn_base.proofs.Booleans.{or-false, or_left, or_right}
 use Rattle.dn_interval.specs.declared.row.End.{End}
 use Rattle.dn_interval.specs.declared.row.Seg.{Seg}
 use Rattle.dn_interval.specs.declared.span.TheConstants.{TOP}
@@ -81,7 +81,7 @@ pub more_had : (P : Name → Type 0) (old new : List Name) (given : Name → Boo
 more_had P old new given e is z = (into, back)
   where
     into : Member z new → Member z old ⊎ P z
-    into m = elim (or_parts (has_name old z) (given z) (sym (e z) ∙ (had new z).1 m)) [ inl h ↦ inl ((had old z).0 h) | inr h ↦ inr ((is z).0 h) ]
+    into m = elim (or_cases (has_name old z) (given z) (sym (e z) ∙ (had new z).1 m)) [ inl h ↦ inl ((had old z).0 h) | inr h ↦ inr ((is z).0 h) ]
 
     back : Member z old ⊎ P z → Member z new
     back (inl m) = (had new z).0 (e z ∙ or_left (has_name old z) (given z) ((had old z).1 m))

@@ -1,5 +1,5 @@
 -- By what is known of each of its parts.
-use Rattle.std.proofs.Common.{rules, ◌≡◌, ◌∙◌, ◌+◌, true, false, if◌then◌else◌, Some, ap, sym, length, option_map, slice_get, arith}
+use Rattle.std.proofs.Common.{rules, ◌≡◌, ◌∙◌, ◌+◌, true, false, if◌then◌else◌, Some, ap, length, option_map, slice_get, arith}
 use Rattle.std.specs.Option.{is_some}
 use Rattle.dn_net.specs.Parts.{parts_of_node}
 use Rattle.dn_net.proofs.Faults.{part_is}
@@ -24,7 +24,7 @@ returns c =
     let spans : maximal_spans r.node.accepts ≡ c.in_ok-maximal_accepts.field-0.items = part_is (λ d. maximal_spans d.accepts) _ r.node _ r.at c.in_ok-maximal_accepts.ensures in
     let s = length (maximal_spans r.node.accepts) in
     let many : s ≡ c.len-spans.result = search rules in
-    let entries : length r.node.entries ≡ c.len.result = ap length (part_is (λ d. d.entries) _ r.node c.entries.result.now r.at c.entries.ensures) ∙ sym c.len.ensures in
+    let entries : length r.node.entries ≡ length c.entries.result.now = ap length (part_is (λ d. d.entries) _ r.node c.entries.result.now r.at c.entries.ensures) in
     let over : r.node.over ≡ c.over.result = part_is (λ d. d.over) _ r.node c.over.result r.at c.over.ensures in
     let one : (if is_some c.over.result then 1 else 0) ≡ c.from.result = search rules in
     let more : (if is_some r.node.over then 1 else 0) ≡ c.from.result = ap (λ o. if is_some o then 1 else 0) over ∙ one in

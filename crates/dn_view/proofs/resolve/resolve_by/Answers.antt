@@ -17,7 +17,7 @@ returns-in_default g c =
     let kinds : List Meaning = map (λ k. (goal.UnitKind-dyn g (k.vtable, k.value)).meaning k.value) c.args.system.kinds.now.list.items in
     let h : Held = allowing c.args.access (record_kept kinds c.args.tables.now) in
     let past : TOP < c.args.name.addr = search rules in
-    c.new.ensures ∙ past_under c.args.system.net.now h c.args.name past
+    record { names = c.new.ensures ∙ past_under c.args.system.net.now h c.args.name past }
 
 pub shown_at-requires-clause-there : goal.shown_at-requires-clause-there
 shown_at-requires-clause-there g c =
@@ -32,4 +32,4 @@ returns g c =
     let h : Held = allowing c.args.access (record_kept kinds c.args.tables.now) in
     let alone : IsAlone x c.in-Some.seg = search rules in
     let is = given_names net h x c.in-Some.seg alone c.in_ok-shown.shown.items c.new-found.result.items c.push_given.new.found.items c.new-found.ensures.items (subst (λ l. (z : Name) → has_name c.push_given.new.found.items z ≡ (has_name c.new-found.result.items z || segs_give l x.addr (end_of z))) c.as_slice.ensures.value c.in_ok-push_given.ensures) c.in_ok-shown.ensures in
-    set_is_ends c.push_given.new.found.items (resolved_names_under net h x) c.set_of.result (names_are net h x c.push_given.new.found.items is) c.set_of.ensures
+    record { names = set_is_ends c.push_given.new.found.items (resolved_names_under net h x) c.set_of.result (names_are net h x c.push_given.new.found.items is) c.set_of.ensures }
