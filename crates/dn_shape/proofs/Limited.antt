@@ -1,5 +1,5 @@
 -- The limits that a net passes, and those that its parts pass.
-use Rattle.std.proofs.Common.{◌≡◌, ◌<◌, ◌≤◌, ◌+◌, ℕ, Bool, true, false, if◌then◌else◌, nat_lt, List, length, map, Option, Some, None, option_map, ap, sym, refl, ◌∙◌, arith}
+use Rattle.std.proofs.Common.{◌≡◌, ◌<◌, ◌≤◌, ◌+◌, ℕ, Bool, true, false, if◌then◌else◌, nat_lt, List, length, map, slice_get, Option, Some, None, option_map, ap, sym, refl, ◌∙◌, arith}
 use Rattle.std.specs.List.{list_any}
 use Rattle.std.proofs.lemmas.Bool.{le-ltb, lt-ltb, ltb-true, ltb-false}
 use Rattle.std.proofs.lemmas.List.{length-map}
@@ -8,8 +8,10 @@ use Rattle.dn_interval.specs.Listed.{seen_view}
 use Rattle.dn_net.specs.declared.node.NodeDecl.{NodeDecl}
 use Rattle.dn_net.specs.Legal.{node_limit}
 use Rattle.dn_net.specs.Parts.{parts_of_node}
+use Rattle.dn_net.proofs.Faults.{part_is}
 use Rattle.dn_shape.specs.Absorb.{entry_of_row, is_rewritten, node_led_past, node_past, rows_past}
 use Rattle.dn_shape.specs.Limits.{part_limit, dest_limit, parts_of_net, has_long_entry, net_of_few_parts, node_of_few_parts, passed_limit}
+use Rattle.dn_shape.proofs.Read.{Rest, rest_at}
 
 -- the limit that is passed, by the tests of the three
 abbrev limit_by : Bool → Bool → Bool → Option ℕ
@@ -70,6 +72,18 @@ node_some room n d = by (nat_lt room (parts_of_node n)) refl
     by : (b : Bool) → nat_lt room (parts_of_node n) ≡ b → ◌≡◌ {A = Option NodeDecl} (if b then None else Some n) (Some d) → (n ≡ d) × (parts_of_node n ≤ room)
     by true t e = cc
     by false t e = ((let f : n ≡ d = cc in f), ltb-false room (parts_of_node n) t)
+
+-- the node past another that was made of the one at a place
+pub record MadeAt (net : List NodeDecl) (m i room : ℕ) (decl : NodeDecl) : Type 0 where
+  pub old : Rest net i
+  pub is : node_past net m i old.node ≡ decl
+  pub few : parts_of_node (node_past net m i old.node) ≤ room
+
+pub made_at : (net : List NodeDecl) (m i room : ℕ) (decl : NodeDecl) (found : Option NodeDecl) → i < length net → option_map (λ n. node_of_few_parts room (node_past net m i n)) (slice_get net i) ≡ Some found → found ≡ Some decl → MadeAt net m i room decl
+made_at net m i room decl found l h some =
+    let r = rest_at net i l in
+    let d = node_some room (node_past net m i r.node) decl (part_is (λ n. node_of_few_parts room (node_past net m i n)) _ r.node found r.at h ∙ some) in
+    record { old = r; is = d.0; few = d.1 }
 
 -- a node of more parts than there is room for is none, and any other is itself
 pub node_past_room : (room : ℕ) (n : NodeDecl) → room < parts_of_node n → node_of_few_parts room n ≡ None

@@ -6,18 +6,18 @@ ghost use Rattle.std.specs.Option.{option_copied};
 ghost use Rattle.dn_base.specs.Terms.{Answers};
 ghost use Rattle.dn_interval.specs.Terms.{seen_view};
 ghost use Rattle.dn_net.specs.Terms.{IsLegalNet, is_agent, is_vectors, parts_of_node};
-ghost use Rattle.dn_shape.specs.Terms.{HaveEqualViews, IsRuledNet, LeadOn, absorb_fault_view, absorb_outcome, has_port, is_port, is_rewritten, leads_to, maps_to, net_of_few_parts, net_past, net_within, node_led_past, node_of_few_parts, node_past, passed_limit, why_not_at, with_rows};
+ghost use Rattle.dn_shape.specs.Terms.{HaveEqualViews, IsRuledNet, LeadOn, absorb_fault_view, absorb_outcome, has_port, is_port, is_rewritten, leads_to, maps_to, net_of_few_parts, net_past, net_within, node_of_few_parts, node_past, passed_limit, why_not_at, with_rows};
 ghost use Rattle.dn_walk.specs.Terms.{bare_legs, leg_view};
 
 use crate::copy::{node_copy, unit_copy};
 use crate::fault::{AbsorbFault, Why};
 use crate::limits::{MAX_DESTS, MAX_PARTS, has_long_entry, parts_of_node};
+use crate::node::CheckedNode;
 use crate::past::{entries_of, legs_of, rows_past};
 use dn_base::OutOfMemory;
 use dn_base::items::Items;
 use dn_base::text::Text;
 use dn_interval::{Rows, Seg};
-use dn_net::checked::CheckedNet;
 use dn_net::net::Net;
 use dn_net::node::{Dest, Entry, NodeDecl, Role, Unit};
 use std::alloc::Global;
@@ -170,7 +170,7 @@ fn few_parts_past(alloc: Global, net: &Net, past: u16) -> Result<Option<Net>, Ou
     requires there { past < length net.now }
     ensures { IfOk result (λ found. found ≡ net_of_few_parts (net_past net.now past)) }
 {
-    let legs = legs_of(alloc, CheckedNet { net }, past)?;
+    let legs = legs_of(alloc, CheckedNode { net, node: past })?;
     nodes_past(alloc, net, past, legs.as_slice())
 }
 
@@ -191,7 +191,7 @@ fn nodes_past(
     let mut made = Net::new(alloc);
     let mut room = MAX_PARTS as usize;
     for node in 0..net.nodes() {
-        let found = node_past(alloc, CheckedNet { net }, past, onward, node, room)?;
+        let found = node_past(alloc, CheckedNode { net, node }, past, onward, room)?;
         let Some(decl) = found else {
             return Ok(None);
         };
@@ -210,27 +210,30 @@ fn parts_of(decl: &NodeDecl) -> usize
 }
 
 /// A node, which has the rows past the absorbed one in place of its map and its `over` where it leads to
-/// it. None where it has more parts than there is room for.
+/// it. None where it has more parts than there is room for, which is known before its entries are made.
 fn node_past(
     alloc: Global,
-    checked: CheckedNet,
+    checked: CheckedNode,
     past: u16,
     onward: &[Seg],
-    node: u16,
     room: usize,
 ) -> Result<Option<NodeDecl>, OutOfMemory>
     requires onward { option_map bare_legs (slice_get checked.net.now past)
         ≡ Some (map leg_view onward.now) }
     requires lead { LeadOn onward.now }
-    requires there { node < length checked.net.now }
-    ensures { IfOk result (λ found. option_map
-        (λ n. node_of_few_parts room (node_past checked.entry.net.now past node n))
-        (slice_get checked.entry.net.now node) ≡ Some found) }
+    ensures { IfOk result (λ found. option_map (λ n. node_of_few_parts room
+        (node_past checked.entry.net.now past checked.entry.node n))
+        (slice_get checked.entry.net.now checked.entry.node) ≡ Some found) }
 {
-    if !is_rewritten(checked.net, past, node) {
-        return node_kept(alloc, checked.net, node, room);
+    let (net, node) = (checked.net, checked.node);
+    if !is_rewritten(net, past, node) {
+        return node_kept(alloc, net, node, room);
     }
-    node_led_past(alloc, checked, past, onward, node, room)
+    let rows = rows_past(alloc, checked, past, onward)?;
+    if room < parts_with_rows(net, node, &rows) {
+        return Ok(None);
+    }
+    Ok(Some(with_rows(alloc, net, node, &rows)?))
 }
 
 /// Whether a node is rewritten where another is absorbed: it is not that one, and leads to it.
@@ -256,31 +259,6 @@ fn node_kept(
         return Ok(None);
     }
     Ok(Some(node_copy(alloc, net, node)?))
-}
-
-/// A node with the rows past the absorbed one in place of its map and its `over`. None where it has more parts
-/// than there is room for, which is known before its entries are made.
-fn node_led_past(
-    alloc: Global,
-    checked: CheckedNet,
-    past: u16,
-    onward: &[Seg],
-    node: u16,
-    room: usize,
-) -> Result<Option<NodeDecl>, OutOfMemory>
-    requires onward { option_map bare_legs (slice_get checked.net.now past)
-        ≡ Some (map leg_view onward.now) }
-    requires lead { LeadOn onward.now }
-    requires there { node < length checked.net.now }
-    ensures { IfOk result (λ found. option_map
-        (λ n. node_of_few_parts room (node_led_past checked.entry.net.now past node n))
-        (slice_get checked.entry.net.now node) ≡ Some found) }
-{
-    let rows = rows_past(alloc, checked, past, onward, node)?;
-    if room < parts_with_rows(checked.net, node, &rows) {
-        return Ok(None);
-    }
-    Ok(Some(with_rows(alloc, checked.net, node, &rows)?))
 }
 
 /// The parts of a node that has rows in place of its map and its `over`.

@@ -11,6 +11,7 @@ mod copy;
 pub mod fault;
 pub mod laws;
 mod limits;
+mod node;
 mod past;
 mod spans;
 pub mod split;

@@ -1,18 +1,18 @@
 //! The map entries that lead a node past another.
 
-ghost use Rattle.std.specs.Prelude.{◌≡◌, ◌<◌, ◌≤◌, ◌+◌, ◌-◌, ◌++◌, ℕ, length, map, slice_get, option_map, Some, IfOk, OnOk};
+ghost use Rattle.std.specs.Prelude.{◌≡◌, ◌≤◌, ◌+◌, ◌-◌, ◌++◌, ℕ, map, slice_get, option_map, Some, IfOk, OnOk};
 ghost use Rattle.std.specs.List.{All, flat_map};
 ghost use Rattle.dn_interval.specs.declared.row.End.{End};
 ghost use Rattle.dn_interval.specs.Terms.{seen_view, segs_give};
 ghost use Rattle.dn_net.specs.Terms.{extensions_of, still_walk};
-ghost use Rattle.dn_shape.specs.Terms.{LeadOn, bare_give, bare_onward, dest_of_end, entry_of_row, rows_past, walks_past};
+ghost use Rattle.dn_shape.specs.Terms.{LeadOn, bare_give, bare_onward, dest_of_end, entry_of_row, rows_past};
 ghost use Rattle.dn_walk.specs.Terms.{bare_extensions_by, bare_legs, bare_walk, leg_view, row_view};
 
+use crate::node::CheckedNode;
 use crate::spans::block_of;
 use dn_base::OutOfMemory;
 use dn_base::items::Items;
 use dn_interval::{End, Row, Rows, Seg, Span, TOP};
-use dn_net::checked::CheckedNet;
 use dn_net::node::{Dest, Entry};
 use dn_walk::leg::node_legs;
 use dn_walk::level::{extend_row, met_by};
@@ -23,58 +23,20 @@ use std::alloc::Global;
 /// the other stand those to which it decodes.
 pub(crate) fn rows_past(
     alloc: Global,
-    checked: CheckedNet,
+    checked: CheckedNode,
     past: u16,
     onward: &[Seg],
-    node: u16,
 ) -> Result<Rows, OutOfMemory>
     requires onward { option_map bare_legs (slice_get checked.net.now past)
         ≡ Some (map leg_view onward.now) }
     requires lead { LeadOn onward.now }
-    requires there { node < length checked.net.now }
     ensures { IfOk result (λ rows. map seen_view rows
-        ≡ rows_past checked.entry.net.now past node) }
+        ≡ rows_past checked.entry.net.now past checked.entry.node) }
 {
-    let segs = segs_past(alloc, checked, past, onward, node)?;
+    let first = first_walks(alloc, checked)?;
+    let walks = walks_onward(alloc, &first, past, onward)?;
+    let segs = segs_of(alloc, &walks)?;
     Rows::normal(alloc, &segs)
-}
-
-/// The same as segments, in no order.
-fn segs_past(
-    alloc: Global,
-    checked: CheckedNet,
-    past: u16,
-    onward: &[Seg],
-    node: u16,
-) -> Result<Vec<Seg>, OutOfMemory>
-    requires onward { option_map bare_legs (slice_get checked.net.now past)
-        ≡ Some (map leg_view onward.now) }
-    requires lead { LeadOn onward.now }
-    requires there { node < length checked.net.now }
-    ensures { IfOk result (λ segs. (a : ℕ) (y : End) → segs_give segs.items a y
-        ≡ bare_give (map bare_walk (walks_past checked.entry.net.now past node)) a y) }
-{
-    let walks = walks_past(alloc, checked, past, onward, node)?;
-    segs_of(alloc, &walks)
-}
-
-/// The walks that lead a node past another.
-fn walks_past(
-    alloc: Global,
-    checked: CheckedNet,
-    past: u16,
-    onward: &[Seg],
-    node: u16,
-) -> Result<Vec<WalkRow>, OutOfMemory>
-    requires onward { option_map bare_legs (slice_get checked.net.now past)
-        ≡ Some (map leg_view onward.now) }
-    requires lead { LeadOn onward.now }
-    requires there { node < length checked.net.now }
-    ensures { IfOk result (λ v. map row_view v.items
-        ≡ map bare_walk (walks_past checked.entry.net.now past node)) }
-{
-    let first = first_walks(alloc, checked, node)?;
-    walks_onward(alloc, &first, past, onward)
 }
 
 /// The walks, and in place of each that leads into the node, those by which it goes on.
@@ -98,18 +60,17 @@ fn walks_onward(
 }
 
 /// The walks of one choice from a node.
-fn first_walks(alloc: Global, checked: CheckedNet, node: u16) -> Result<Vec<WalkRow>, OutOfMemory>
-    requires there { node < length checked.net.now }
-    ensures walks { IfOk result (λ v. map row_view v.items
-        ≡ map bare_walk (extensions_of checked.entry.net.now (still_walk node))) }
+fn first_walks(alloc: Global, checked: CheckedNode) -> Result<Vec<WalkRow>, OutOfMemory>
+    ensures walks { IfOk result (λ v. map row_view v.items ≡ map bare_walk
+        (extensions_of checked.entry.net.now (still_walk checked.entry.node))) }
     ensures far { IfOk result (λ v. All (λ r. r.base + (r.span.hi - r.span.lo) ≤ TOP) v.items) }
     ensures short { IfOk result (λ v. All (λ r. r.len ≤ 64) v.items) }
 {
-    let legs = legs_of(alloc, checked, node)?;
+    let legs = legs_of(alloc, checked)?;
     let still = WalkRow {
-        start: node,
+        start: checked.node,
         span: Span { lo: 0, hi: TOP },
-        end: node,
+        end: checked.node,
         base: 0,
         len: 0,
     };
@@ -119,17 +80,12 @@ fn first_walks(alloc: Global, checked: CheckedNet, node: u16) -> Result<Vec<Walk
 }
 
 /// The legs of a node.
-pub(crate) fn legs_of(
-    alloc: Global,
-    checked: CheckedNet,
-    node: u16,
-) -> Result<Items<Seg>, OutOfMemory>
-    requires there { node < length checked.net.now }
-    ensures legs { IfOk result (λ ls. option_map bare_legs (slice_get checked.entry.net.now node)
-        ≡ Some (map leg_view ls)) }
+pub(crate) fn legs_of(alloc: Global, checked: CheckedNode) -> Result<Items<Seg>, OutOfMemory>
+    ensures legs { IfOk result (λ ls. option_map bare_legs
+        (slice_get checked.entry.net.now checked.entry.node) ≡ Some (map leg_view ls)) }
     ensures lead { IfOk result (λ ls. LeadOn ls) }
 {
-    let net = checked.net;
+    let (net, node) = (checked.net, checked.node);
     node_legs(alloc, net.accepts(node), net.entries(node), net.over(node))
 }
 

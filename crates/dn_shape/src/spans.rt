@@ -1,12 +1,12 @@
 //! The maximal spans of what a node accepts.
 
-ghost use Rattle.std.specs.Prelude.{◌≡◌, ◌<◌, length, map, slice_get, option_map, IfOk, Some};
+ghost use Rattle.std.specs.Prelude.{◌≡◌, map, slice_get, option_map, IfOk, Some};
 ghost use Rattle.dn_shape.specs.Terms.{maximal_spans};
 ghost use Rattle.dn_walk.specs.Terms.{span_view};
 
+use crate::node::CheckedNode;
 use dn_base::OutOfMemory;
 use dn_interval::Span;
-use dn_net::checked::CheckedNet;
 use dn_net::node::Block;
 use dn_walk::accepted::accepted_set;
 use std::alloc::Global;
@@ -14,14 +14,12 @@ use std::alloc::Global;
 /// The maximal spans of the addresses that a node accepts, ascending.
 pub(crate) fn maximal_accepts(
     alloc: Global,
-    checked: CheckedNet,
-    node: u16,
+    checked: CheckedNode,
 ) -> Result<Vec<Block>, OutOfMemory>
-    requires there { node < length checked.net.now }
     ensures { IfOk result (λ v. option_map (λ d. maximal_spans d.accepts)
-        (slice_get checked.entry.net.now node) ≡ Some v.items) }
+        (slice_get checked.entry.net.now checked.entry.node) ≡ Some v.items) }
 {
-    let set = accepted_set(alloc, checked.net, node)?;
+    let set = accepted_set(alloc, checked.net, checked.node)?;
     blocks_of(alloc, set.spans())
 }
 

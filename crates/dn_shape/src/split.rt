@@ -9,6 +9,7 @@ ghost use Rattle.dn_shape.specs.Terms.{HaveEqualViews, IsRuledNet, accepter, acc
 use crate::copy::{entries_copy, node_copy, unit_copy};
 use crate::fault::SplitFault;
 use crate::limits::{MAX_PARTS, parts_of_node, passed_limit};
+use crate::node::CheckedNode;
 use crate::spans::maximal_accepts;
 use dn_base::OutOfMemory;
 use dn_base::items::Items;
@@ -74,8 +75,9 @@ fn has_many_parts(alloc: Global, checked: CheckedNet) -> Result<bool, OutOfMemor
         ≡ nat_lt part_limit (parts_of_split checked.entry.net.now)) }
 {
     let mut room = MAX_PARTS as usize;
-    for node in 0..checked.net.nodes() {
-        let parts = parts_when_split(alloc, checked, node)?;
+    let net = checked.net;
+    for node in 0..net.nodes() {
+        let parts = parts_when_split(alloc, CheckedNode { net, node })?;
         if room < parts {
             return Ok(true);
         }
@@ -85,16 +87,15 @@ fn has_many_parts(alloc: Global, checked: CheckedNet) -> Result<bool, OutOfMemor
 }
 
 /// The parts of a node in the split net, with those of the new node for it.
-fn parts_when_split(alloc: Global, checked: CheckedNet, node: u16) -> Result<usize, OutOfMemory>
-    requires there { node < length checked.net.now }
+fn parts_when_split(alloc: Global, checked: CheckedNode) -> Result<usize, OutOfMemory>
     ensures { IfOk result (λ parts. option_map parts_when_split
-        (slice_get checked.entry.net.now node) ≡ Some parts) }
+        (slice_get checked.entry.net.now checked.entry.node) ≡ Some parts) }
 {
-    let net = checked.net;
+    let (net, node) = (checked.net, checked.node);
     if !is_divided(net, node) {
         return Ok(parts_of_node(net, node));
     }
-    let spans = maximal_accepts(alloc, checked, node)?.len();
+    let spans = maximal_accepts(alloc, checked)?.len();
     let kept = net.entries(node).len() + usize::from(net.over(node).is_some());
     Ok(spans + (spans + kept))
 }
@@ -109,29 +110,23 @@ fn sending_nodes(alloc: Global, net: &Net) -> Result<Net, OutOfMemory>
     let mut made = Net::new(alloc);
     let mut next = count;
     for node in 0..count {
-        made.add(sending_node(alloc, CheckedNet { net }, node, next)?)?;
+        made.add(sending_node(alloc, CheckedNode { net, node }, next)?)?;
         next += u16::from(is_divided(net, node));
     }
     Ok(made)
 }
 
 /// An old node of the split net, which sends what it accepts to the next new node where it is divided.
-fn sending_node(
-    alloc: Global,
-    checked: CheckedNet,
-    node: u16,
-    next: u16,
-) -> Result<NodeDecl, OutOfMemory>
-    requires there { node < length checked.net.now }
+fn sending_node(alloc: Global, checked: CheckedNode, next: u16) -> Result<NodeDecl, OutOfMemory>
     ensures { IfOk result (λ n. option_map (sending_node next)
-        (slice_get checked.entry.net.now node) ≡ Some n) }
+        (slice_get checked.entry.net.now checked.entry.node) ≡ Some n) }
 {
-    let net = checked.net;
+    let (net, node) = (checked.net, checked.node);
     if !is_divided(net, node) {
         return node_copy(alloc, net, node);
     }
     let mut entries = entries_copy(alloc, net.entries(node))?;
-    let spans = maximal_accepts(alloc, checked, node)?;
+    let spans = maximal_accepts(alloc, checked)?;
     push_spans(alloc, &mut entries, &spans, next)?;
     Ok(NodeDecl {
         text: Text::of(alloc, net.text(node))?,
@@ -172,46 +167,36 @@ fn add_accepters(alloc: Global, checked: CheckedNet, made: &mut Net) -> Result<(
     requires few { length made.old + divided_count checked.net.now ≤ node_limit }
     ensures { OnOk result (made.new ≡ with_accepters made.old checked.entry.net.now) }
 {
-    for node in 0..checked.net.nodes() {
-        add_accepter(alloc, checked, node, made)?;
+    let net = checked.net;
+    for node in 0..net.nodes() {
+        add_accepter(alloc, CheckedNode { net, node }, made)?;
     }
     Ok(())
 }
 
 /// Adds the new node for an old one, where that is divided.
-fn add_accepter(
-    alloc: Global,
-    checked: CheckedNet,
-    node: u16,
-    made: &mut Net,
-) -> Result<(), OutOfMemory>
-    requires there { node < length checked.net.now }
-    requires few { (n : NodeDecl) → slice_get checked.net.now node ≡ Some n
+fn add_accepter(alloc: Global, checked: CheckedNode, made: &mut Net) -> Result<(), OutOfMemory>
+    requires few { (n : NodeDecl) → slice_get checked.net.now checked.node ≡ Some n
         → length made.old + new_nodes n ≤ node_limit }
     ensures { OnOk result (option_map (with_accepter made.old)
-        (slice_get checked.entry.net.now node) ≡ Some made.new) }
+        (slice_get checked.entry.net.now checked.entry.node) ≡ Some made.new) }
 {
-    if is_divided(checked.net, node) {
-        let decl = accepter(alloc, checked, node, made)?;
+    if is_divided(checked.net, checked.node) {
+        let decl = accepter(alloc, checked, made)?;
         made.add(decl)?;
     }
     Ok(())
 }
 
 /// The new node of a divided one.
-fn accepter(
-    alloc: Global,
-    checked: CheckedNet,
-    node: u16,
-    made: &Net,
-) -> Result<NodeDecl, OutOfMemory>
-    requires there { node < length checked.net.now }
+fn accepter(alloc: Global, checked: CheckedNode, made: &Net) -> Result<NodeDecl, OutOfMemory>
     ensures { IfOk result (λ n. option_map (accepter made.now)
-        (slice_get checked.entry.net.now node) ≡ Some n) }
+        (slice_get checked.entry.net.now checked.entry.node) ≡ Some n) }
 {
-    let accepts = maximal_accepts(alloc, checked, node)?;
+    let accepts = maximal_accepts(alloc, checked)?;
+    let text = checked.net.text(checked.node);
     Ok(NodeDecl {
-        text: free_text(alloc, made, checked.net.text(node))?,
+        text: free_text(alloc, made, text)?,
         role: Role::Plain,
         accepts: Items::from_vec(accepts),
         entries: Items::new(alloc),

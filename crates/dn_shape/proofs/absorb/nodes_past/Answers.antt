@@ -11,7 +11,7 @@ use Rattle.dn_net.proofs.Faults.{part_is}
 use Rattle.dn_shape.specs.Absorb.{node_past, nodes_past, net_past}
 use Rattle.dn_shape.specs.Limits.{node_of_few_parts, part_limit, parts_of_net}
 use Rattle.dn_shape.proofs.Led.{past_formed, past_differ}
-use Rattle.dn_shape.proofs.Limited.{all_made, node_none, node_some, none_made}
+use Rattle.dn_shape.proofs.Limited.{all_made, made_at, node_none, none_made}
 use Rattle.dn_shape.proofs.Named.{new_node}
 use Rattle.dn_shape.proofs.Read.{rest_at, passed_now, passed_later}
 use Rattle.dn_shape.proofs.absorb.nodes_past.Goals as goal
@@ -21,8 +21,8 @@ returns-in_default c =
     let net = c.args.net.now in
     let m = c.args.past in
     let i = c.loop-node.node in
-    let room = c.loop-node.room in
     let r = rest_at net i (omega (arith, c.nodes-node-end.ensures, c.loop-node-test.true)) in
+    let room = c.loop-node.room in
     let none : c.in_ok-found.found ≡ None = search rules in
     let is : node_of_few_parts room (node_past net m i r.node) ≡ None = part_is (λ n. node_of_few_parts room (node_past net m i n)) _ r.node c.in_ok-found.found r.at c.in_ok-found.ensures ∙ none in
     none_made (net_past net m) (c.loop-node.invariant.parts ∙ ap (λ l. nat_lt room (parts_of_net (nodes_past net m i l))) r.rest ∙ passed_now room (parts_of_node (node_past net m i r.node)) (parts_of_net (nodes_past net m (suc i) (drop (i + 1) net))) (node_none room (node_past net m i r.node) is))
@@ -30,40 +30,32 @@ returns-in_default c =
 pub add-requires-clause-formed : goal.add-requires-clause-formed
 add-requires-clause-formed c =
     let net = c.args.net.now in
-    let m = c.args.past in
     let i = c.loop-node.node in
-    let r = rest_at net i (omega (arith, c.nodes-node-end.ensures, c.loop-node-test.true)) in
-    let some : c.in_ok-found.found ≡ Some c.in-Some.decl = search rules in
-    let d = node_some c.loop-node.room (node_past net m i r.node) c.in-Some.decl (part_is (λ n. node_of_few_parts c.loop-node.room (node_past net m i n)) _ r.node c.in_ok-found.found r.at c.in_ok-found.ensures ∙ some) in
-    subst (λ n. IsTrue (is_formed n)) d.0 (past_formed net m i r.node (node_at is_formed net i c.requires.legal.is_net.formed r.node r.at))
+    let d = made_at net c.args.past i c.loop-node.room c.in-Some.decl c.in_ok-found.found (omega (arith, c.nodes-node-end.ensures, c.loop-node-test.true)) c.in_ok-found.ensures (search rules) in
+    subst (λ n. IsTrue (is_formed n)) d.is (past_formed net c.args.past i d.old.node (node_at is_formed net i c.requires.legal.is_net.formed d.old.node d.old.at))
 
 pub add-requires-clause-new_name : goal.add-requires-clause-new_name
 add-requires-clause-new_name c =
     let net = c.args.net.now in
-    let m = c.args.past in
     let i = c.loop-node.node in
-    let r = rest_at net i (omega (arith, c.nodes-node-end.ensures, c.loop-node-test.true)) in
-    let some : c.in_ok-found.found ≡ Some c.in-Some.decl = search rules in
-    let d = node_some c.loop-node.room (node_past net m i r.node) c.in-Some.decl (part_is (λ n. node_of_few_parts c.loop-node.room (node_past net m i n)) _ r.node c.in_ok-found.found r.at c.in_ok-found.ensures ∙ some) in
-    new_node c.loop-node.made (nodes_past net m (suc i) (drop (i + 1) net)) _ (node_past net m i r.node) c.in-Some.decl d.0 (ap (λ l. c.loop-node.made ++ nodes_past net m i l) (sym r.rest) ∙ c.loop-node.invariant.rest) (past_differ net m c.requires.legal.is_net.names_differ)
+    let d = made_at net c.args.past i c.loop-node.room c.in-Some.decl c.in_ok-found.found (omega (arith, c.nodes-node-end.ensures, c.loop-node-test.true)) c.in_ok-found.ensures (search rules) in
+    new_node c.loop-node.made (nodes_past net c.args.past (suc i) (drop (i + 1) net)) _ (node_past net c.args.past i d.old.node) c.in-Some.decl d.is (ap (λ l. c.loop-node.made ++ nodes_past net c.args.past i l) (sym d.old.rest) ∙ c.loop-node.invariant.rest) (past_differ net c.args.past c.requires.legal.is_net.names_differ)
 
 pub loop-node-preserved : goal.loop-node-preserved
 loop-node-preserved c =
     let net = c.args.net.now in
     let m = c.args.past in
     let i = c.loop-node.node in
-    let room = c.loop-node.room in
-    let r = rest_at net i (omega (arith, c.nodes-node-end.ensures, c.loop-node-test.true)) in
-    let some : c.in_ok-found.found ≡ Some c.in-Some.decl = search rules in
-    let d = node_some room (node_past net m i r.node) c.in-Some.decl (part_is (λ n. node_of_few_parts room (node_past net m i n)) _ r.node c.in_ok-found.found r.at c.in_ok-found.ensures ∙ some) in
-    let k : parts_of_node (node_past net m i r.node) ≡ c.parts_of-room.result = ap parts_of_node d.0 ∙ sym c.parts_of-room.ensures in
-    let few : c.parts_of-room.result ≤ room = omega (arith, k, d.1) in
+    let d = made_at net m i c.loop-node.room c.in-Some.decl c.in_ok-found.found (omega (arith, c.nodes-node-end.ensures, c.loop-node-test.true)) c.in_ok-found.ensures (search rules) in
+    let r = d.old in
+    let k : parts_of_node (node_past net m i r.node) ≡ c.parts_of-room.result = ap parts_of_node d.is ∙ sym c.parts_of-room.ensures in
+    let few : c.parts_of-room.result ≤ c.loop-node.room = omega (arith, k, d.few) in
     let added = c.in_ok-add.ensures.ok.1 in
     let next : i + 1 ≡ suc i = omega arith in
     record {
-      rest = ap (λ l. l ++ nodes_past net m (i + 1) (drop (i + 1) net)) (added ∙ ap (λ n. c.loop-node.made ++ n ∷ []) (sym d.0)) ∙ append_assoc c.loop-node.made (node_past net m i r.node ∷ []) (nodes_past net m (i + 1) (drop (i + 1) net)) ∙ ap (λ j. c.loop-node.made ++ node_past net m i r.node ∷ nodes_past net m j (drop (i + 1) net)) next ∙ ap (λ l. c.loop-node.made ++ nodes_past net m i l) (sym r.rest) ∙ c.loop-node.invariant.rest;
+      rest = ap (λ l. l ++ nodes_past net m (i + 1) (drop (i + 1) net)) (added ∙ ap (λ n. c.loop-node.made ++ n ∷ []) (sym d.is)) ∙ append_assoc c.loop-node.made (node_past net m i r.node ∷ []) (nodes_past net m (i + 1) (drop (i + 1) net)) ∙ ap (λ j. c.loop-node.made ++ node_past net m i r.node ∷ nodes_past net m j (drop (i + 1) net)) next ∙ ap (λ l. c.loop-node.made ++ nodes_past net m i l) (sym r.rest) ∙ c.loop-node.invariant.rest;
       count = ap length added ∙ length-last c.loop-node.made c.in-Some.decl ∙ ap (λ j. j + 1) c.loop-node.invariant.count;
-      parts = c.loop-node.invariant.parts ∙ ap (λ l. nat_lt room (parts_of_net (nodes_past net m i l))) r.rest ∙ passed_later room (parts_of_node (node_past net m i r.node)) c.parts_of-room.result (parts_of_net (nodes_past net m (suc i) (drop (i + 1) net))) k few ∙ ap (λ j. nat_lt (room - c.parts_of-room.result) (parts_of_net (nodes_past net m j (drop (i + 1) net)))) (sym next);
+      parts = c.loop-node.invariant.parts ∙ ap (λ l. nat_lt c.loop-node.room (parts_of_net (nodes_past net m i l))) r.rest ∙ passed_later c.loop-node.room (parts_of_node (node_past net m i r.node)) c.parts_of-room.result (parts_of_net (nodes_past net m (suc i) (drop (i + 1) net))) k few ∙ ap (λ j. nat_lt (c.loop-node.room - c.parts_of-room.result) (parts_of_net (nodes_past net m j (drop (i + 1) net)))) (sym next);
     }
 
 pub returns : goal.returns

@@ -7,4 +7,4 @@ use Rattle.dn_shape.proofs.spans.maximal_accepts.Goals as goal
 
 pub returns : goal.returns
 returns c =
-    IfOk-weaker c.blocks_of.result _ _ (λ v h. set_spans c.args.checked.net.now c.args.node c.in_ok-set.set v.items c.args.checked.rules c.requires.there c.spans.ensures.maximal c.in_ok-set.ensures (h ∙ ap (map span_view) c.spans.ensures.value)) c.blocks_of.ensures
+    IfOk-weaker c.blocks_of.result _ _ (λ v h. set_spans c.args.checked.net.now c.args.checked.node c.in_ok-set.set v.items c.args.checked.rules c.args.checked.there c.spans.ensures.maximal c.in_ok-set.ensures (h ∙ ap (map span_view) c.spans.ensures.value)) c.blocks_of.ensures

@@ -10,7 +10,7 @@ use Rattle.dn_shape.proofs.split.parts_when_split.Goals as goal
 pub returns-then-not-is_divided : goal.returns-then-not-is_divided
 returns-then-not-is_divided c =
     let net = c.args.checked.net.now in
-    let r = rest_at net c.args.node c.requires.there in
+    let r = rest_at net c.args.checked.node c.args.checked.there in
     let whole : is_divided r.node ≡ false = part_is is_divided _ r.node c.is_divided.result r.at c.is_divided.ensures ∙ c.if-not-is_divided.true in
     let parts : parts_of_node r.node ≡ c.parts_of_node.result = part_is parts_of_node _ r.node c.parts_of_node.result r.at c.parts_of_node.ensures in
     let s = length (maximal_spans r.node.accepts) in
@@ -19,7 +19,7 @@ returns-then-not-is_divided c =
 pub returns : goal.returns
 returns c =
     let net = c.args.checked.net.now in
-    let r = rest_at net c.args.node c.requires.there in
+    let r = rest_at net c.args.checked.node c.args.checked.there in
     let divided : is_divided r.node ≡ true = part_is is_divided _ r.node c.is_divided.result r.at c.is_divided.ensures ∙ c.if-not-is_divided.false in
     let spans : maximal_spans r.node.accepts ≡ c.in_ok-maximal_accepts.field-0.items = part_is (λ d. maximal_spans d.accepts) _ r.node _ r.at c.in_ok-maximal_accepts.ensures in
     let s = length (maximal_spans r.node.accepts) in
