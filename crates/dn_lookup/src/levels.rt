@@ -14,7 +14,8 @@ use dn_kind::rights::Access;
 use dn_net::names::Names;
 use dn_net::node::Name;
 use dn_net::step::Step;
-use dn_view::names::{push_resolved, push_stops};
+use dn_view::names::push_names;
+use dn_view::part::Part;
 use std::alloc::{AllocError, Global};
 
 /// How many rounds there are: the name itself, and behind each of up to three units.
@@ -103,7 +104,7 @@ fn push_round(
         next.old.items next.new.items) }
 {
     for name in round {
-        push_resolved(alloc, image.net, flats, *name, accepted)?;
+        push_names(alloc, image.net, flats, Part::Accepts, *name, accepted)?;
         push_onward(alloc, image, flats, access, *name, next)?;
     }
     Ok(())
@@ -126,7 +127,7 @@ fn push_onward(
         next.old.items next.new.items) }
 {
     let mut stops = Vec::new(alloc);
-    push_stops(alloc, image.net, flats, name, &mut stops)?;
+    push_names(alloc, image.net, flats, Part::Stops, name, &mut stops)?;
     push_outputs(image, access, stops.as_slice(), next)
 }
 

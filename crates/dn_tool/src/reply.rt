@@ -32,7 +32,7 @@ use dn_net::net::Net;
 use dn_net::node::{Name, Role};
 use dn_parse::syntax::Mode;
 use dn_print::names;
-use dn_view::resolve::{resolve_by, resolve_few};
+use dn_view::resolve::{resolve, resolve_few};
 use dn_view::system::System;
 use dn_view::view::{fixed_view, view};
 use std::alloc::{AllocError, Global};
@@ -171,7 +171,7 @@ fn node_names(
     };
     let Machine { net, kinds, .. } = machine;
     let system = System { net, flats, kinds };
-    let found = resolve_by(alloc, system, state.book.tables(), name, access)?;
+    let found = resolve(alloc, system, state.book.tables(), name, access)?;
     names_of(alloc, net, found.list())
 }
 

@@ -8,8 +8,8 @@ use Rattle.std.specs.List.{list_any}
 use Rattle.dn_interval.specs.Strands.{rows_give}
 use Rattle.dn_flat.specs.Levels.{FlatsView, levels_give, reached_of}
 use Rattle.dn_flat.proofs.Shown.{shows_none}
-use Rattle.dn_view.specs.declared.pass.Part.{Part}
-use Rattle.dn_view.specs.declared.pass.Part.TheVariants.{Accepts, Stops}
+use Rattle.dn_view.specs.declared.part.Part.{Part}
+use Rattle.dn_view.specs.declared.part.Part.TheVariants.{Accepts, Stops}
 use Rattle.dn_interval.specs.declared.row.End.{End}
 use Rattle.dn_interval.specs.declared.row.Row.{Row}
 use Rattle.dn_interval.specs.declared.row.Seg.{Seg}

@@ -21,8 +21,8 @@ use Rattle.dn_walk.specs.Ends.{end_of, name_of_end}
 use Rattle.dn_flat.specs.Levels.{AreFlats, FlatsView, levels_give, stops_in}
 use Rattle.dn_flat.specs.Views.{ResolvesFrom, StopsFrom}
 use Rattle.dn_flat.proofs.Shown.{levels_there, shows_is}
-use Rattle.dn_view.specs.declared.pass.Part.{Part}
-use Rattle.dn_view.specs.declared.pass.Part.TheVariants.{Accepts, Stops}
+use Rattle.dn_view.specs.declared.part.Part.{Part}
+use Rattle.dn_view.specs.declared.part.Part.TheVariants.{Accepts, Stops}
 use Rattle.dn_view.specs.Passes.{part_gives, outputs, outputs_by, names_go, seg_name, seg_passes, segs_pass, stops_of}
 use Rattle.dn_view.specs.Through.{Through, ComesThrough, Newly, ComesNewly, IsPassedOn}
 use Rattle.dn_view.proofs.Fitted.{IsSmall, small_unit}

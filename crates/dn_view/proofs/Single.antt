@@ -20,8 +20,10 @@ use Rattle.dn_kind.specs.Tables.{Held, output, steps_by_unit, steps_under, step_
 use Rattle.dn_kind.proofs.Sets.{sorted_same}
 use Rattle.dn_walk.specs.Ends.{end_of}
 use Rattle.dn_flat.specs.Levels.{AreFlats, FlatsView, levels_give, shows}
-use Rattle.dn_view.specs.Named.{has_name, IsAlone}
-use Rattle.dn_view.specs.Passes.{stops_of}
+use Rattle.dn_view.specs.declared.part.Part.{Part}
+use Rattle.dn_view.specs.declared.part.Part.TheVariants.{Accepts, Stops}
+use Rattle.dn_view.specs.Named.{has_name, ComesTo, IsAlone}
+use Rattle.dn_view.specs.Passes.{part_gives, stops_of}
 use Rattle.dn_view.specs.Views.{ResolvesFromUnder}
 use Rattle.dn_view.proofs.Viewed.{node_accepts, node_stops}
 
@@ -108,6 +110,10 @@ stops_given_at net flats are x l s is segs given z =
     let e : segs_give segs x.addr (end_of z) ≡ levels_give (stops_of flats x.node) x.addr (end_of z) = alone_there x s is (λ a n b. segs_give segs a (end_of z) ≡ levels_give (stops_of flats n) b (end_of z)) (given (end_of z)) in
     node_stops net flats are x.node (subst (λ n. x.node < n) (sym are.every) l) (segs_give segs x.addr (end_of z)) x.addr (end_of z) (is_low x s is) e
 
+pub part_given : (net : List NodeDecl) (flats : FlatsView) → AreFlats net flats → (part : Part) (x : Name) → x.node < length net → (s : Seg) → IsAlone x s → (segs : List Seg) → ((z : End) → segs_give segs s.span.lo z ≡ part_gives part flats s.node s.base z) → (z : Name) → (segs_give segs x.addr (end_of z) ≡ true) ↔ ComesTo net part x z
+part_given net flats are Accepts x l s is segs given z = resolved_given net flats are x l s is segs given z
+part_given net flats are Stops x l s is segs given z = stops_given_at net flats are x l s is segs given z
+
 -- past the last address
 
 off_top : (a : ℕ) → top < a → nat_le a top ≡ false
@@ -147,6 +153,10 @@ past_resolves net x z l = no_ends (steps net) (is_accepted net) step_limit x z (
 
 pub past_stops : (net : List NodeDecl) (x z : Name) → top < x.addr → StopsAt net x z → ⊥
 past_stops net x z l = no_ends (steps net) (is_stop net) step_limit x z (still_past net x l) (no_stop_past net x l)
+
+pub past_part : (net : List NodeDecl) (part : Part) (x z : Name) → top < x.addr → ComesTo net part x z → ⊥
+past_part net Accepts x z l r = past_resolves net x z l r
+past_part net Stops x z l r = past_stops net x z l r
 
 still_under : (net : List NodeDecl) (h : Held) (x : Name) → top < x.addr → steps_under net h x ≡ []
 still_under net h x l = by (unit_at net x.node)

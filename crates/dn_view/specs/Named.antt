@@ -9,6 +9,8 @@ use Rattle.dn_net.specs.Chain.{Member}
 use Rattle.dn_net.specs.Decode.{Resolves, StopsAt}
 use Rattle.dn_net.specs.Names.{name_eq}
 use Rattle.dn_walk.specs.Ends.{end_of}
+use Rattle.dn_view.specs.declared.part.Part.{Part}
+use Rattle.dn_view.specs.declared.part.Part.TheVariants.{Accepts, Stops}
 
 -- the name stands in the list
 abbrev pub has_name : List Name → Name → Bool
@@ -20,13 +22,14 @@ pub record IsAlone (x : Name) (s : Seg) : Type 0 where
   pub base : s.base ≡ x.addr
   pub lo : s.span.lo ≡ x.addr
 
--- the names that were there, and those to which the name resolves in the net
-abbrev pub AddsResolved : List NodeDecl → Name → List Name → List Name → Type 0
-AddsResolved net x old new = (z : Name) → Member z new ↔ (Member z old ⊎ Resolves net x z)
+-- the name comes to the other in the net: it resolves to it, or that is one of its stops
+abbrev pub ComesTo : List NodeDecl → Part → Name → Name → Type 0
+ComesTo net Accepts x z = Resolves net x z
+ComesTo net Stops x z = StopsAt net x z
 
--- the names that were there, and the stops of the name
-abbrev pub AddsStops : List NodeDecl → Name → List Name → List Name → Type 0
-AddsStops net x old new = (z : Name) → Member z new ↔ (Member z old ⊎ StopsAt net x z)
+-- the names that were there, and those to which the name comes
+abbrev pub AddsPart : List NodeDecl → Part → Name → List Name → List Name → Type 0
+AddsPart net part x old new = (z : Name) → Member z new ↔ (Member z old ⊎ ComesTo net part x z)
 
 -- the names that were there, and those that the segments give to the address
 abbrev pub AddsGiven : List Seg → ℕ → List Name → List Name → Type 0

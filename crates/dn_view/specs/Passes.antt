@@ -12,8 +12,8 @@ use Rattle.dn_net.specs.Decode.{unit_at}
 use Rattle.dn_kind.specs.Tables.{Held, output}
 use Rattle.dn_flat.specs.Levels.{FlatsView, levels_give, reached_of, shows, stops_in}
 use Rattle.dn_flat.specs.Onward.{has_rows}
-use Rattle.dn_view.specs.declared.pass.Part.{Part}
-use Rattle.dn_view.specs.declared.pass.Part.TheVariants.{Accepts, Stops}
+use Rattle.dn_view.specs.declared.part.Part.{Part}
+use Rattle.dn_view.specs.declared.part.Part.TheVariants.{Accepts, Stops}
 
 -- the layers of the stops of a node
 abbrev pub stops_of : FlatsView → ℕ → List (List Row)

@@ -13,7 +13,8 @@ ghost use Rattle.dn_walk.specs.Terms.{name_of_end};
 ghost use Rattle.dn_view.specs.Terms.{AreExactIn, ComesIn, IsAskedAt, IsExactIn, IsPassedIn, IsSystem, IsTrial, are_buffer, is_buffer_end, is_buffer_row, is_part};
 
 use crate::course::Course;
-use crate::pass::{Part, pass};
+use crate::part::Part;
+use crate::pass::pass;
 use crate::records::Records;
 use crate::shown::{UNITS, node_stops, passed_stops, push_through};
 use crate::system::System;

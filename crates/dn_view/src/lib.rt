@@ -6,6 +6,7 @@ pub mod exact;
 pub mod laws;
 pub mod names;
 mod output;
+pub mod part;
 mod pass;
 mod range;
 mod records;

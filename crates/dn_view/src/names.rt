@@ -3,8 +3,10 @@
 ghost use Rattle.std.specs.Prelude.{◌≡◌, ◌<◌, length, IfSome, IsNone, OnOk};
 ghost use Rattle.dn_interval.specs.declared.span.TheConstants.{TOP};
 ghost use Rattle.dn_flat.specs.Terms.{AreFlats};
-ghost use Rattle.dn_view.specs.Terms.{AddsGiven, AddsOne, AddsResolved, AddsStops, IsAlone};
+ghost use Rattle.dn_view.specs.Terms.{AddsGiven, AddsOne, AddsPart, IsAlone};
 
+use crate::part::Part;
+use crate::pass::push_sent;
 use dn_base::OutOfMemory;
 use dn_flat::flats::Flats;
 use dn_interval::{Seg, Span, TOP};
@@ -12,18 +14,19 @@ use dn_net::net::Net;
 use dn_net::node::Name;
 use std::alloc::Global;
 
-/// Adds the accepted names to which a name resolves in the net. Time of the levels of its node, and of the
-/// names that these give to its address.
-pub fn push_resolved(
+/// Adds the names to which a name comes in the net. Time of what its node comes to, and of the names that this
+/// gives to its address.
+pub fn push_names(
     alloc: Global,
     net: &Net,
     flats: &Flats,
+    part: Part,
     name: Name,
     found: &mut Vec<Name>,
 ) -> Result<(), OutOfMemory>
     requires flats { AreFlats net.now flats.now }
     requires there { name.node < length net.now }
-    ensures { OnOk result (AddsResolved net.now name found.old.items found.new.items) }
+    ensures { OnOk result (AddsPart net.now part name found.old.items found.new.items) }
 {
     let _net = net;
     let Some(seg) = seg_of(name) else {
@@ -31,29 +34,7 @@ pub fn push_resolved(
     };
     let mut segs = Vec::new(alloc);
     let mut mid = Vec::new(alloc);
-    flats.push_accepted(&mut segs, &mut mid, seg)?;
-    push_given(found, &segs, name.addr)
-}
-
-/// Adds the names in units that a name reaches in the net. Time of the layers of its node's stops, and of the
-/// names that these give to its address.
-pub fn push_stops(
-    alloc: Global,
-    net: &Net,
-    flats: &Flats,
-    name: Name,
-    found: &mut Vec<Name>,
-) -> Result<(), OutOfMemory>
-    requires flats { AreFlats net.now flats.now }
-    requires there { name.node < length net.now }
-    ensures { OnOk result (AddsStops net.now name found.old.items found.new.items) }
-{
-    let _net = net;
-    let Some(seg) = seg_of(name) else {
-        return Ok(());
-    };
-    let mut segs = Vec::new(alloc);
-    flats.push_stops(&mut segs, seg)?;
+    push_sent(&mut segs, &mut mid, flats, part, seg)?;
     push_given(found, &segs, name.addr)
 }
 

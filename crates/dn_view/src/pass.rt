@@ -23,15 +23,6 @@ use dn_net::net::Net;
 use dn_net::node::Unit;
 use std::alloc::Global;
 
-/// To what names come.
-#[derive(Clone, Copy)]
-pub(crate) enum Part {
-    /// The accepted names.
-    Accepts,
-    /// The names in units.
-    Stops,
-}
-
 /// Adds what the names of segments come to through the records of their slots, by what the nodes come to
 /// to which these send. A name that is in no unit comes to nothing.
 pub(crate) fn pass(
@@ -121,7 +112,7 @@ fn pass_slot(
 }
 
 /// Adds what the names of a segment come to by what their node comes to.
-fn push_sent(
+pub(crate) fn push_sent(
     out: &mut Vec<Seg>,
     mid: &mut Vec<Seg>,
     flats: &Flats,

@@ -1,5 +1,5 @@
-//! What one name resolves to under tables: level by level, where each level has the names one step on
-//! from those of the level before it.
+//! What one name resolves to under tables: by what the nodes of the net reach, and for few names level by level,
+//! where each level has the names one step on from those of the level before it.
 
 ghost use Rattle.std.specs.Prelude.{◌≡◌, ◌++◌, ◌↔◌, [], ◌∷◌, ◌<◌, length, map, IfOk, IfSome, OnOk, IsTrue};
 ghost use Rattle.std.specs.List.{All};
@@ -31,46 +31,34 @@ use std::alloc::Global;
 /// How many names are few enough to be followed one by one.
 const FEW: usize = 128;
 
-/// What a name resolves to for an access under the tables, which goes over each name on the way. `Err` is want of
-/// memory.
-pub fn resolve(
+/// What a name resolves to for an access under the tables, by what the nodes of the net reach: time of the levels of
+/// the nodes on the way, and of the names that these give to the address. `Err` is want of memory.
+pub fn resolve<'a>(
     alloc: Global,
-    net: &Net,
-    kinds: &Kinds,
-    tables: &TableSet,
+    system: System<'a>,
+    tables: &'a TableSet,
     name: Name,
     access: Access,
 ) -> Result<Names, OutOfMemory>
-    requires lawful { All (λ k. IsLawful (meaning (k.vtable, k.value))) kinds.now.list.items }
-    requires legal { IsLegalWith
-        (map (λ k. meaning (k.vtable, k.value)) kinds.now.list.items) net.now }
-    requires fits { FitsNet net.now
-        (map (λ k. meaning (k.vtable, k.value)) kinds.now.list.items) tables.now }
-    requires there { name.node < length net.now }
-    ensures names { IfOk result (λ names. names ≡ resolved_names_under net.now (allowing access
-        (record_kept (map (λ k. meaning (k.vtable, k.value)) kinds.now.list.items) tables.now)) name) }
+    requires system { IsSystem (λ k. meaning (k.vtable, k.value)) system }
+    requires fits { FitsNet system.net.now
+        (map (λ k. meaning (k.vtable, k.value)) system.kinds.now.list.items) tables.now }
+    requires there { name.node < length system.net.now }
+    ensures names { IfOk result (λ names. names ≡ resolved_names_under system.entry.net.now
+        (allowing access (record_kept
+        (map (λ k. meaning (k.vtable, k.value)) system.entry.kinds.now.list.items) tables.now)) name) }
 {
-    let mut accepted = Vec::new(alloc);
-    let mut level = first_level(alloc, name)?;
-    for _ in 0..LEVELS {
-        if level.list().is_empty() {
-            break;
-        }
-        level = next_level(
-            alloc,
-            net,
-            kinds,
-            tables,
-            access,
-            level.list(),
-            &mut accepted,
-        )?;
-    }
-    set_of(alloc, accepted)
+    let Some(seg) = seg_of(name) else {
+        return Ok(Names::new(alloc));
+    };
+    let shown = shown_at(alloc, system, tables, seg, access)?;
+    let mut found = Vec::new(alloc);
+    push_given(&mut found, shown.as_slice(), name.addr)?;
+    set_of(alloc, found)
 }
 
-/// The same of a name that leads to few, which are followed one by one. None where there are more, and then it says
-/// nothing. `Err` is want of memory.
+/// The same of a name that leads to few, which are followed one by one, level by level. None where there are more,
+/// and then it says nothing. `Err` is want of memory.
 pub fn resolve_few(
     alloc: Global,
     net: &Net,
@@ -104,32 +92,6 @@ pub fn resolve_few(
         level = next_level(alloc, net, kinds, tables, access, names, &mut accepted)?;
     }
     Ok(Some(set_of(alloc, accepted)?))
-}
-
-/// The same, by what the nodes of the net reach: time of the levels of the nodes on the way, and of the names
-/// that these give to the address. `Err` is want of memory.
-pub fn resolve_by<'a>(
-    alloc: Global,
-    system: System<'a>,
-    tables: &'a TableSet,
-    name: Name,
-    access: Access,
-) -> Result<Names, OutOfMemory>
-    requires system { IsSystem (λ k. meaning (k.vtable, k.value)) system }
-    requires fits { FitsNet system.net.now
-        (map (λ k. meaning (k.vtable, k.value)) system.kinds.now.list.items) tables.now }
-    requires there { name.node < length system.net.now }
-    ensures names { IfOk result (λ names. names ≡ resolved_names_under system.entry.net.now
-        (allowing access (record_kept
-        (map (λ k. meaning (k.vtable, k.value)) system.entry.kinds.now.list.items) tables.now)) name) }
-{
-    let Some(seg) = seg_of(name) else {
-        return Ok(Names::new(alloc));
-    };
-    let shown = shown_at(alloc, system, tables, seg, access)?;
-    let mut found = Vec::new(alloc);
-    push_given(&mut found, shown.as_slice(), name.addr)?;
-    set_of(alloc, found)
 }
 
 /// The accepted names to which the names of a segment come for an access under the tables, as segments:

@@ -7,10 +7,11 @@ ghost use Rattle.dn_interval.specs.Terms.{segs_give};
 ghost use Rattle.dn_walk.specs.Terms.{name_of_end};
 ghost use Rattle.dn_flat.specs.Terms.{levels_give};
 ghost use Rattle.dn_view.specs.Terms.{ComesThrough, IsCourse, course_records, part_gives, segs_pass, stops_of};
-ghost use Rattle.dn_view.specs.declared.pass.Part.TheVariants.{Stops};
+ghost use Rattle.dn_view.specs.declared.part.Part.TheVariants.{Stops};
 
 use crate::course::Course;
-use crate::pass::{Part, pass};
+use crate::part::Part;
+use crate::pass::pass;
 use dn_base::OutOfMemory;
 use dn_flat::flats::Flats;
 use dn_interval::{Seg, Span, TOP};

@@ -4,11 +4,12 @@ ghost use Rattle.std.specs.Prelude.{◌≡◌, ◌<◌, length, IsTrue};
 ghost use Rattle.dn_net.specs.Terms.{unit_at};
 ghost use Rattle.dn_kind.specs.Terms.{Held};
 ghost use Rattle.dn_view.specs.Terms.{IsExactAt, IsSystem, IsTrial, can_meet, has_hop, leads_to_units};
-ghost use Rattle.dn_view.specs.declared.pass.Part.TheVariants.{Stops};
+ghost use Rattle.dn_view.specs.declared.part.Part.TheVariants.{Stops};
 ghost use Rattle.std.specs.List.{list_any};
 
 use crate::exact::is_asked;
-use crate::pass::{Part, leads_on, unit_of};
+use crate::part::Part;
+use crate::pass::{leads_on, unit_of};
 use crate::system::System;
 use crate::trial::Trial;
 use dn_tables::placement::Placement;

@@ -272,11 +272,11 @@ impl<'a> Desk<'a> {
     pub fn resolved(&self, alloc: Global, name: Name, access: Access) -> Result<Names, Unmade>
         requires { IsDesk (λ k. meaning (k.vtable, k.value)) self.now }
     {
-        let System { net, kinds, .. } = self.system;
-        if name.node >= net.nodes() {
+        let system = self.system;
+        if name.node >= system.net.nodes() {
             return Err(Unmade::Unformed);
         }
-        Ok(resolve(alloc, net, kinds, self.book.tables(), name, access)?)
+        Ok(resolve(alloc, system, self.book.tables(), name, access)?)
     }
 
     /// What a node sees for an access under the tables. `Unformed` where it is not there.

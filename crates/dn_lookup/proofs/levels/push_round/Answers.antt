@@ -15,8 +15,8 @@ loop-name-init g c = record {
   next = adds_none (IsSentOn c.args.image.net.now (bytes_records c.args.image.net.now (map (λ k. (goal.UnitKind-dyn g (k.vtable, k.value)).meaning k.value) c.args.image.kinds.now.list.items) c.args.image.bytes.now c.args.image.version c.args.access)) c.args.round.now c.args.next.now.items;
 }
 
-pub push_resolved-requires-clause-there : goal.push_resolved-requires-clause-there
-push_resolved-requires-clause-there g c = there_at (length c.args.image.net.now) c.args.round.now (get_or c.args.round.now c.loop-name.name-index (record { node = 0; addr = 0 })) c.requires.there (member_get_or c.args.round.now c.loop-name.name-index (record { node = 0; addr = 0 }) c.loop-name-test.true)
+pub push_names-requires-clause-there : goal.push_names-requires-clause-there
+push_names-requires-clause-there g c = there_at (length c.args.image.net.now) c.args.round.now (get_or c.args.round.now c.loop-name.name-index (record { node = 0; addr = 0 })) c.requires.there (member_get_or c.args.round.now c.loop-name.name-index (record { node = 0; addr = 0 }) c.loop-name-test.true)
 
 pub push_onward-requires-clause-there : goal.push_onward-requires-clause-there
 push_onward-requires-clause-there g c = there_at (length c.args.image.net.now) c.args.round.now (get_or c.args.round.now c.loop-name.name-index (record { node = 0; addr = 0 })) c.requires.there (member_get_or c.args.round.now c.loop-name.name-index (record { node = 0; addr = 0 }) c.loop-name-test.true)
@@ -26,7 +26,7 @@ loop-name-preserved g c =
     let net = c.args.image.net.now in
     let h : Held = bytes_records c.args.image.net.now (map (λ k. (goal.UnitKind-dyn g (k.vtable, k.value)).meaning k.value) c.args.image.kinds.now.list.items) c.args.image.bytes.now c.args.image.version c.args.access in
     record {
-      accepted = adds_more (Resolves net) c.args.round.now c.loop-name.name-index (record { node = 0; addr = 0 }) c.args.accepted.now.items c.loop-name.accepted.items c.push_resolved.new.found.items c.loop-name-test.true c.loop-name.invariant.accepted c.in_ok-push_resolved.ensures;
+      accepted = adds_more (Resolves net) c.args.round.now c.loop-name.name-index (record { node = 0; addr = 0 }) c.args.accepted.now.items c.loop-name.accepted.items c.push_names.new.found.items c.loop-name-test.true c.loop-name.invariant.accepted c.in_ok-push_names.ensures;
       next = adds_more (IsSentOn net h) c.args.round.now c.loop-name.name-index (record { node = 0; addr = 0 }) c.args.next.now.items c.loop-name.next.items c.push_onward.new.next.items c.loop-name-test.true c.loop-name.invariant.next c.in_ok-push_onward.ensures;
     }
 

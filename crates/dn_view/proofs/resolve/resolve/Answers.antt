@@ -1,50 +1,35 @@
-use Rattle.std.proofs.Common.{rules, arith, ◌≡◌, ◌∙◌, ◌++◌, [], ◌∷◌, ap, sym, subst, suc, ◌-◌, length, List, Bool, map, IsTrue}
+-- The names that the segments give are the list, which has none past the last address.
+use Rattle.std.proofs.Common.{rules, ◌≡◌, ◌<◌, ◌∙◌, ◌||◌, length, sym, subst, map, List}
+use Rattle.dn_interval.specs.declared.span.TheConstants.{TOP}
+use Rattle.dn_interval.specs.Strands.{segs_give}
 use Rattle.dn_net.specs.declared.node.Name.{Name}
-use Rattle.dn_net.specs.Decode.{is_accepted}
-use Rattle.dn_net.specs.Names.{each_step, passing_names, sorted_names}
 use Rattle.dn_kind.specs.Kind.{Meaning}
-use Rattle.dn_kind.specs.Tables.{Held, steps_under, step_limit_under, resolved_names_under}
-use Rattle.dn_kind.specs.Levels.{are_there}
-use Rattle.dn_kind.specs.Tables.{allowing}
+use Rattle.dn_kind.specs.Tables.{Held, allowing, resolved_names_under}
+use Rattle.dn_kind.proofs.Stages.{set_is_ends}
 use Rattle.dn_tables.specs.Set.{record_kept}
-use Rattle.dn_kind.proofs.Stages.{is_empty, ends_by, ends_at_start, ends_next, ends_at_empty, ends_at_last, set_is_ends}
+use Rattle.dn_walk.specs.Ends.{end_of}
+use Rattle.dn_view.specs.Named.{IsAlone, has_name}
+use Rattle.dn_view.proofs.Single.{given_names, past_under, names_are}
 use Rattle.dn_view.proofs.resolve.resolve.Goals as goal
-use Rattle.dn_view.proofs.resolve.resolve.Goals.{else-loop-test, then-loop-test+then-is_empty}
 
-pub loop-init : goal.loop-init
-loop-init g c =
-    let h : Held = allowing c.args.access (record_kept (map (λ k. (goal.UnitKind-dyn g (k.vtable, k.value)).meaning k.value) c.args.kinds.now.list.items) c.args.tables.now) in
-    let f : Name → List Name = steps_under c.args.net.now h in
-    let p : Name → Bool = is_accepted c.args.net.now in
-    let level : c.in_ok-level.level ≡ c.args.name ∷ [] = c.in_ok-level.ensures in
-    let none : c.new-accepted.result.items ≡ [] = c.new-accepted.ensures.items in
-    record {
-      so_far = ap (λ (l : List Name). ends_by f p (suc step_limit_under - 0) l c.in_ok-level.level) none ∙ ap (λ (l : List Name). ends_by f p (suc step_limit_under - 0) [] l) level ∙ ends_at_start f p c.args.name;
-      there = subst (λ (l : List Name). IsTrue (are_there (length c.args.net.now) l)) (sym level) (search rules);
-    }
-
-pub loop-preserved : goal.loop-preserved
-loop-preserved g c =
-    let kinds : List Meaning = map (λ k. (goal.UnitKind-dyn g (k.vtable, k.value)).meaning k.value) c.args.kinds.now.list.items in
+pub returns-in_default : goal.returns-in_default
+returns-in_default g c =
+    let kinds : List Meaning = map (λ k. (goal.UnitKind-dyn g (k.vtable, k.value)).meaning k.value) c.args.system.kinds.now.list.items in
     let h : Held = allowing c.args.access (record_kept kinds c.args.tables.now) in
-    let f : Name → List Name = steps_under c.args.net.now h in
-    let p : Name → Bool = is_accepted c.args.net.now in
-    let same : c.list-in-loop.result.now ≡ c.loop.level = search rules in
-    let more : c.next_level.new.accepted.items ≡ c.loop.accepted.items ++ passing_names p c.loop.level = c.in_ok-level-2.ensures.accepted ∙ ap (λ (l : List Name). c.loop.accepted.items ++ passing_names p l) same in
-    let next : c.in_ok-level-2.level ≡ sorted_names (each_step f c.loop.level) = c.in_ok-level-2.ensures.next ∙ ap (λ (l : List Name). sorted_names (each_step f l)) same in
-    record {
-      so_far = ends_next f p c.loop.counter c.loop.accepted.items c.next_level.new.accepted.items c.loop.level c.in_ok-level-2.level (resolved_names_under c.args.net.now h c.args.name) c.loop-test.true c.loop.invariant.so_far more next;
-      there = c.in_ok-level-2.ensures.there;
-    }
+    let past : TOP < c.args.name.addr = search rules in
+    record { names = c.new.ensures ∙ past_under c.args.system.net.now h c.args.name past }
+
+pub shown_at-requires-clause-there : goal.shown_at-requires-clause-there
+shown_at-requires-clause-there g c =
+    let alone : IsAlone c.args.name c.in-Some.seg = search rules in
+    subst (λ n. n < length c.args.system.net.now) (sym alone.node) c.requires.there
 
 pub returns : goal.returns
 returns g c =
-    let kinds : List Meaning = map (λ k. (goal.UnitKind-dyn g (k.vtable, k.value)).meaning k.value) c.args.kinds.now.list.items in
+    let kinds : List Meaning = map (λ k. (goal.UnitKind-dyn g (k.vtable, k.value)).meaning k.value) c.args.system.kinds.now.list.items in
+    let net = c.args.system.net.now in
+    let x : Name = c.args.name in
     let h : Held = allowing c.args.access (record_kept kinds c.args.tables.now) in
-    let f : Name → List Name = steps_under c.args.net.now h in
-    let p : Name → Bool = is_accepted c.args.net.now in
-    let whole : sorted_names c.loop.accepted.items ≡ resolved_names_under c.args.net.now h c.args.name = elim c.loop-test.branch [
-      | else-loop-test w ↦ ends_at_last f p c.loop.counter c.loop.accepted.items c.loop.level (resolved_names_under c.args.net.now h c.args.name) (let b = w.loop-test.false in omega arith) c.loop.invariant.so_far
-      | then-loop-test+then-is_empty w ↦ ends_at_empty f p (suc step_limit_under - c.loop.counter) c.loop.accepted.items c.loop.level (resolved_names_under c.args.net.now h c.args.name) (is_empty c.loop.level (search rules)) c.loop.invariant.so_far
-    ] in
-    record { names = set_is_ends c.loop.accepted.items (resolved_names_under c.args.net.now h c.args.name) c.set_of.result whole c.set_of.ensures }
+    let alone : IsAlone x c.in-Some.seg = search rules in
+    let is = given_names net h x c.in-Some.seg alone c.in_ok-shown.shown.items c.new-found.result.items c.push_given.new.found.items c.new-found.ensures.items (subst (λ l. (z : Name) → has_name c.push_given.new.found.items z ≡ (has_name c.new-found.result.items z || segs_give l x.addr (end_of z))) c.as_slice.ensures.value c.in_ok-push_given.ensures) c.in_ok-shown.ensures in
+    record { names = set_is_ends c.push_given.new.found.items (resolved_names_under net h x) c.set_of.result (names_are net h x c.push_given.new.found.items is) c.set_of.ensures }

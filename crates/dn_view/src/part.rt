@@ -1,0 +1,10 @@
+//! To which of two kinds of names a name comes.
+
+/// To what names come.
+#[derive(Clone, Copy)]
+pub enum Part {
+    /// The accepted names.
+    Accepts,
+    /// The names in units.
+    Stops,
+}
