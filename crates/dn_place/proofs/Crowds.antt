@@ -10,21 +10,21 @@ use Rattle.dn_place.specs.Slots.{HasCrowd}
 use Rattle.dn_place.specs.Sought.{Sought}
 use Rattle.dn_place.proofs.Nexts.{between}
 
+add_one_mul : (a p : ℕ) → (a + 1) * p ≡ a * p + p
+add_one_mul a p = omega arith
+
 -- the first multiple past a number
 pub past_by : (n p : ℕ) → 1 ≤ p → n < (n / p + 1) * p
 past_by n p z =
     let m : (n / p + 1) * p ≡ n / p * p + p = add_one_mul (n / p) p in
     omega (arith, m, mod-add-div' n p, mod-lt n z)
 
-add_one_mul : (a p : ℕ) → (a + 1) * p ≡ a * p + p
-add_one_mul a p = omega arith
-
 pub within_by : (n p : ℕ) → (n / p + 1) * p ≤ n + p
 within_by n p = omega (arith, add_one_mul (n / p) p, div-mul-le_self n p)
 
 -- inputs in their place in a slot, up to the first past a span that the hop's own meets
-pub crowd_at : (s : Sought) (unit : ℕ) (span : Span) (x j to page : ℕ) → AreCrowded s.net unit span → span.lo < x + s.request.size → to ≤ span.hi + 2 ^ page → to % 2 ^ page ≡ x % 2 ^ page → x ≤ j → j < to → j % 2 ^ page ≡ x % 2 ^ page → HasCrowd s unit j
-crowd_at s unit span x j to page crowded meets next agree from below same = by (cases_lt j span.lo)
+pub crowd_at : (s : Sought) (unit : ℕ) (span : Span) (x j to page : ℕ) → 1 ≤ s.request.size → AreCrowded s.net unit span → span.lo < x + s.request.size → to ≤ span.hi + 2 ^ page → to % 2 ^ page ≡ x % 2 ^ page → x ≤ j → j < to → j % 2 ^ page ≡ x % 2 ^ page → HasCrowd s unit j
+crowd_at s unit span x j to page some crowded meets next agree from below same = by (cases_lt j span.lo)
   where
     -- the input is not past the span
     last : j + 2 ^ page ≤ to
@@ -41,4 +41,4 @@ crowd_at s unit span x j to page crowded meets next agree from below same = by (
     by (inl l) =
         let at : j + (span.lo - j) ≡ span.lo = omega (arith, l) in
         (span.lo - j, omega (arith, meets, from, l), crowded (j + (span.lo - j)) (in_from span (j + (span.lo - j)) (omega (arith, at)) (omega (arith, at, span.ordered))))
-    by (inr l) = (0, omega (arith, meets, from, l), crowded (j + 0) (in_from span (j + 0) (omega (arith, l)) (omega (arith, low))))
+    by (inr l) = (0, some, crowded (j + 0) (in_from span (j + 0) (omega (arith, l)) (omega (arith, low))))

@@ -214,5 +214,5 @@ entry_is net agent levels entry at one f given none = record { reached = λ v z 
 pub no_entry : (net : List NodeDecl) (agent : ℕ) → IsEntry net agent None None
 no_entry net agent = record { reached = λ v z e l stops. never v z e; unasked = λ e. refl }
   where
-    never : (v : ℕ) (z : Name) → None ≡ Some v → None ≡ Some (record { node = z.node; base = z.addr })
+    never : (v : ℕ) (z : Name) → ◌≡◌ {A = Option ℕ} None (Some v) → ◌≡◌ {A = Option End} None (Some (record { node = z.node; base = z.addr }))
     never v z e = cc

@@ -346,10 +346,10 @@ unentered s count hops unit entry ready e l one asked other = record { none = λ
 
 -- where no other input goes on, the first with an input is the first with the output
 pub only_input : (s : Sought) (count : ℕ) (hops : List Hop) (unit port y x : ℕ) (u : UnitPart) (found : Option Place) → length hops < count → unit_at s.net unit ≡ Some u → ((j : ℕ) → (j ≡ x → ⊥) → NoneUnder s (to_output count hops unit port y ++ j ∷ [])) → IsFirstOrNone s (to_output count hops unit port y ++ x ∷ []) found → IsFirstOrNone s (to_output count hops unit port y) found
-only_input s count hops unit port y x u None l e others a = none_left s (to_output count hops unit port y) (x + 1) (next_one s (to_output count hops unit port y) x (below x) a) goes
+only_input s count hops unit port y x u None l e others a = none_left s (to_output count hops unit port y) (x + 1) (next_one s (to_output count hops unit port y) x below a) goes
   where
-    below : (x : ℕ) → NoneBelow s (to_output count hops unit port y) x
-    below x = leapt s (to_output count hops unit port y) 0 x (begun s (to_output count hops unit port y)) (λ q j m n v. (others j (λ p. differ j p n)).none q v)
+    below : NoneBelow s (to_output count hops unit port y) x
+    below = leapt s (to_output count hops unit port y) 0 x (begun s (to_output count hops unit port y)) (λ q j m n v. (others j (λ p. differ j p n)).none q v)
       where
         differ : (j : ℕ) → j ≡ x → j < x → ⊥
         differ j p n = omega arith

@@ -107,20 +107,24 @@ one_stop net legal x y z a b = go (legal_one_way_to_unit net empty legal x y z a
     go (inl w) = sym (ends_there net w.0 z y b.0 w.2)
     go (inr w) = ends_there net w.0 y z a.0 w.2
 
+-- an agent is a node that is there
+pub agent_there : (net : List NodeDecl) (agent : ℕ) → IsTrue (is_agent_at (slice_get net agent)) → agent < length net
+agent_there net agent is = there (slice_get net agent) refl is
+  where
+    there : (o : Option NodeDecl) → slice_get net agent ≡ o → IsTrue (is_agent_at o) → agent < length net
+    there None e h = cc
+    there (Some d) e h = slice_get_within net agent d e
+
 pub ready : (net : List NodeDecl) (slots : Slots) (rq : Request) (at : Option ℕ) → IsLegalNet net → AreHeld net slots.held → ((node slot : ℕ) → IsTrue (slots.is_free node slot) → slots.held node slot ≡ None) → IsTrue (are_rights rq.rights) → IsTrue (is_agent_at (slice_get net rq.agent)) → 1 ≤ rq.size → rq.base + rq.size ≤ top + 1 → IsSearchReady (record { net = net; slots = slots; request = rq; at = at })
 ready net slots rq at legal held empty rights agent some fits = record {
   formed = formed net legal;
   one_stop = one_stop net legal;
   alone = λ q i t w is l st there st'. reached_alone net slots rq q legal held rights empty agent is.is_placement is.admissible i l t w st there st';
   few = legal.is_net.few;
-  agent = there (slice_get net rq.agent) refl agent;
+  agent = agent_there net rq.agent agent;
   some = some;
   fits = fits;
 }
-  where
-    there : (o : Option NodeDecl) → slice_get net rq.agent ≡ o → IsTrue (is_agent_at o) → rq.agent < length net
-    there None e h = cc
-    there (Some d) e h = slice_get_within net rq.agent d e
 
 -- the units of tables that fit a net are those of the net
 units_same : (set : List NodeTable) (net : List NodeDecl) (n : ℕ) → units_of set ≡ map (λ (d : NodeDecl). d.unit) net → unit_in set n ≡ unit_at net n

@@ -1,4 +1,5 @@
 pub mod Candidates
+pub mod Grounds
 pub mod Hops
 pub mod Marks
 pub mod Platforms

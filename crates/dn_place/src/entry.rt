@@ -4,13 +4,14 @@ ghost use Rattle.std.specs.Prelude.{◌≡◌, ◌<◌, ◌-◌, true, length, m
 ghost use Rattle.dn_interval.specs.declared.row.End.{End};
 ghost use Rattle.dn_interval.specs.Terms.{EndsFit, GivenBy, HasEnds, Member, further_end, in_span};
 ghost use Rattle.dn_flat.specs.Terms.{levels_give};
-ghost use Rattle.dn_place.specs.Terms.{IsEntry, ReachOneStop};
+ghost use Rattle.dn_place.specs.Terms.{IsEntry, IsGround, ReachOneStop};
 
 use crate::ground::Ground;
 use dn_interval::{End, Row, Rows};
 
 /// The stop that an address of an agent reaches, if one is asked for.
 pub(crate) fn entry_of(ground: Ground, agent: u16, at: Option<u64>) -> Option<End>
+    requires ground { IsGround ground }
     requires one_stop { ReachOneStop ground.net.now }
     requires there { agent < length ground.net.now }
     ensures { IsEntry ground.entry.net.now agent at result }

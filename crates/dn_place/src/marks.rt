@@ -5,7 +5,7 @@ ghost use Rattle.std.specs.Prelude.{◌≡◌, ◌<◌, ◌++◌, [], ◌∷◌,
 ghost use Rattle.dn_net.specs.declared.node.Unit.{Unit as UnitPart};
 ghost use Rattle.dn_net.specs.Terms.{unit_at};
 ghost use Rattle.dn_flat.specs.Terms.{levels_give};
-ghost use Rattle.dn_place.specs.Terms.{AreUnitsFrom, Keeps, MarkedBelow, Marks, MarksAfter, MarksAll, MarksEnds, MarksGiven, MarksRows, is_marked};
+ghost use Rattle.dn_place.specs.Terms.{AreUnitsFrom, IsGround, Keeps, MarkedBelow, Marks, MarksAfter, MarksAll, MarksEnds, MarksGiven, MarksRows, is_marked};
 
 use crate::ground::{Ground, unit_in};
 use dn_base::OutOfMemory;
@@ -46,6 +46,7 @@ pub(crate) fn from_agent(
     ground: Ground,
     agent: u16,
 ) -> Result<Vec<bool>, OutOfMemory>
+    requires ground { IsGround ground }
     requires there { agent < length ground.net.now }
     ensures { IfOk result (λ marks. MarksAll ground.entry.net.now agent marks.items) }
 {
@@ -66,6 +67,7 @@ pub(crate) fn has_mark(marks: &[bool], node: u16) -> bool
 
 /// The units that a port of a marked unit leads to.
 pub(crate) fn after(alloc: Global, ground: Ground, from: &[bool]) -> Result<Vec<bool>, OutOfMemory>
+    requires ground { IsGround ground }
     ensures { IfOk result (λ marks. MarksAfter ground.entry.net.now from.now marks.items) }
 {
     let mut marks = vec![in alloc; false; usize::from(ground.net.nodes())]?;
@@ -75,6 +77,7 @@ pub(crate) fn after(alloc: Global, ground: Ground, from: &[bool]) -> Result<Vec<
 
 /// Marks what the ports of marked units lead to.
 fn mark_after(ground: Ground, from: &[bool], marks: &mut [bool])
+    requires ground { IsGround ground }
     ensures { MarkedBelow ground.entry.net.now from.now
         (length ground.entry.net.now) marks.new }
 {
@@ -85,6 +88,7 @@ fn mark_after(ground: Ground, from: &[bool], marks: &mut [bool])
 
 /// Marks what the ports of a unit lead to, if it is marked.
 fn mark_after_node(ground: Ground, from: &[bool], node: u16, marks: &mut [bool])
+    requires ground { IsGround ground }
     ensures keeps { Keeps marks.old marks.new }
     ensures marks { is_marked from.now node ≡ true → (k n : ℕ) (u : UnitPart) →
         unit_at ground.entry.net.now node ≡ Some u → slice_get u.ports k ≡ Some n →
@@ -97,6 +101,7 @@ fn mark_after_node(ground: Ground, from: &[bool], node: u16, marks: &mut [bool])
 
 /// Marks what the ports of a unit lead to.
 fn mark_unit(ground: Ground, unit: u16, marks: &mut [bool])
+    requires ground { IsGround ground }
     ensures keeps { Keeps marks.old marks.new }
     ensures marks { (k n : ℕ) (u : UnitPart) → unit_at ground.entry.net.now unit ≡ Some u →
         slice_get u.ports k ≡ Some n → Marks ground.entry.net.now n marks.new }
@@ -111,6 +116,7 @@ fn mark_unit(ground: Ground, unit: u16, marks: &mut [bool])
 
 /// Marks what a node leads to.
 fn mark_node(ground: Ground, node: u16, marks: &mut [bool])
+    requires ground { IsGround ground }
     ensures keeps { Keeps marks.old marks.new }
     ensures marks { node < length ground.entry.net.now →
         Marks ground.entry.net.now node marks.new }

@@ -36,7 +36,7 @@ pub loop-preserved : goal.loop-preserved
 loop-preserved g c =
     let net = c.args.image.net.now in
     let h : Held = bytes_records c.args.image.net.now (map (λ k. (goal.UnitKind-dyn g (k.vtable, k.value)).meaning k.value) c.args.image.kinds.now.list.items) c.args.image.bytes.now c.args.image.version c.args.access in
-    let same : c.as_slice-in-loop.result.now ≡ c.loop.round.items = search rules in
+    let same : c.as_slice.result.now ≡ c.loop.round.items = search rules in
     let accepted : Adds (IsResolvedOf net c.loop.round.items) c.loop.accepted.items c.push_round.new.accepted.items = subst (λ (l : List Name). Adds (IsResolvedOf net l) c.loop.accepted.items c.push_round.new.accepted.items) same c.in_ok-push_round.ensures.accepted in
     let sent : Adds (IsSentOf net h c.loop.round.items) [] c.push_round.new.next.items = subst (λ (l : List Name). Adds (IsSentOf net h c.loop.round.items) l c.push_round.new.next.items) c.new-next.ensures.items (subst (λ (l : List Name). Adds (IsSentOf net h l) c.new-next.result.items c.push_round.new.next.items) same c.in_ok-push_round.ensures.next) in
     let left : 4 - c.loop.counter ≡ suc (4 - (c.loop.counter + 1)) = (let t = c.loop-test.true in omega (arith, t)) in

@@ -13,7 +13,7 @@ pub returns-in_default : goal.returns-in_default
 returns-in_default g c = λ yes.
     let none : c.args.reach.now.entry ≡ None = search rules in
     let asked = c.if-is_none.false in
-    shut_off c.args.system.net.now (slots_of c.args.system.net.now c.args.book.now.grants) c.args.agent c.args.reach.now.at c.args.reach.now.entry c.requires.reach.entry (λ e. search rules) (λ z e. never z (sym none ∙ e))
+    shut_off c.args.system.net.now (slots_of c.args.system.net.now c.args.book.now.grants) c.args.agent c.args.reach.now.at c.args.reach.now.entry c.requires.reach.entry (λ e. search rules) (λ z e. absurd (never z (sym none ∙ e)))
   where
     never : (z : End) → None ≡ Some z → ⊥
     never z p = cc

@@ -236,7 +236,7 @@ by_inputs-inputs-preserved g t c = record {
   agree = c.next_try-tried.ensures.agree ∙ c.inputs.invariant.agree;
   few = omega (arith, c.next_try-tried.ensures.few);
   free = free_onward (g.Q.Quest.sought c.args.quest.now).slots c.args.unit c.inputs.x c.next_try-tried.result.x c.args.translator.now.page c.next_try-tried.result.free c.next_try-tried.ensures.onward c.next_try-tried.ensures.free;
-  below = inputs_useless (g.Q.Quest.sought c.args.quest.now) c.args.stage.count (hops_view c.args.stage.chosen) c.args.unit c.args.port c.args.y c.inputs.x c.next_try-tried.result (c.args.stage.count - c.count-place.result) c.args.translator.now c.requires.stage.ready c.requires.more (omega (arith, c.count-place.ensures)) c.requires.unit c.inputs.invariant.agree c.next_try-tried.ensures.useless c.inputs.invariant.below;
+  below = inputs_useless (g.Q.Quest.sought c.args.quest.now) c.args.stage.count (hops_view c.args.stage.chosen) c.args.unit c.args.port c.args.y c.inputs.x c.next_try-tried.result.x (c.args.stage.count - c.count.result) c.args.translator.now c.requires.stage.ready c.requires.more (omega (arith, c.count.ensures)) c.requires.unit c.inputs.invariant.agree c.next_try-tried.ensures.useless c.inputs.invariant.below;
 }
 
 pub by_inputs-returns : goal.by_inputs-returns

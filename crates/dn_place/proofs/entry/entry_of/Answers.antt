@@ -10,7 +10,7 @@ returns-in-Some c =
     let is : c.args.at ≡ Some c.in-Some.at = search rules in
     let stops = c.as_slice.ensures in
     subst (λ (o : Option ℕ). IsEntry c.args.ground.net.now c.args.agent o c.stop_of.result) (sym is)
-    (entry_is c.args.ground.net.now c.args.agent c.of.result.now c.stop_of.result c.in-Some.at c.requires.one_stop (c.args.ground.flat.each c.args.agent c.of.result.now c.of.ensures)
+    (entry_is c.args.ground.net.now c.args.agent c.of.result.now c.stop_of.result c.in-Some.at c.requires.one_stop (c.requires.ground.flat.each c.args.agent c.of.result.now c.of.ensures)
     (λ z e. ap (λ (ls : List (List Row)). levels_give ls c.in-Some.at z) (sym stops) ∙ (rw e at c.stop_of.ensures.given)) (λ e z q. (rw e at c.stop_of.ensures.none) z (ap (λ (ls : List (List Row)). levels_give ls c.in-Some.at z) stops ∙ q)))
 
 pub returns-in-None : goal.returns-in-None

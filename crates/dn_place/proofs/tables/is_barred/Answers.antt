@@ -5,11 +5,11 @@ use Rattle.dn_place.proofs.Readies.{formed, slot_in_set}
 use Rattle.dn_place.specs.Slots.{slot_of}
 use Rattle.dn_place.proofs.tables.is_barred.Goals as goal
 
+pub unit_in-requires : goal.unit_in-requires
+unit_in-requires g c = record { flat = c.requires.system.flat; formed = formed c.args.system.net.now c.requires.system.legal.legal }
+
 pub power-requires : goal.power-requires
 power-requires g c = omega (arith, c.in-Some.ensures.formed.page)
-
-pub overflow_cast : goal.overflow_cast
-overflow_cast g c = omega (arith, c.in-Some.ensures.formed.few, c.from.ensures, c.if-slot-from.false)
 
 pub slot_at-requires-clause-there : goal.slot_at-requires-clause-there
 slot_at-requires-clause-there g c =
