@@ -2,7 +2,6 @@
 use Rattle.std.proofs.Common.{◌≡◌, ℕ, zero, suc, ◌+◌, ◌<◌, ◌≤◌, ◌⊎◌, inl, inr, Bool, true, false, if◌then◌else◌, ◌&&◌, nat_le, nat_lt, List, [], ◌∷◌, map, length, slice_get, Option, Some, None, is_some, IsTrue, refl, sym, ap, subst, arith, leb-true, ltb-true, lt-ltb}
 use Rattle.std.specs.List.{list_all}
 use Rattle.std.proofs.lemmas.Bool.{and_parts}
-use Rattle.std.proofs.lemmas.Option.{slice_get_within}
 use Rattle.dn_base.proofs.Lists.{list_all-at}
 use Rattle.dn_net.specs.declared.node.Name.{Name}
 use Rattle.dn_net.specs.declared.node.NodeDecl.{NodeDecl}
@@ -13,6 +12,7 @@ use Rattle.dn_net.specs.Legal.{IsLegalNet}
 use Rattle.dn_net.specs.Units.{has_plain_shape}
 use Rattle.dn_net.proofs.Plain.{plain_at}
 use Rattle.dn_net.proofs.Steps.{node_at, unit_is_bare}
+use Rattle.dn_net.proofs.Stops.{agent_there}
 use Rattle.dn_kind.specs.Kind.{Meaning}
 use Rattle.dn_kind.specs.Rights.{are_rights}
 use Rattle.dn_kind.specs.Tables.{AreHeld, Held, output, steps_by_unit, StepUnder}
@@ -106,14 +106,6 @@ one_stop net legal x y z a b = go (legal_one_way_to_unit net empty legal x y z a
     go : ((d : ℕ) × (a.1.0 ≡ b.1.0 + d) × IsChain (StepUnder net empty) d z y) ⊎ ((d : ℕ) × (b.1.0 ≡ a.1.0 + d) × IsChain (StepUnder net empty) d y z) → y ≡ z
     go (inl w) = sym (ends_there net w.0 z y b.0 w.2)
     go (inr w) = ends_there net w.0 y z a.0 w.2
-
--- an agent is a node that is there
-pub agent_there : (net : List NodeDecl) (agent : ℕ) → IsTrue (is_agent_at (slice_get net agent)) → agent < length net
-agent_there net agent is = there (slice_get net agent) refl is
-  where
-    there : (o : Option NodeDecl) → slice_get net agent ≡ o → IsTrue (is_agent_at o) → agent < length net
-    there None e h = cc
-    there (Some d) e h = slice_get_within net agent d e
 
 pub ready : (net : List NodeDecl) (slots : Slots) (rq : Request) (at : Option ℕ) → IsLegalNet net → AreHeld net slots.held → ((node slot : ℕ) → IsTrue (slots.is_free node slot) → slots.held node slot ≡ None) → IsTrue (are_rights rq.rights) → IsTrue (is_agent_at (slice_get net rq.agent)) → 1 ≤ rq.size → rq.base + rq.size ≤ top + 1 → IsSearchReady (record { net = net; slots = slots; request = rq; at = at })
 ready net slots rq at legal held empty rights agent some fits = record {

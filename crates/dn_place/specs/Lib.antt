@@ -4,6 +4,7 @@ pub mod Hops
 pub mod Marks
 pub mod Platforms
 pub mod Reaches
+pub mod Requests
 pub mod Rows
 pub mod Slots
 pub mod Sought

@@ -1,13 +1,11 @@
 //! The first admissible placement beside the grants of a book.
 
-ghost use Rattle.std.specs.Prelude.{◌≡◌, ◌≤◌, ◌+◌, map, slice_get, None, IfOk, IfSome, IsTrue};
-ghost use Rattle.dn_net.specs.Terms.{is_agent_at, top};
-ghost use Rattle.dn_kind.specs.Terms.{are_rights};
+ghost use Rattle.std.specs.Prelude.{◌≡◌, map, None, IfOk, IfSome, IsTrue};
 ghost use Rattle.dn_placement.specs.declared.request.Request.{Request};
 ghost use Rattle.dn_placement.specs.Terms.{IsFirst, NoneSuited};
 ghost use Rattle.dn_book.specs.Terms.{IsKept, slots_of};
 ghost use Rattle.dn_view.specs.Terms.{IsSystem};
-ghost use Rattle.dn_place.specs.Terms.{IsReach};
+ghost use Rattle.dn_place.specs.Terms.{IsReach, IsRequest};
 
 use crate::first::first_from;
 use crate::reach::{Reach, reach_of};
@@ -33,10 +31,7 @@ pub fn first_in_book(
     requires kept { IsKept system.net.now
         (map (λ k. meaning (k.vtable, k.value)) system.kinds.now.list.items)
         book.now.grants book.now.set }
-    requires agent { IsTrue (is_agent_at (slice_get system.net.now request.now.agent)) }
-    requires rights { IsTrue (are_rights request.now.rights) }
-    requires some { 1 ≤ request.now.size }
-    requires buffer { request.now.base + request.now.size ≤ top + 1 }
+    requires request { IsRequest system.net.now request.now }
     ensures first { IfOk result (λ found. IfSome found (λ p. IsFirst system.entry.net.now
         (slots_of system.entry.net.now book.now.grants) request.now at p)) }
     ensures none { IfOk result (λ found. found ≡ None → NoneSuited system.entry.net.now
@@ -59,11 +54,8 @@ pub fn first_in_book_from(
     requires kept { IsKept system.net.now
         (map (λ k. meaning (k.vtable, k.value)) system.kinds.now.list.items)
         book.now.grants book.now.set }
-    requires agent { IsTrue (is_agent_at (slice_get system.net.now request.now.agent)) }
     requires reach { IsReach system.net.now request.now.agent reach.now }
-    requires rights { IsTrue (are_rights request.now.rights) }
-    requires some { 1 ≤ request.now.size }
-    requires buffer { request.now.base + request.now.size ≤ top + 1 }
+    requires request { IsRequest system.net.now request.now }
     ensures first { IfOk result (λ found. IfSome found (λ p. IsFirst system.entry.net.now
         (slots_of system.entry.net.now book.now.grants) request.now reach.now.at p)) }
     ensures none { IfOk result (λ found. found ≡ None → NoneSuited system.entry.net.now

@@ -1,13 +1,12 @@
 //! The first admissible placement.
 
-ghost use Rattle.std.specs.Prelude.{◌≡◌, ◌<◌, ◌≤◌, ◌+◌, ◌↔◌, length, map, slice_get, IfOk, IfSome, IsTrue, None, []};
+ghost use Rattle.std.specs.Prelude.{◌≡◌, ◌<◌, ◌↔◌, length, map, IfOk, IfSome, IsTrue, None, []};
 ghost use Rattle.std.specs.List.{All};
-ghost use Rattle.dn_net.specs.Terms.{is_agent_at, top};
 ghost use Rattle.dn_kind.specs.Terms.{IsLawful, are_rights};
 ghost use Rattle.dn_tables.specs.Terms.{FitsNet, fits_kinds, has_slot, record_kept};
 ghost use Rattle.dn_placement.specs.Terms.{IsAdmissible, IsFirst, IsPlacement, NoneSuited, slots_of_set};
 ghost use Rattle.dn_view.specs.Terms.{IsSystem};
-ghost use Rattle.dn_place.specs.Terms.{IsFirstOrNone, IsReach, IsSearchReady, hops_view, slot_of};
+ghost use Rattle.dn_place.specs.Terms.{IsFirstOrNone, IsReach, IsRequest, IsSearchReady, hops_view, slot_of};
 
 use crate::chain::{Stage, by_hops};
 use crate::hops::Hops;
@@ -38,10 +37,7 @@ pub fn first(
     requires system { IsSystem (λ k. meaning (k.vtable, k.value)) system }
     requires fits { FitsNet system.net.now
         (map (λ k. meaning (k.vtable, k.value)) system.kinds.now.list.items) tables.now }
-    requires agent { IsTrue (is_agent_at (slice_get system.net.now request.now.agent)) }
-    requires rights { IsTrue (are_rights request.now.rights) }
-    requires some { 1 ≤ request.now.size }
-    requires buffer { request.now.base + request.now.size ≤ top + 1 }
+    requires request { IsRequest system.net.now request.now }
     ensures first { IfOk result (λ found. IfSome found (λ p. IsFirst system.entry.net.now
         (slots_of_set (map (λ k. meaning (k.vtable, k.value)) system.entry.kinds.now.list.items)
         tables.now) request.now at p)) }
@@ -65,11 +61,8 @@ pub fn first_from(
     requires system { IsSystem (λ k. meaning (k.vtable, k.value)) system }
     requires fits { FitsNet system.net.now
         (map (λ k. meaning (k.vtable, k.value)) system.kinds.now.list.items) tables.now }
-    requires agent { IsTrue (is_agent_at (slice_get system.net.now request.now.agent)) }
     requires reach { IsReach system.net.now request.now.agent reach.now }
-    requires rights { IsTrue (are_rights request.now.rights) }
-    requires some { 1 ≤ request.now.size }
-    requires buffer { request.now.base + request.now.size ≤ top + 1 }
+    requires request { IsRequest system.net.now request.now }
     ensures first { IfOk result (λ found. IfSome found (λ p. IsFirst system.entry.net.now
         (slots_of_set (map (λ k. meaning (k.vtable, k.value)) system.entry.kinds.now.list.items)
         tables.now) request.now reach.now.at p)) }

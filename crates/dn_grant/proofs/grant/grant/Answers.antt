@@ -3,19 +3,11 @@ use Rattle.dn_tables.proofs.Slots.{all_of_map}
 use Rattle.dn_grant.proofs.Allowed.{allowed_is, allowed_within, allowed_grant, no_addition, still_faithful}
 use Rattle.dn_grant.proofs.grant.grant.Goals as goal
 
-pub first_in_book-requires-clause-agent : goal.first_in_book-requires-clause-agent
-first_in_book-requires-clause-agent g c =
-    (allowed_is c.args.system.net.now c.args.book.now.grants c.args.id c.args.request.now (c.refusal.ensures.none c.in_default.is)).agent
-
-pub first_in_book-requires-clause-some : goal.first_in_book-requires-clause-some
-first_in_book-requires-clause-some g c =
-    (allowed_within c.args.system.net.now c.args.book.now.grants c.args.id c.args.request.now
-    (allowed_is c.args.system.net.now c.args.book.now.grants c.args.id c.args.request.now (c.refusal.ensures.none c.in_default.is))).0
-
-pub first_in_book-requires-clause-buffer : goal.first_in_book-requires-clause-buffer
-first_in_book-requires-clause-buffer g c =
-    (allowed_within c.args.system.net.now c.args.book.now.grants c.args.id c.args.request.now
-    (allowed_is c.args.system.net.now c.args.book.now.grants c.args.id c.args.request.now (c.refusal.ensures.none c.in_default.is))).1
+pub first_in_book-requires-clause-request : goal.first_in_book-requires-clause-request
+first_in_book-requires-clause-request g c =
+    let is = allowed_is c.args.system.net.now c.args.book.now.grants c.args.id c.args.request.now (c.refusal.ensures.none c.in_default.is) in
+    let within = allowed_within c.args.system.net.now c.args.book.now.grants c.args.id c.args.request.now is in
+    record { agent = is.agent; rights = c.requires.rights; some = within.0; buffer = within.1 }
 
 pub commit-requires-clause-placed : goal.commit-requires-clause-placed
 commit-requires-clause-placed g c =

@@ -14,4 +14,4 @@ by_tables-requires-clause-ready g c =
     let set = c.args.tables.now in
     let lawful = all_of_map _ c.args.system.kinds.now.list.items c.requires.system.lawful in
     let is : IsSet set = record { few = c.facts.ensures.few; sized = c.facts.ensures.sized } in
-    ready net _ c.args.request.now c.args.reach.now.at c.requires.system.legal.legal (kept_are_held net kinds set lawful c.requires.fits) (free_empty net kinds set lawful c.requires.fits is) c.requires.rights c.requires.agent c.requires.some c.requires.buffer
+    ready net _ c.args.request.now c.args.reach.now.at c.requires.system.legal.legal (kept_are_held net kinds set lawful c.requires.fits) (free_empty net kinds set lawful c.requires.fits is) c.requires.request.rights c.requires.request.agent c.requires.request.some c.requires.request.buffer

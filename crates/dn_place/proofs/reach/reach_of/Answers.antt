@@ -1,6 +1,7 @@
 use Rattle.std.proofs.Common.{List, Bool, subst}
+use Rattle.dn_net.proofs.Stops.{agent_there}
 use Rattle.dn_place.specs.Marks.{MarksAfter}
-use Rattle.dn_place.proofs.Readies.{agent_there, formed, one_stop}
+use Rattle.dn_place.proofs.Readies.{formed, one_stop}
 use Rattle.dn_place.proofs.reach.reach_of.Goals as goal
 
 pub entry_of-entry-requires-clause-ground : goal.entry_of-entry-requires-clause-ground

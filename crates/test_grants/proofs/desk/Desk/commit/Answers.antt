@@ -14,19 +14,12 @@ none g c = c.refusal.ensures.none c.in_default.is
 allowed : (g : Over) (c : In_default g) → IsAllowed c.args.self.now.system.net.now c.args.self.now.book.grants c.args.id c.args.request.now
 allowed g c = allowed_is c.args.self.now.system.net.now c.args.self.now.book.grants c.args.id c.args.request.now (none g c)
 
-pub first_in_book-requires-clause-agent : goal.first_in_book-requires-clause-agent
-first_in_book-requires-clause-agent g c =
-    (allowed g (goal.at.first_in_book-requires-clause-agent g c).In_default).agent
-
-pub first_in_book-requires-clause-some : goal.first_in_book-requires-clause-some
-first_in_book-requires-clause-some g c =
-    (allowed_within c.args.self.now.system.net.now c.args.self.now.book.grants c.args.id c.args.request.now
-    (allowed g (goal.at.first_in_book-requires-clause-some g c).In_default)).0
-
-pub first_in_book-requires-clause-buffer : goal.first_in_book-requires-clause-buffer
-first_in_book-requires-clause-buffer g c =
-    (allowed_within c.args.self.now.system.net.now c.args.self.now.book.grants c.args.id c.args.request.now
-    (allowed g (goal.at.first_in_book-requires-clause-buffer g c).In_default)).1
+pub first_in_book-requires-clause-request : goal.first_in_book-requires-clause-request
+first_in_book-requires-clause-request g c =
+    let is = allowed g (goal.at.first_in_book-requires-clause-request g c).In_default in
+    let within = allowed_within c.args.self.now.system.net.now c.args.self.now.book.grants c.args.id c.args.request.now is in
+    let rights : IsTrue (are_rights c.args.request.now.rights) = search rules in
+    record { agent = is.agent; rights = rights; some = within.0; buffer = within.1 }
 
 pub commit-requires-clause-placed : goal.commit-requires-clause-placed
 commit-requires-clause-placed g c =
