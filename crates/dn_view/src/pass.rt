@@ -11,6 +11,7 @@ ghost use Rattle.dn_flat.specs.Terms.{has_rows};
 ghost use Rattle.dn_view.specs.Terms.{IsCourse, course_records, in_slot, names_go, outputs, part_gives, part_leads, seg_name, seg_passes, segs_pass, stops_of};
 
 use crate::course::Course;
+use crate::part::Part;
 use crate::range::{held_end, slot_range};
 use crate::records::record_for;
 use dn_base::OutOfMemory;
