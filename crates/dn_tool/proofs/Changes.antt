@@ -338,6 +338,9 @@ still_through kinds net s next c r a b log e same w none =
       left = same;
     }) w none
 
+pub still_said : (kinds : List Meaning) (net : List NodeDecl) (s next : State) (c said : Command) (r : Result (Unit {0}) Halt) (a b : Option (List ℕ)) (log : Option (List TableEvent)) → c ≡ said → is_change said ≡ false → s ≡ next → IsWritten a b (is_ok r) (is_write_halt r) (reply kinds net s.book said) → is_device_halt r ≡ false → CameThrough (IsTurn kinds net s c) r next a b log log
+still_said kinds net s next c said r a b log is e same w none = subst (λ (d : Command). CameThrough (IsTurn kinds net s d) r next a b log log) (sym is) (still_through kinds net s next said r a b log e same w none)
+
 -- a change that halted wrote nothing
 pub change_halted : (P : Turn → Type 0) (r : Result (List ℕ) Halt) (h : Halt) (r' : Result (Unit {0}) Halt) (next : State) (told : Option (List ℕ)) (log log' : Option (List TableEvent)) → r ≡ Err h → r' ≡ Err h → CameThroughChange P r next log log' → CameThrough P r' next told told log log'
 change_halted P r h r' next told log log' e f c =

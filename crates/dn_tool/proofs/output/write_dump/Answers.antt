@@ -3,8 +3,8 @@ use Rattle.dn_base.proofs.Counts.{counted_then}
 use Rattle.dn_base.proofs.Lists.{nil_from_length}
 use Rattle.dn_print.specs.Dump.{dump_text, heading_text, lines_text}
 use Rattle.dn_print.proofs.Dumped.{one_piece}
-use Rattle.dn_tool.specs.Halt.{is_device_halt, is_write_halt}
-use Rattle.dn_tool.proofs.Written.{begun, ended, gone_on, stopped_before, stopped_in}
+use Rattle.dn_tool.specs.Halt.{is_write_halt}
+use Rattle.dn_tool.proofs.Written.{begun, ended, gone_on, stopped_here, stopped_in, stopped_there}
 use Rattle.dn_tool.proofs.output.write_dump.Goals as goal
 
 pub returns-in_err-write_output-clause-written : goal.returns-in_err-write_output-clause-written
@@ -26,17 +26,8 @@ loop-piece-init g c =
       counted = c.in_ok-write_output.ensures.halted.counted;
     }
 
-pub returns-in_err-push_lines-clause-written : goal.returns-in_err-push_lines-clause-written
-returns-in_err-push_lines-clause-written g c =
-    let done : is_ok c.from_residual-in_err-push_lines.result ≡ false = search rules in
-    let failed : is_write_halt c.from_residual-in_err-push_lines.result ≡ false = search rules in
-    rw (done, failed) (stopped_before _ _ _ _ c.loop-piece.invariant.so_far)
-
-pub returns-in_err-push_lines-clause-halted : goal.returns-in_err-push_lines-clause-halted
-returns-in_err-push_lines-clause-halted g c =
-    let failed : is_write_halt c.from_residual-in_err-push_lines.result ≡ false = search rules in
-    let no_device : is_device_halt c.from_residual-in_err-push_lines.result ≡ false = search rules in
-    record { no_device = no_device; counted = rw failed c.loop-piece.invariant.counted }
+pub returns-in_err-push_lines : goal.returns-in_err-push_lines
+returns-in_err-push_lines g c = let s = stopped_here c.from_residual-in_err-push_lines.result _ _ _ _ _ _ (search rules) (search rules) (search rules) c.loop-piece.invariant.so_far c.loop-piece.invariant.counted in record { written = s.0; halted = s.1 }
 
 pub loop-piece-preserved : goal.loop-piece-preserved
 loop-piece-preserved g c =
@@ -50,25 +41,14 @@ loop-piece-preserved g c =
       counted = counted_then _ _ _ _ c.loop-piece.invariant.counted c.in_ok-write_output-2.ensures.halted.counted;
     }
 
-pub returns-in_err-write_output-2-clause-written : goal.returns-in_err-write_output-2-clause-written
-returns-in_err-write_output-2-clause-written g c =
+pub returns-in_err-write_output-2 : goal.returns-in_err-write_output-2
+returns-in_err-write_output-2 g c =
     let s = c.in-Some.ensures.steps in
     let size : length c.in-Some.piece.now ≡ min 32768 (length c.loop-piece.piece-iterator.rest.now) = s.1.1 ∙ ap (λ n. min n (length c.loop-piece.piece-iterator.rest.now)) c.loop-piece.invariant.size in
     let next = one_piece c.loop-piece.piece-iterator.rest.now c.in-Some.piece.now c.next.new.self.rest.now s.1.0 size in
     let lines : c.as_slice.result.now ≡ lines_text c.in-Some.piece.now = search rules in
-    let done : is_ok c.from_residual-in_err-write_output-2.result ≡ false = search rules in
-    let failed : is_write_halt c.from_residual-in_err-write_output-2.result ≡ is_write_halt c.write_output-in-loop-piece.result = search rules in
-    let stop : is_ok c.write_output-in-loop-piece.result ≡ false = search rules in
-    rw (done, failed) (stopped_in _ _ _ _ c.as_slice.result.now _ (lines_text c.next.new.self.rest.now) _ c.loop-piece.invariant.so_far (next ∙ ap (λ (l : List ℕ). l ++ lines_text c.next.new.self.rest.now) (sym lines)) (rw stop at c.write_output-in-loop-piece.ensures.written))
-
-pub returns-in_err-write_output-2-clause-halted : goal.returns-in_err-write_output-2-clause-halted
-returns-in_err-write_output-2-clause-halted g c =
-    let failed : is_write_halt c.from_residual-in_err-write_output-2.result ≡ is_write_halt c.write_output-in-loop-piece.result = search rules in
-    let no_device : is_device_halt c.from_residual-in_err-write_output-2.result ≡ false = search rules in
-    record {
-      no_device = no_device;
-      counted = rw failed (counted_then _ _ _ _ c.loop-piece.invariant.counted c.write_output-in-loop-piece.ensures.halted.counted);
-    }
+    let s = stopped_there c.from_residual-in_err-write_output-2.result c.write_output-in-loop-piece.result _ _ _ _ _ _ _ _ _ _ (search rules) (search rules) (search rules) (search rules) c.loop-piece.invariant.so_far (next ∙ ap (λ (l : List ℕ). l ++ lines_text c.next.new.self.rest.now) (sym lines)) c.write_output-in-loop-piece.ensures.written c.loop-piece.invariant.counted c.write_output-in-loop-piece.ensures.halted.counted in
+    record { written = s.0; halted = s.1 }
 
 pub returns-clause-written : goal.returns-clause-written
 returns-clause-written g c =

@@ -1,14 +1,12 @@
 -- Some rows more, or a stop before them or in them.
-use Rattle.std.proofs.Common.{rules, ◌≡◌, ◌∙◌, ◌++◌, [], ap, sym, subst, refl, false, is_ok, map, length, List, ℕ, IsTrue}
-use Rattle.dn_base.proofs.Booleans.{and_parts}
+use Rattle.std.proofs.Common.{rules, ◌≡◌, ◌∙◌, ◌++◌, [], ap, sym, subst, refl, map, length, List, ℕ, IsTrue}
 use Rattle.dn_base.proofs.Counts.{counted_none, counted_then}
 use Rattle.dn_base.proofs.Lists.{nil_from_length}
 use Rattle.dn_interval.specs.declared.row.Row.{Row}
 use Rattle.dn_interval.specs.Listed.{seen_view}
 use Rattle.dn_print.specs.Rows.{ends_exist, rows_text}
-use Rattle.dn_tool.specs.Halt.{is_device_halt, is_write_halt}
 use Rattle.dn_tool.proofs.Viewed.{rows_parted, rows_there}
-use Rattle.dn_tool.proofs.Written.{IsSoFar, begun, ended, gone_on, stopped_before, stopped_in}
+use Rattle.dn_tool.proofs.Written.{IsSoFar, begun, ended, gone_on, stopped_here, stopped_there}
 use Rattle.dn_tool.proofs.output.write_rows.Goals as goal
 
 pub loop-piece-init : goal.loop-piece-init
@@ -24,17 +22,8 @@ loop-piece-init g c =
 pub lines_of-requires : goal.lines_of-requires
 lines_of-requires g c = (rows_there (length c.args.net.now) c.loop-piece.piece-iterator.rest.now c.in-Some.piece.now c.next.new.self.rest.now c.in-Some.ensures.steps.1.0 c.loop-piece.invariant.there).0
 
-pub returns-in_err-text-clause-written : goal.returns-in_err-text-clause-written
-returns-in_err-text-clause-written g c =
-    let done : is_ok c.from_residual-in_err-text.result ≡ false = search rules in
-    let failed : is_write_halt c.from_residual-in_err-text.result ≡ false = search rules in
-    rw (done, failed) (stopped_before _ _ _ _ c.loop-piece.invariant.so_far)
-
-pub returns-in_err-text-clause-halted : goal.returns-in_err-text-clause-halted
-returns-in_err-text-clause-halted g c =
-    let failed : is_write_halt c.from_residual-in_err-text.result ≡ false = search rules in
-    let no_device : is_device_halt c.from_residual-in_err-text.result ≡ false = search rules in
-    record { no_device = no_device; counted = rw failed c.loop-piece.invariant.counted }
+pub returns-in_err-text : goal.returns-in_err-text
+returns-in_err-text g c = let s = stopped_here c.from_residual-in_err-text.result _ _ _ _ _ _ (search rules) (search rules) (search rules) c.loop-piece.invariant.so_far c.loop-piece.invariant.counted in record { written = s.0; halted = s.1 }
 
 pub loop-piece-preserved : goal.loop-piece-preserved
 loop-piece-preserved g c =
@@ -48,25 +37,14 @@ loop-piece-preserved g c =
       there = (rows_there (length net) c.loop-piece.piece-iterator.rest.now c.in-Some.piece.now c.next.new.self.rest.now s.1.0 c.loop-piece.invariant.there).1;
     }
 
-pub returns-in_err-write_output-clause-written : goal.returns-in_err-write_output-clause-written
-returns-in_err-write_output-clause-written g c =
+pub returns-in_err-write_output : goal.returns-in_err-write_output
+returns-in_err-write_output g c =
     let net = c.args.net.now in
     let s = c.in-Some.ensures.steps in
     let next = rows_parted net c.loop-piece.piece-iterator.rest.now c.in-Some.piece.now c.next.new.self.rest.now s.1.0 in
     let lines : c.as_bytes.result.now ≡ rows_text net (map seen_view c.in-Some.piece.now) = c.as_bytes.ensures ∙ c.in_ok-text.ensures in
-    let done : is_ok c.from_residual-in_err-write_output.result ≡ false = search rules in
-    let failed : is_write_halt c.from_residual-in_err-write_output.result ≡ is_write_halt c.write_output.result = search rules in
-    let stop : is_ok c.write_output.result ≡ false = search rules in
-    rw (done, failed) (stopped_in _ _ _ _ c.as_bytes.result.now _ (rows_text net (map seen_view c.next.new.self.rest.now)) _ c.loop-piece.invariant.so_far (next ∙ ap (λ (l : List ℕ). l ++ rows_text net (map seen_view c.next.new.self.rest.now)) (sym lines)) (rw stop at c.write_output.ensures.written))
-
-pub returns-in_err-write_output-clause-halted : goal.returns-in_err-write_output-clause-halted
-returns-in_err-write_output-clause-halted g c =
-    let failed : is_write_halt c.from_residual-in_err-write_output.result ≡ is_write_halt c.write_output.result = search rules in
-    let no_device : is_device_halt c.from_residual-in_err-write_output.result ≡ false = search rules in
-    record {
-      no_device = no_device;
-      counted = rw failed (counted_then _ _ _ _ c.loop-piece.invariant.counted c.write_output.ensures.halted.counted);
-    }
+    let s = stopped_there c.from_residual-in_err-write_output.result c.write_output.result _ _ _ _ _ _ _ _ _ _ (search rules) (search rules) (search rules) (search rules) c.loop-piece.invariant.so_far (next ∙ ap (λ (l : List ℕ). l ++ rows_text net (map seen_view c.next.new.self.rest.now)) (sym lines)) c.write_output.ensures.written c.loop-piece.invariant.counted c.write_output.ensures.halted.counted in
+    record { written = s.0; halted = s.1 }
 
 pub returns-clause-written : goal.returns-clause-written
 returns-clause-written g c =

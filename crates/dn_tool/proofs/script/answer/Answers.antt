@@ -4,11 +4,10 @@ use Rattle.dn_base.proofs.Counts.{counted_none}
 use Rattle.dn_kind.specs.Kind.{Meaning}
 use Rattle.dn_tables.specs.Set.{IsOnDevice}
 use Rattle.dn_book.specs.State.{BookState}
-use Rattle.dn_module.specs.declared.command.Command.{Command}
 use Rattle.dn_module.specs.declared.command.Command.TheVariants.{Dump, View}
-use Rattle.dn_tool.specs.State.{CameThrough, IsChanged, state_view}
+use Rattle.dn_tool.specs.State.{IsChanged, state_view}
 use Rattle.dn_tool.specs.Turn.{IsTurn, State, Turn, is_change}
-use Rattle.dn_tool.proofs.Changes.{change_halted, on_ok, replied, state_kept, still_through}
+use Rattle.dn_tool.proofs.Changes.{change_halted, on_ok, replied, state_kept, still_said, still_through}
 use Rattle.dn_tool.proofs.script.answer.Goals as goal
 
 pub returns-in_err-text-in-Grant-clause-through : goal.returns-in_err-text-in-Grant-clause-through
@@ -27,20 +26,12 @@ returns-in_ok-text-in-Grant-clause-through g c =
 pub returns-in-Dump-clause-through : goal.returns-in-Dump-clause-through
 returns-in-Dump-clause-through g c =
     let kinds : List Meaning = map (λ k. (goal.UnitKind-dyn g (k.vtable, k.value)).meaning k.value) c.args.machine.kinds.now.list.items in
-    let net = c.args.machine.net.now in
-    let s : State = state_view c.args.state.now in
-    let next : State = state_view c.dump.new.state in
-    let through : CameThrough (IsTurn kinds net s Dump) c.dump.result next (g.K.Sink.written c.args.sink.now) (g.K.Sink.written c.dump.new.sink) (g.D.Tables.log c.args.device.now) (g.D.Tables.log c.args.device.now) = still_through kinds net s next Dump c.dump.result _ _ _ refl (state_kept c.args.state.now c.dump.new.state c.dump.ensures.still.book c.dump.ensures.still.ids) c.dump.ensures.written c.dump.ensures.halted.no_device in
-    subst (λ (cmd : Command). CameThrough (IsTurn kinds net s cmd) c.dump.result next (g.K.Sink.written c.args.sink.now) (g.K.Sink.written c.dump.new.sink) (g.D.Tables.log c.args.device.now) (g.D.Tables.log c.args.device.now)) (sym c.in-Dump.is) through
+    still_said kinds c.args.machine.net.now (state_view c.args.state.now) (state_view c.dump.new.state) c.args.command.now Dump c.dump.result _ _ _ c.in-Dump.is refl (state_kept c.args.state.now c.dump.new.state c.dump.ensures.still.book c.dump.ensures.still.ids) c.dump.ensures.written c.dump.ensures.halted.no_device
 
 pub returns-in-View-clause-through : goal.returns-in-View-clause-through
 returns-in-View-clause-through g c =
     let kinds : List Meaning = map (λ k. (goal.UnitKind-dyn g (k.vtable, k.value)).meaning k.value) c.args.machine.kinds.now.list.items in
-    let net = c.args.machine.net.now in
-    let s : State = state_view c.args.state.now in
-    let next : State = state_view c.view_reply.new.state in
-    let through : CameThrough (IsTurn kinds net s (View c.in-View.target c.in-View.mode)) c.view_reply.result next (g.K.Sink.written c.args.sink.now) (g.K.Sink.written c.view_reply.new.sink) (g.D.Tables.log c.args.device.now) (g.D.Tables.log c.args.device.now) = still_through kinds net s next (View c.in-View.target c.in-View.mode) c.view_reply.result _ _ _ refl (state_kept c.args.state.now c.view_reply.new.state c.view_reply.ensures.still.book c.view_reply.ensures.still.ids) c.view_reply.ensures.written c.view_reply.ensures.halted.no_device in
-    subst (λ (cmd : Command). CameThrough (IsTurn kinds net s cmd) c.view_reply.result next (g.K.Sink.written c.args.sink.now) (g.K.Sink.written c.view_reply.new.sink) (g.D.Tables.log c.args.device.now) (g.D.Tables.log c.args.device.now)) (sym c.in-View.is) through
+    still_said kinds c.args.machine.net.now (state_view c.args.state.now) (state_view c.view_reply.new.state) c.args.command.now (View c.in-View.target c.in-View.mode) c.view_reply.result _ _ _ c.in-View.is refl (state_kept c.args.state.now c.view_reply.new.state c.view_reply.ensures.still.book c.view_reply.ensures.still.ids) c.view_reply.ensures.written c.view_reply.ensures.halted.no_device
 
 pub returns-in_default : goal.returns-in_default
 returns-in_default g c =
