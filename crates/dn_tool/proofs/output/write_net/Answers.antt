@@ -1,11 +1,18 @@
 -- One statement more, or a stop before it or in it.
-use Rattle.std.proofs.Common.{rules, ◌≡◌, ◌∙◌, ap, sym, refl, map, drop, ◌+◌, ◌++◌, List, ℕ, arith}
+use Rattle.std.proofs.Common.{rules, ◌≡◌, ◌∙◌, ◌<◌, ap, sym, refl, map, drop, length, slice_get, ◌+◌, ◌++◌, List, ℕ, arith}
 use Rattle.std.specs.List.{flat_map}
 use Rattle.dn_base.proofs.Counts.{counted_none, counted_then}
+use Rattle.dn_net.specs.declared.node.NodeDecl.{NodeDecl}
 use Rattle.dn_kind.specs.Kind.{Meaning}
 use Rattle.dn_print.specs.Statement.{net_text, statement_text, statement_text_at}
 use Rattle.dn_tool.proofs.Written.{begun, ended, gone_on, next_text, no_text, stopped_here, stopped_there}
 use Rattle.dn_tool.proofs.output.write_net.Goals as goal
+
+-- the statement of the first node that is left, and those behind it
+first_text : (kinds : List Meaning) (net : List NodeDecl) (i : ℕ) (text : List ℕ) → i < length net → text ≡ statement_text_at kinds net (slice_get net i) → flat_map (statement_text kinds net) (drop i net) ≡ text ++ flat_map (statement_text kinds net) (drop (i + 1) net)
+first_text kinds net i text l is =
+    let next = next_text (statement_text kinds net) net i l in
+    next.text ∙ ap (λ t. t ++ flat_map (statement_text kinds net) (drop (i + 1) net)) (sym (is ∙ ap (statement_text_at kinds net) next.at))
 
 pub loop-node-init : goal.loop-node-init
 loop-node-init g c =
@@ -18,21 +25,17 @@ returns-in_err-text g c = let s = stopped_here c.from_residual-in_err-text.resul
 pub loop-node-preserved : goal.loop-node-preserved
 loop-node-preserved g c =
     let kinds : List Meaning = map (λ k. (goal.UnitKind-dyn g (k.vtable, k.value)).meaning k.value) c.args.kinds.now.list.items in
-    let net = c.args.net.now in
-    let next = next_text (statement_text kinds net) net c.loop-node.node (omega (arith, c.nodes-node-end.ensures, c.loop-node-test.true)) in
-    let text : c.as_bytes.result.now ≡ statement_text kinds net next.item = c.as_bytes.ensures ∙ c.in_ok-text.ensures ∙ ap (statement_text_at kinds net) next.at in
+    let first = first_text kinds c.args.net.now c.loop-node.node c.as_bytes.result.now (omega (arith, c.nodes-node-end.ensures, c.loop-node-test.true)) (c.as_bytes.ensures ∙ c.in_ok-text.ensures) in
     record {
-      so_far = gone_on _ _ _ c.as_bytes.result.now _ _ _ c.loop-node.invariant.so_far (next.text ∙ ap (λ (l : List ℕ). l ++ flat_map (statement_text kinds net) (drop (c.loop-node.node + 1) net)) (sym text)) (c.in_ok-write_output.ensures.written.whole refl);
+      so_far = gone_on _ _ _ c.as_bytes.result.now _ _ _ c.loop-node.invariant.so_far first (c.in_ok-write_output.ensures.written.whole refl);
       counted = counted_then _ _ _ _ c.loop-node.invariant.counted c.in_ok-write_output.ensures.halted.counted;
     }
 
 pub returns-in_err-write_output : goal.returns-in_err-write_output
 returns-in_err-write_output g c =
     let kinds : List Meaning = map (λ k. (goal.UnitKind-dyn g (k.vtable, k.value)).meaning k.value) c.args.kinds.now.list.items in
-    let net = c.args.net.now in
-    let next = next_text (statement_text kinds net) net c.loop-node.node (omega (arith, c.nodes-node-end.ensures, c.loop-node-test.true)) in
-    let text : c.as_bytes.result.now ≡ statement_text kinds net next.item = c.as_bytes.ensures ∙ c.in_ok-text.ensures ∙ ap (statement_text_at kinds net) next.at in
-    let s = stopped_there c.from_residual-in_err-write_output.result c.write_output.result _ _ _ _ _ _ _ _ _ _ (search rules) (search rules) (search rules) (search rules) c.loop-node.invariant.so_far (next.text ∙ ap (λ (l : List ℕ). l ++ flat_map (statement_text kinds net) (drop (c.loop-node.node + 1) net)) (sym text)) c.write_output.ensures.written c.loop-node.invariant.counted c.write_output.ensures.halted.counted in
+    let first = first_text kinds c.args.net.now c.loop-node.node c.as_bytes.result.now (omega (arith, c.nodes-node-end.ensures, c.loop-node-test.true)) (c.as_bytes.ensures ∙ c.in_ok-text.ensures) in
+    let s = stopped_there c.from_residual-in_err-write_output.result c.write_output.result _ _ _ _ _ _ _ _ _ _ (search rules) (search rules) (search rules) (search rules) c.loop-node.invariant.so_far first c.write_output.ensures.written c.loop-node.invariant.counted c.write_output.ensures.halted.counted in
     record { written = s.0; halted = s.1 }
 
 pub returns-clause-written : goal.returns-clause-written

@@ -4,10 +4,15 @@ use Rattle.dn_base.proofs.Counts.{counted_none, counted_then}
 use Rattle.dn_base.proofs.Lists.{nil_from_length}
 use Rattle.dn_interval.specs.declared.row.Row.{Row}
 use Rattle.dn_interval.specs.Listed.{seen_view}
+use Rattle.dn_net.specs.declared.node.NodeDecl.{NodeDecl}
 use Rattle.dn_print.specs.Rows.{ends_exist, rows_text}
 use Rattle.dn_tool.proofs.Viewed.{rows_parted, rows_there}
 use Rattle.dn_tool.proofs.Written.{IsSoFar, begun, ended, gone_on, stopped_here, stopped_there}
 use Rattle.dn_tool.proofs.output.write_rows.Goals as goal
+
+-- the lines of the first rows that are left, and those of the rows behind them
+first_lines : (net : List NodeDecl) (rest piece later : List Row) (text : List ℕ) → rest ≡ piece ++ later → text ≡ rows_text net (map seen_view piece) → rows_text net (map seen_view rest) ≡ text ++ rows_text net (map seen_view later)
+first_lines net rest piece later text e is = rows_parted net rest piece later e ∙ ap (λ l. l ++ rows_text net (map seen_view later)) (sym is)
 
 pub loop-piece-init : goal.loop-piece-init
 loop-piece-init g c =
@@ -27,23 +32,17 @@ returns-in_err-text g c = let s = stopped_here c.from_residual-in_err-text.resul
 
 pub loop-piece-preserved : goal.loop-piece-preserved
 loop-piece-preserved g c =
-    let net = c.args.net.now in
-    let s = c.in-Some.ensures.steps in
-    let next = rows_parted net c.loop-piece.piece-iterator.rest.now c.in-Some.piece.now c.next.new.self.rest.now s.1.0 in
-    let lines : c.as_bytes.result.now ≡ rows_text net (map seen_view c.in-Some.piece.now) = c.as_bytes.ensures ∙ c.in_ok-text.ensures in
+    let first = first_lines c.args.net.now c.loop-piece.piece-iterator.rest.now c.in-Some.piece.now c.next.new.self.rest.now c.as_bytes.result.now c.in-Some.ensures.steps.1.0 (c.as_bytes.ensures ∙ c.in_ok-text.ensures) in
     record {
-      so_far = gone_on _ _ _ c.as_bytes.result.now _ (rows_text net (map seen_view c.next.new.self.rest.now)) _ c.loop-piece.invariant.so_far (next ∙ ap (λ (l : List ℕ). l ++ rows_text net (map seen_view c.next.new.self.rest.now)) (sym lines)) (c.in_ok-write_output.ensures.written.whole refl);
+      so_far = gone_on _ _ _ c.as_bytes.result.now _ (rows_text c.args.net.now (map seen_view c.next.new.self.rest.now)) _ c.loop-piece.invariant.so_far first (c.in_ok-write_output.ensures.written.whole refl);
       counted = counted_then _ _ _ _ c.loop-piece.invariant.counted c.in_ok-write_output.ensures.halted.counted;
-      there = (rows_there (length net) c.loop-piece.piece-iterator.rest.now c.in-Some.piece.now c.next.new.self.rest.now s.1.0 c.loop-piece.invariant.there).1;
+      there = (rows_there (length c.args.net.now) c.loop-piece.piece-iterator.rest.now c.in-Some.piece.now c.next.new.self.rest.now c.in-Some.ensures.steps.1.0 c.loop-piece.invariant.there).1;
     }
 
 pub returns-in_err-write_output : goal.returns-in_err-write_output
 returns-in_err-write_output g c =
-    let net = c.args.net.now in
-    let s = c.in-Some.ensures.steps in
-    let next = rows_parted net c.loop-piece.piece-iterator.rest.now c.in-Some.piece.now c.next.new.self.rest.now s.1.0 in
-    let lines : c.as_bytes.result.now ≡ rows_text net (map seen_view c.in-Some.piece.now) = c.as_bytes.ensures ∙ c.in_ok-text.ensures in
-    let s = stopped_there c.from_residual-in_err-write_output.result c.write_output.result _ _ _ _ _ _ _ _ _ _ (search rules) (search rules) (search rules) (search rules) c.loop-piece.invariant.so_far (next ∙ ap (λ (l : List ℕ). l ++ rows_text net (map seen_view c.next.new.self.rest.now)) (sym lines)) c.write_output.ensures.written c.loop-piece.invariant.counted c.write_output.ensures.halted.counted in
+    let first = first_lines c.args.net.now c.loop-piece.piece-iterator.rest.now c.in-Some.piece.now c.next.new.self.rest.now c.as_bytes.result.now c.in-Some.ensures.steps.1.0 (c.as_bytes.ensures ∙ c.in_ok-text.ensures) in
+    let s = stopped_there c.from_residual-in_err-write_output.result c.write_output.result _ _ _ _ _ _ _ _ _ _ (search rules) (search rules) (search rules) (search rules) c.loop-piece.invariant.so_far first c.write_output.ensures.written c.loop-piece.invariant.counted c.write_output.ensures.halted.counted in
     record { written = s.0; halted = s.1 }
 
 pub returns-clause-written : goal.returns-clause-written
