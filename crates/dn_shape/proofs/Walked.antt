@@ -77,6 +77,15 @@ all_bare net m ls e (w ∷ ws) =
     ∙ ap (λ x. map bare_walk (onward net m w) ++ x) (all_bare net m ls e ws)
     ∙ sym (map-append bare_walk (onward net m w) (flat_map (onward net m) ws))
 
+-- the walks past a node, from those of one choice
+pub past_bare : (net : List NodeDecl) (m i : ℕ) (ls : List Leg) (first lent walks : List WalkRow) → option_map bare_legs (slice_get net m) ≡ Some ls → map row_view first ≡ map bare_walk (extensions_of net (still_walk i)) → lent ≡ first →
+    map row_view walks ≡ flat_map (bare_onward ls m) (map row_view lent) → map row_view walks ≡ map bare_walk (walks_past net m i)
+past_bare net m i ls first lent walks e one same more =
+    more
+    ∙ ap (λ l. flat_map (bare_onward ls m) (map row_view l)) same
+    ∙ ap (flat_map (bare_onward ls m)) one
+    ∙ all_bare net m ls e (extensions_of net (still_walk i))
+
 -- the legs of a node, by its parts
 pub legs_read : (o : Option NodeDecl) (a : List Block) (e : List Entry) (v : Option ℕ) (ls : List Leg) → option_map (λ d. d.accepts) o ≡ Some a → option_map (λ d. d.entries) o ≡ Some e → option_map (λ d. d.over) o ≡ Some v → ls ≡ legs_by a e v → option_map bare_legs o ≡ Some ls
 legs_read None a e v ls p q r s = cc
