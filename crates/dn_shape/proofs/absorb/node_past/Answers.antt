@@ -35,7 +35,7 @@ returns-then-room-parts_with_rows c =
     let i = c.args.checked.node in
     let r = rest_at net i c.args.checked.there in
     let counting = (goal.at.returns-then-room-parts_with_rows c).After-parts_with_rows in
-    let parts = counted counting r in
+    let parts : parts_of_node (node_led_past net m i r.node) ≡ c.parts_with_rows.result = counted counting r in
     past_led net m i c.args.room (slice_get net i) None (rewritten counting)
     (ap (option_map (λ n. node_of_few_parts c.args.room (node_led_past net m i n))) r.at ∙ ap Some (node_past_room c.args.room (node_led_past net m i r.node) (omega (arith, parts, c.if-room-parts_with_rows.true))))
 
@@ -47,7 +47,7 @@ returns c =
     let n = c.in_ok-with_rows.field-0 in
     let r = rest_at net i c.args.checked.there in
     let counting = (goal.at.returns c).After-parts_with_rows in
-    let parts = counted counting r in
+    let parts : parts_of_node (node_led_past net m i r.node) ≡ c.parts_with_rows.result = counted counting r in
     let few : parts_of_node (node_led_past net m i r.node) ≤ c.args.room = omega (arith, parts, c.if-room-parts_with_rows.false) in
     let is : node_led_past net m i r.node ≡ n = ap (λ l. with_rows l r.node) (sym c.in_ok-rows.ensures) ∙ part_is (with_rows (map seen_view c.in_ok-rows.rows)) _ r.node n r.at c.in_ok-with_rows.ensures in
     past_led net m i c.args.room (slice_get net i) (Some n) (rewritten counting)
