@@ -15,14 +15,14 @@ loop-node-init g c =
 
 pub returns-in_err-text-clause-written : goal.returns-in_err-text-clause-written
 returns-in_err-text-clause-written g c =
-    let done : is_ok c.from_residual-in_err-text.result ≡ false = search rules in
-    let failed : is_write_halt c.from_residual-in_err-text.result ≡ false = search rules in
+    let done : is_ok c.from_residual.result ≡ false = search rules in
+    let failed : is_write_halt c.from_residual.result ≡ false = search rules in
     rw (done, failed) (stopped_before _ _ _ _ c.loop-node.invariant.so_far)
 
 pub returns-in_err-text-clause-halted : goal.returns-in_err-text-clause-halted
 returns-in_err-text-clause-halted g c =
-    let failed : is_write_halt c.from_residual-in_err-text.result ≡ false = search rules in
-    let no_device : is_device_halt c.from_residual-in_err-text.result ≡ false = search rules in
+    let failed : is_write_halt c.from_residual.result ≡ false = search rules in
+    let no_device : is_device_halt c.from_residual.result ≡ false = search rules in
     record { no_device = no_device; counted = rw failed c.loop-node.invariant.counted }
 
 pub loop-node-preserved : goal.loop-node-preserved
@@ -30,7 +30,7 @@ loop-node-preserved g c =
     let kinds : List Meaning = map (λ k. (goal.UnitKind-dyn g (k.vtable, k.value)).meaning k.value) c.args.kinds.now.list.items in
     let net = c.args.net.now in
     let next = next_text (statement_text kinds net) net c.loop-node.node (omega (arith, c.nodes-node-end.ensures, c.loop-node-test.true)) in
-    let text : c.as_bytes.result.now ≡ statement_text kinds net next.item = c.as_bytes.ensures ∙ c.in_ok-text.ensures ∙ ap (statement_text_at kinds net) next.at in
+    let text : c.as_bytes.result.now ≡ statement_text kinds net next.item = c.as_bytes.ensures.value ∙ c.in_ok-text.ensures ∙ ap (statement_text_at kinds net) next.at in
     record {
       so_far = gone_on _ _ _ c.as_bytes.result.now _ _ _ c.loop-node.invariant.so_far (next.text ∙ ap (λ (l : List ℕ). l ++ flat_map (statement_text kinds net) (drop (c.loop-node.node + 1) net)) (sym text)) (c.in_ok-write_output.ensures.written.whole refl);
       counted = counted_then _ _ _ _ c.loop-node.invariant.counted c.in_ok-write_output.ensures.halted.counted;
@@ -41,7 +41,7 @@ returns-in_err-write_output-clause-written g c =
     let kinds : List Meaning = map (λ k. (goal.UnitKind-dyn g (k.vtable, k.value)).meaning k.value) c.args.kinds.now.list.items in
     let net = c.args.net.now in
     let next = next_text (statement_text kinds net) net c.loop-node.node (omega (arith, c.nodes-node-end.ensures, c.loop-node-test.true)) in
-    let text : c.as_bytes.result.now ≡ statement_text kinds net next.item = c.as_bytes.ensures ∙ c.in_ok-text.ensures ∙ ap (statement_text_at kinds net) next.at in
+    let text : c.as_bytes.result.now ≡ statement_text kinds net next.item = c.as_bytes.ensures.value ∙ c.in_ok-text.ensures ∙ ap (statement_text_at kinds net) next.at in
     let done : is_ok c.from_residual-in_err-write_output.result ≡ false = search rules in
     let failed : is_write_halt c.from_residual-in_err-write_output.result ≡ is_write_halt c.write_output.result = search rules in
     let stop : is_ok c.write_output.result ≡ false = search rules in

@@ -1,6 +1,5 @@
 -- Some rows more, or a stop before them or in them.
 use Rattle.std.proofs.Common.{rules, ◌≡◌, ◌∙◌, ◌++◌, [], ap, sym, subst, refl, false, is_ok, map, length, List, ℕ, IsTrue}
-use Rattle.dn_base.proofs.Booleans.{and_parts}
 use Rattle.dn_base.proofs.Counts.{counted_none, counted_then}
 use Rattle.dn_base.proofs.Lists.{nil_from_length}
 use Rattle.dn_interval.specs.declared.row.Row.{Row}
@@ -26,14 +25,14 @@ lines_of-requires g c = (rows_there (length c.args.net.now) c.loop-piece.piece-i
 
 pub returns-in_err-text-clause-written : goal.returns-in_err-text-clause-written
 returns-in_err-text-clause-written g c =
-    let done : is_ok c.from_residual-in_err-text.result ≡ false = search rules in
-    let failed : is_write_halt c.from_residual-in_err-text.result ≡ false = search rules in
+    let done : is_ok c.from_residual.result ≡ false = search rules in
+    let failed : is_write_halt c.from_residual.result ≡ false = search rules in
     rw (done, failed) (stopped_before _ _ _ _ c.loop-piece.invariant.so_far)
 
 pub returns-in_err-text-clause-halted : goal.returns-in_err-text-clause-halted
 returns-in_err-text-clause-halted g c =
-    let failed : is_write_halt c.from_residual-in_err-text.result ≡ false = search rules in
-    let no_device : is_device_halt c.from_residual-in_err-text.result ≡ false = search rules in
+    let failed : is_write_halt c.from_residual.result ≡ false = search rules in
+    let no_device : is_device_halt c.from_residual.result ≡ false = search rules in
     record { no_device = no_device; counted = rw failed c.loop-piece.invariant.counted }
 
 pub loop-piece-preserved : goal.loop-piece-preserved
@@ -41,7 +40,7 @@ loop-piece-preserved g c =
     let net = c.args.net.now in
     let s = c.in-Some.ensures.steps in
     let next = rows_parted net c.loop-piece.piece-iterator.rest.now c.in-Some.piece.now c.next.new.self.rest.now s.1.0 in
-    let lines : c.as_bytes.result.now ≡ rows_text net (map seen_view c.in-Some.piece.now) = c.as_bytes.ensures ∙ c.in_ok-text.ensures in
+    let lines : c.as_bytes.result.now ≡ rows_text net (map seen_view c.in-Some.piece.now) = c.as_bytes.ensures.value ∙ c.in_ok-text.ensures in
     record {
       so_far = gone_on _ _ _ c.as_bytes.result.now _ (rows_text net (map seen_view c.next.new.self.rest.now)) _ c.loop-piece.invariant.so_far (next ∙ ap (λ (l : List ℕ). l ++ rows_text net (map seen_view c.next.new.self.rest.now)) (sym lines)) (c.in_ok-write_output.ensures.written.whole refl);
       counted = counted_then _ _ _ _ c.loop-piece.invariant.counted c.in_ok-write_output.ensures.halted.counted;
@@ -53,7 +52,7 @@ returns-in_err-write_output-clause-written g c =
     let net = c.args.net.now in
     let s = c.in-Some.ensures.steps in
     let next = rows_parted net c.loop-piece.piece-iterator.rest.now c.in-Some.piece.now c.next.new.self.rest.now s.1.0 in
-    let lines : c.as_bytes.result.now ≡ rows_text net (map seen_view c.in-Some.piece.now) = c.as_bytes.ensures ∙ c.in_ok-text.ensures in
+    let lines : c.as_bytes.result.now ≡ rows_text net (map seen_view c.in-Some.piece.now) = c.as_bytes.ensures.value ∙ c.in_ok-text.ensures in
     let done : is_ok c.from_residual-in_err-write_output.result ≡ false = search rules in
     let failed : is_write_halt c.from_residual-in_err-write_output.result ≡ is_write_halt c.write_output.result = search rules in
     let stop : is_ok c.write_output.result ≡ false = search rules in
