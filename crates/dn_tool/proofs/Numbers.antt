@@ -1,5 +1,5 @@
 -- The numbers of ids.
-use Rattle.std.proofs.Common.{◌≡◌, ◌∙◌, ap, sym, refl, arith, ℕ, ◌<◌, ◌≤◌, Bool, true, false, not, if◌then◌else◌, List, [], ◌∷◌, ◌++◌, length, length-append, position, Some}
+use Rattle.std.proofs.Common.{◌≡◌, ◌∙◌, ap, sym, refl, arith, ℕ, Bool, true, false, not, if◌then◌else◌, List, [], ◌∷◌, ◌++◌, position, Some}
 use Rattle.std.specs.List.{list_any}
 use Rattle.std.specs.Str.{bytes_eq}
 use Rattle.std.proofs.lemmas.Grind.{common_steps}
@@ -21,11 +21,3 @@ module _ (ids now : List (List ℕ)) (id : List ℕ) (is_new : Bool) (is : now �
       by : (b : Bool) → (if not b then ids ++ id ∷ [] else ids) ≡ (if b then ids else ids ++ id ∷ [])
       by true = refl
       by false = refl
-
-  -- it makes them one more at most
-  pub one_more : (limit : ℕ) → length ids < limit → length now ≤ limit
-  one_more limit h = go is_new is
-    where
-      go : (b : Bool) → now ≡ (if b then ids ++ id ∷ [] else ids) → length now ≤ limit
-      go true e = omega (arith, h, ap length e, length-append ids (id ∷ []))
-      go false e = omega (arith, h, ap length e)

@@ -1,5 +1,5 @@
 -- Nets that were not made: why, as it is kept for the next command that asks for one.
-use Rattle.std.specs.Prelude.{◌≡◌, ℕ, List, Option, Some, Err, option_map}
+use Rattle.std.specs.Prelude.{◌≡◌, ℕ, List, Some, Err, option_map}
 use Rattle.std.specs.List.{All}
 use Rattle.std.specs.Option.{IfSome}
 use Rattle.dn_net.specs.declared.node.NodeDecl.{NodeDecl}

@@ -20,12 +20,12 @@ loop-node-init g c =
     record { so_far = begun _ (net_text kinds c.args.net.now); counted = counted_none _ }
 
 pub returns-in_err-text : goal.returns-in_err-text
-returns-in_err-text g c = let s = stopped_here c.from_residual-in_err-text.result _ _ _ _ _ _ (search rules) (search rules) (search rules) c.loop-node.invariant.so_far c.loop-node.invariant.counted in record { written = s.0; halted = s.1 }
+returns-in_err-text g c = let s = stopped_here c.from_residual.result _ _ _ _ _ _ (search rules) (search rules) (search rules) c.loop-node.invariant.so_far c.loop-node.invariant.counted in record { written = s.0; halted = s.1 }
 
 pub loop-node-preserved : goal.loop-node-preserved
 loop-node-preserved g c =
     let kinds : List Meaning = map (λ k. (goal.UnitKind-dyn g (k.vtable, k.value)).meaning k.value) c.args.kinds.now.list.items in
-    let first = first_text kinds c.args.net.now c.loop-node.node c.as_bytes.result.now (omega (arith, c.nodes-node-end.ensures, c.loop-node-test.true)) (c.as_bytes.ensures ∙ c.in_ok-text.ensures) in
+    let first = first_text kinds c.args.net.now c.loop-node.node c.as_bytes.result.now (omega (arith, c.nodes-node-end.ensures, c.loop-node-test.true)) (c.as_bytes.ensures.value ∙ c.in_ok-text.ensures) in
     record {
       so_far = gone_on _ _ _ c.as_bytes.result.now _ _ _ c.loop-node.invariant.so_far first (c.in_ok-write_output.ensures.written.whole refl);
       counted = counted_then _ _ _ _ c.loop-node.invariant.counted c.in_ok-write_output.ensures.halted.counted;
@@ -34,7 +34,7 @@ loop-node-preserved g c =
 pub returns-in_err-write_output : goal.returns-in_err-write_output
 returns-in_err-write_output g c =
     let kinds : List Meaning = map (λ k. (goal.UnitKind-dyn g (k.vtable, k.value)).meaning k.value) c.args.kinds.now.list.items in
-    let first = first_text kinds c.args.net.now c.loop-node.node c.as_bytes.result.now (omega (arith, c.nodes-node-end.ensures, c.loop-node-test.true)) (c.as_bytes.ensures ∙ c.in_ok-text.ensures) in
+    let first = first_text kinds c.args.net.now c.loop-node.node c.as_bytes.result.now (omega (arith, c.nodes-node-end.ensures, c.loop-node-test.true)) (c.as_bytes.ensures.value ∙ c.in_ok-text.ensures) in
     let s = stopped_there c.from_residual-in_err-write_output.result c.write_output.result _ _ _ _ _ _ _ _ _ _ (search rules) (search rules) (search rules) (search rules) c.loop-node.invariant.so_far first c.write_output.ensures.written c.loop-node.invariant.counted c.write_output.ensures.halted.counted in
     record { written = s.0; halted = s.1 }
 

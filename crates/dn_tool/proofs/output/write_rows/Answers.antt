@@ -28,11 +28,11 @@ pub lines_of-requires : goal.lines_of-requires
 lines_of-requires g c = (rows_there (length c.args.net.now) c.loop-piece.piece-iterator.rest.now c.in-Some.piece.now c.next.new.self.rest.now c.in-Some.ensures.steps.1.0 c.loop-piece.invariant.there).0
 
 pub returns-in_err-text : goal.returns-in_err-text
-returns-in_err-text g c = let s = stopped_here c.from_residual-in_err-text.result _ _ _ _ _ _ (search rules) (search rules) (search rules) c.loop-piece.invariant.so_far c.loop-piece.invariant.counted in record { written = s.0; halted = s.1 }
+returns-in_err-text g c = let s = stopped_here c.from_residual.result _ _ _ _ _ _ (search rules) (search rules) (search rules) c.loop-piece.invariant.so_far c.loop-piece.invariant.counted in record { written = s.0; halted = s.1 }
 
 pub loop-piece-preserved : goal.loop-piece-preserved
 loop-piece-preserved g c =
-    let first = first_lines c.args.net.now c.loop-piece.piece-iterator.rest.now c.in-Some.piece.now c.next.new.self.rest.now c.as_bytes.result.now c.in-Some.ensures.steps.1.0 (c.as_bytes.ensures ∙ c.in_ok-text.ensures) in
+    let first = first_lines c.args.net.now c.loop-piece.piece-iterator.rest.now c.in-Some.piece.now c.next.new.self.rest.now c.as_bytes.result.now c.in-Some.ensures.steps.1.0 (c.as_bytes.ensures.value ∙ c.in_ok-text.ensures) in
     record {
       so_far = gone_on _ _ _ c.as_bytes.result.now _ (rows_text c.args.net.now (map seen_view c.next.new.self.rest.now)) _ c.loop-piece.invariant.so_far first (c.in_ok-write_output.ensures.written.whole refl);
       counted = counted_then _ _ _ _ c.loop-piece.invariant.counted c.in_ok-write_output.ensures.halted.counted;
@@ -41,7 +41,7 @@ loop-piece-preserved g c =
 
 pub returns-in_err-write_output : goal.returns-in_err-write_output
 returns-in_err-write_output g c =
-    let first = first_lines c.args.net.now c.loop-piece.piece-iterator.rest.now c.in-Some.piece.now c.next.new.self.rest.now c.as_bytes.result.now c.in-Some.ensures.steps.1.0 (c.as_bytes.ensures ∙ c.in_ok-text.ensures) in
+    let first = first_lines c.args.net.now c.loop-piece.piece-iterator.rest.now c.in-Some.piece.now c.next.new.self.rest.now c.as_bytes.result.now c.in-Some.ensures.steps.1.0 (c.as_bytes.ensures.value ∙ c.in_ok-text.ensures) in
     let s = stopped_there c.from_residual-in_err-write_output.result c.write_output.result _ _ _ _ _ _ _ _ _ _ (search rules) (search rules) (search rules) (search rules) c.loop-piece.invariant.so_far first c.write_output.ensures.written c.loop-piece.invariant.counted c.write_output.ensures.halted.counted in
     record { written = s.0; halted = s.1 }
 

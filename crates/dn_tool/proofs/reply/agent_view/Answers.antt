@@ -1,4 +1,4 @@
-use Rattle.std.proofs.Common.{◌≡◌, subst, map, is_ok, List}
+use Rattle.std.proofs.Common.{subst, map, is_ok, List}
 use Rattle.dn_base.specs.Outside.{IsWritten}
 use Rattle.dn_interval.specs.declared.row.Row.{Row}
 use Rattle.dn_net.specs.declared.node.NodeDecl.{NodeDecl}

@@ -13,8 +13,8 @@ use Rattle.dn_tool.specs.Found.{names_under}
 use Rattle.dn_tool.proofs.Seen.{held_same}
 use Rattle.dn_tool.proofs.reply.node_names.Goals as goal
 
-pub names_of-2-requires : goal.names_of-2-requires
-names_of-2-requires g c =
+pub names_of-requires-2 : goal.names_of-requires-2
+names_of-requires-2 g c =
     let kinds : List Meaning = map (λ k. (goal.UnitKind-dyn g (k.vtable, k.value)).meaning k.value) c.args.machine.kinds.now.list.items in
     let net : List NodeDecl = c.args.machine.net.now in
     let h : Held = allowing c.args.access (record_kept kinds c.tables.result.now) in

@@ -3,7 +3,7 @@ use Rattle.std.proofs.Common.{rules, ◌≡◌, sym, subst, is_ok, List, ℕ}
 use Rattle.dn_base.specs.Outside.{IsWritten}
 use Rattle.dn_tool.specs.Found.{access_of}
 use Rattle.dn_tool.specs.Halt.{is_write_halt}
-use Rattle.dn_tool.specs.Viewed.{no_agent_text, owed_rows, view_text, viewed_text}
+use Rattle.dn_tool.specs.Viewed.{owed_rows, view_text, viewed_text}
 use Rattle.dn_tool.proofs.reply.view_reply.Goals as goal
 
 pub returns-in-Some-clause-written : goal.returns-in-Some-clause-written
@@ -12,8 +12,3 @@ returns-in-Some-clause-written g c =
     let book = c.args.state.now.book.grants in
     let is : view_text net book c.args.target.now c.args.mode ≡ viewed_text net c.as_str-text.result.now c.args.mode (owed_rows net book (access_of c.args.mode) c.in-Some.node) = search rules in
     subst (λ (t : List ℕ). IsWritten (g.K.Sink.written c.args.sink.now) (g.K.Sink.written c.agent_view.new.sink) (is_ok c.agent_view.result) (is_write_halt c.agent_view.result) t) (sym is) c.agent_view.ensures.written
-
-pub returns-in_default-clause-written : goal.returns-in_default-clause-written
-returns-in_default-clause-written g c =
-    let is : view_text c.args.machine.net.now c.args.state.now.book.grants c.args.target.now c.args.mode ≡ c.as_bytes.result.now = search rules in
-    subst (λ (t : List ℕ). IsWritten (g.K.Sink.written c.args.sink.now) (g.K.Sink.written c.write_output.new.sink) (is_ok c.write_output.result) (is_write_halt c.write_output.result) t) (sym is) c.write_output.ensures.written

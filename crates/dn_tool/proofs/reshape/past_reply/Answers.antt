@@ -1,4 +1,4 @@
-use Rattle.std.proofs.Common.{rules, ◌≡◌, ◌≢◌, length, map, List, ℕ, IfOk, IsTrue, subst, Ok}
+use Rattle.std.proofs.Common.{rules, ◌≡◌, ◌≢◌, length, map, List, ℕ, IsTrue, subst, Ok}
 use Rattle.std.specs.List.{list_all}
 use Rattle.std.proofs.lemmas.List.{length-map}
 use Rattle.std.proofs.lemmas.Result.{IfOk-weaker}
