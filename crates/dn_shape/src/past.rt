@@ -94,8 +94,7 @@ pub(crate) fn legs_of(
         ≡ Some (map leg_view ls)) }
     ensures lead { IfOk result (λ ls. LeadOn ls) }
 {
-    let net = checked.net;
-    node_legs(alloc, net.accepts(node), net.entries(node), net.over(node))
+    node_legs(alloc, checked, node)
 }
 
 /// Appends the walk, or where it leads into the node, the walk with each choice by which it goes
