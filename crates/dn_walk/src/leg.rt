@@ -83,7 +83,8 @@ fn merged_legs(
 ) -> Result<Vec<Seg>, OutOfMemory>
     requires entries { IsTrue (list_all entry_in_range entries.now) }
     requires every { IsPermutation (places_from 0 entries.now) order.now }
-    requires stable { IsStableByKey (λ p. p.block.lo) nat_cmp (places_from 0 entries.now) order.now }
+    requires stable { IsStableByKey (λ p. p.block.lo) nat_cmp (places_from 0 entries.now)
+        order.now }
     requires order { IsNonDecreasingBy (λ p. p.block.lo) order.now }
     requires gaps { IsNonDecreasingBy (λ s. s.span.lo) gaps.now }
     ensures { IfOk result (λ v. map leg_view v.items
