@@ -1,7 +1,7 @@
 -- The first rule that a node breaks, from what its parts say.
 use Rattle.std.proofs.Common.{◌≡◌, ℕ, zero, suc, ◌+◌, ◌<◌, ◌≤◌, Bool, true, false, ◌&&◌, ◌||◌, not, nat_le, List, [], ◌∷◌, Option, Some, None, option_map, is_some, IsSome, IfSome, refl, sym, ap, ◌∙◌, subst, arith, IsTrue, length, slice_get, drop}
 use Rattle.std.specs.List.{list_all, list_any}
-use Rattle.std.specs.List.Sorted.{IsPermutation}
+use Rattle.dn_base.proofs.Booleans.{and_parts}
 use Rattle.dn_base.proofs.Orders.{le_antisymm}
 use Rattle.dn_base.proofs.Lists.{item_there}
 use Rattle.dn_net.specs.declared.node.Block.{Block}
@@ -11,10 +11,10 @@ use Rattle.dn_net.specs.declared.node.Unit.{Unit as UnitPart}
 use Rattle.dn_net.specs.declared.node.NodeDecl.{NodeDecl}
 use Rattle.dn_net.specs.declared.spans.Span.{Span}
 use Rattle.dn_net.specs.Decode.{top}
-use Rattle.dn_net.specs.Spans.{node_spans, overlaps_in, is_accepted_in}
+use Rattle.dn_net.specs.Spans.{overlaps_in, is_accepted_in}
 use Rattle.dn_net.specs.Rules.{BrokenNode, out_of_range, overlapping, repeating, past_space, is_in_range, block_in_range, entry_in_range, dests_repeat, unit_repeats, is_vectors, count_below, overlaps, least_overlap, repeats, passes_vector_space, fault_of_node, first_fault, node_fault_from}
 use Rattle.dn_net.proofs.Least.{least_overlap_is_least}
-use Rattle.dn_net.proofs.Blocks.{spans_overlap, spans_count}
+use Rattle.dn_net.proofs.Blocks.{AreBlocksOf, spans_overlap, spans_count}
 
 -- a part of a node that is there
 pub part_is : {Y : Type 0} (f : NodeDecl → Y) (o : Option NodeDecl) (d : NodeDecl) (y : Y) → o ≡ Some d → option_map f o ≡ Some y → f d ≡ y
@@ -47,13 +47,13 @@ module _ (o : Option NodeDecl) (d : NodeDecl) (at : o ≡ Some d) (accepts : Lis
   pub range_is : (b : Bool) → (list_all block_in_range accepts && list_all entry_in_range entries) ≡ b → is_in_range d ≡ b
   range_is b h = (λ i. list_all block_in_range (acc i) && list_all entry_in_range (ent i)) ∙ h
 
+  pub range_parts : (list_all block_in_range accepts && list_all entry_in_range entries) ≡ true → IsTrue (list_all block_in_range d.accepts) × IsTrue (list_all entry_in_range d.entries)
+  range_parts h = and_parts (list_all block_in_range d.accepts) (list_all entry_in_range d.entries) (range_is true h)
+
   pub repeats_is : (b : Bool) (u : Option UnitPart) → option_map (λ d. d.unit) o ≡ Some u → (list_any (λ e. dests_repeat e.dests) entries || unit_repeats u) ≡ b → repeats d ≡ b
   repeats_is b u us h = let e = part_is (λ d. d.unit) o d u at us in (λ i. list_any (λ e. dests_repeat e.dests) (ent i) || unit_repeats (e i)) ∙ h
 
-  module _ (spans : List Span) (same : IsPermutation (node_spans entries accepts) spans) where
-    of_node : IsPermutation (node_spans d.entries d.accepts) spans
-    of_node = subst (λ l. IsPermutation (node_spans l d.accepts) spans) (sym ent) (subst (λ l. IsPermutation (node_spans entries l) spans) (sym acc) same)
-
+  module _ (spans : List Span) (of_node : AreBlocksOf d spans) where
     pub overlap_is : (x : ℕ) → IsTrue (overlaps_in spans x) → ((b : ℕ) → IsTrue (overlaps_in spans b) → x ≤ b) → least_overlap d ≡ Some x
     overlap_is x h least = least_is d x (sym (spans_overlap d spans of_node x) ∙ h) (λ b k. least b (spans_overlap d spans of_node b ∙ k))
 

@@ -1,12 +1,13 @@
 -- The map entry that has an address, where no address lies in two map blocks.
-use Rattle.std.proofs.Common.{◌≡◌, ℕ, zero, suc, ◌+◌, ◌-◌, ◌<◌, ◌≤◌, Bool, true, false, if◌then◌else◌, nat_le, List, [], ◌∷◌, Option, Some, refl, sym, ap, ◌∙◌, subst, arith, leb-true, IsTrue, All, Contains, length, get_or, slice_get}
+use Rattle.std.proofs.Common.{◌≡◌, ℕ, zero, suc, ◌+◌, ◌-◌, ◌<◌, ◌≤◌, Bool, true, false, if◌then◌else◌, nat_le, List, [], ◌∷◌, map, Option, Some, refl, sym, ap, ◌∙◌, subst, arith, leb-true, IsTrue, All, Contains, length, get_or, slice_get}
 use Rattle.std.proofs.lemmas.Bool.{le-leb}
-use Rattle.std.proofs.lemmas.List.Elements.{All-contains}
-use Rattle.std.proofs.lemmas.List.Sorted.{Contains-permutation, IsPermutation-sym}
+use Rattle.std.proofs.lemmas.List.Elements.{All-cons, All-contains, All-nil}
+use Rattle.std.proofs.lemmas.List.Sorted.{All-permutation, Contains-permutation, IsPermutation-sym}
 use Rattle.std.specs.List.{list_all}
 use Rattle.std.specs.List.Sorted.{IsPermutation}
 use Rattle.dn_base.proofs.Booleans.{and_parts, and_from}
 use Rattle.dn_base.proofs.Lists.{list_all-at}
+use Rattle.dn_net.specs.declared.node.Block.{Block}
 use Rattle.dn_net.specs.declared.node.Entry.{Entry}
 use Rattle.dn_net.specs.declared.entries.Place.{Place}
 use Rattle.dn_net.specs.Decode.{top, within, Sent, by_over, by_entries}
@@ -15,15 +16,15 @@ use Rattle.dn_net.specs.Order.{places_from}
 use Rattle.dn_net.proofs.Least.{maps_at, maps_at-cons}
 use Rattle.dn_net.proofs.Sweep.{within_early}
 
-place_of : (n : ℕ) (es : List Entry) (k : ℕ) (e : Entry) → slice_get es k ≡ Some e → Contains (places_from n es) record { first = e.block.lo; entry = n + k }
+place_of : (n : ℕ) (es : List Entry) (k : ℕ) (e : Entry) → slice_get es k ≡ Some e → Contains (places_from n es) record { block = e.block; entry = n + k }
 place_of n [] k e at = cc
 place_of n (f ∷ es) zero e at =
     let s : f ≡ e = cc in
     let t : n ≡ n + 0 = omega arith in
-    (0, omega arith, λ i. record { first = (s i).block.lo; entry = t i })
+    (0, omega arith, λ i. record { block = (s i).block; entry = t i })
 place_of n (f ∷ es) (suc k) e at =
     let t : (n + 1) + k ≡ n + suc k = omega arith in
-    let c : Contains (places_from (n + 1) es) record { first = e.block.lo; entry = n + suc k } = subst (λ m. Contains (places_from (n + 1) es) record { first = e.block.lo; entry = m }) t (place_of (n + 1) es k e at) in
+    let c : Contains (places_from (n + 1) es) record { block = e.block; entry = n + suc k } = subst (λ m. Contains (places_from (n + 1) es) record { block = e.block; entry = m }) t (place_of (n + 1) es k e at) in
     let l = c.1 in
     (suc c.0, omega (arith, l), c.2)
 
@@ -32,15 +33,36 @@ pub record IsOf (es : List Entry) (n : ℕ) (p : Place) (k : ℕ) : Type 0 where
   pub entry : Entry
   pub place : p.entry ≡ n + k
   pub at : slice_get es k ≡ Some entry
-  pub first : p.first ≡ entry.block.lo
+  pub block : p.block ≡ entry.block
 
 entry_of : (n : ℕ) (es : List Entry) (k : ℕ) (p : Place) → k < length (places_from n es) → get_or (places_from n es) k p ≡ p → IsOf es n p k
 entry_of n [] k p h e = absurd (omega arith)
-entry_of n (f ∷ es) zero p h e = let m : n ≡ p.entry = ap (λ (q : Place). q.entry) e in record { entry = f; place = omega (arith, m); at = refl; first = sym (ap (λ (q : Place). q.first) e) }
+entry_of n (f ∷ es) zero p h e = let m : n ≡ p.entry = ap (λ (q : Place). q.entry) e in record { entry = f; place = omega (arith, m); at = refl; block = sym (ap (λ (q : Place). q.block) e) }
 entry_of n (f ∷ es) (suc k) p h e =
     let r = entry_of (n + 1) es k p (omega arith) e in
     let m = r.place in
-    record { entry = r.entry; place = omega (arith, m); at = r.at; first = r.first }
+    record { entry = r.entry; place = omega (arith, m); at = r.at; block = r.block }
+
+-- where a place has its entry
+pub place_stands : (es : List Entry) (p : Place) → Contains (places_from 0 es) p → IsOf es 0 p p.entry
+place_stands es p d =
+    let r = entry_of 0 es d.0 p d.1 d.2 in
+    let m = r.place in
+    let s : d.0 ≡ p.entry = omega (arith, m) in
+    subst (λ k. IsOf es 0 p k) s r
+
+-- the blocks of the places are those of the entries
+pub place_blocks : (n : ℕ) (es : List Entry) → map (λ p. p.block) (places_from n es) ≡ map (λ e. e.block) es
+place_blocks n [] = refl
+place_blocks n (e ∷ es) = ap (λ l. e.block ∷ l) (place_blocks (n + 1) es)
+
+-- those of entries in range are in range
+pub places_in_range : (n : ℕ) (es : List Entry) → IsTrue (list_all entry_in_range es) → All (λ p. IsTrue (block_in_range p.block)) (places_from n es)
+places_in_range n [] all = All-nil (λ (p : Place). IsTrue (block_in_range p.block))
+places_in_range n (e ∷ es) all =
+    let b = and_parts (entry_in_range e) (list_all entry_in_range es) all in
+    let c = and_parts (block_in_range e.block) (list_all (dest_in_range e.block) e.dests) b.0 in
+    All-cons (λ (p : Place). IsTrue (block_in_range p.block)) record { block = e.block; entry = n } (places_from (n + 1) es) c.0 (places_in_range (n + 1) es b.1)
 
 with_one : (a : ℕ) (x e : Entry) (es : List Entry) → x ≡ e → within a e.block ≡ true → maps_at (x ∷ es) a ≡ 1 + maps_at es a
 with_one a x e es s w = maps_at-cons x es a ∙ ap (λ (b : Bool). (if b then 1 else 0) + maps_at es a) (ap (λ (y : Entry). within a y.block) s ∙ w)
@@ -94,27 +116,25 @@ not_found a (x ∷ es) none over = rw (none 0 x refl) (not_found a es (λ i e at
 
 -- the places of the entries in the order of their first addresses
 module _ (es : List Entry) (order : List Place) (every : IsPermutation (places_from 0 es) order) where
-  kept : (P : Place → Type 0) → All P order → (i : ℕ) (e : Entry) → slice_get es i ≡ Some e → P record { first = e.block.lo; entry = 0 + i }
+  kept : (P : Place → Type 0) → All P order → (i : ℕ) (e : Entry) → slice_get es i ≡ Some e → P record { block = e.block; entry = 0 + i }
   kept P all i e at = All-contains P order _ all (Contains-permutation (places_from 0 es) order _ every (place_of 0 es i e at))
 
-  pub all_later : (a : ℕ) → All (λ p. a < p.first) order → (i : ℕ) (e : Entry) → slice_get es i ≡ Some e → within a e.block ≡ false
-  all_later a all i e at = within_early e.block a (kept (λ p. a < p.first) all i e at)
+  pub all_later : (a : ℕ) → All (λ p. a < p.block.lo) order → (i : ℕ) (e : Entry) → slice_get es i ≡ Some e → within a e.block ≡ false
+  all_later a all i e at = within_early e.block a (kept (λ p. a < p.block.lo) all i e at)
 
   -- where a place of the order has its entry
   pub stands : (p : Place) → Contains order p → IsOf es 0 p p.entry
-  stands p c =
-      let d = Contains-permutation order (places_from 0 es) p (IsPermutation-sym (places_from 0 es) order every) c in
-      let r = entry_of 0 es d.0 p d.1 d.2 in
-      let m = r.place in
-      let s : d.0 ≡ p.entry = omega (arith, m) in
-      subst (λ k. IsOf es 0 p k) s r
+  stands p c = place_stands es p (Contains-permutation order (places_from 0 es) p (IsPermutation-sym (places_from 0 es) order every) c)
+
+  pub order_in_range : IsTrue (list_all entry_in_range es) → All (λ p. IsTrue (block_in_range p.block)) order
+  order_in_range all = All-permutation (λ p. IsTrue (block_in_range p.block)) (places_from 0 es) order every (places_in_range 0 es all)
 
   -- where the entry that begins last, of those that begin at or before the address, lacks it
-  pub none_has : (a : ℕ) (p : Place) (e : Entry) → IsTrue (list_all entry_in_range es) → ((b : ℕ) → maps_at es b ≤ 1) → Contains order p → p.first ≤ a → All (λ q. q.first ≤ a → q.first ≤ p.first) order → slice_get es p.entry ≡ Some e → within a e.block ≡ false → (i : ℕ) (f : Entry) → slice_get es i ≡ Some f → within a f.block ≡ false
+  pub none_has : (a : ℕ) (p : Place) (e : Entry) → IsTrue (list_all entry_in_range es) → ((b : ℕ) → maps_at es b ≤ 1) → Contains order p → p.block.lo ≤ a → All (λ q. q.block.lo ≤ a → q.block.lo ≤ p.block.lo) order → slice_get es p.entry ≡ Some e → within a e.block ≡ false → (i : ℕ) (f : Entry) → slice_get es i ≡ Some f → within a f.block ≡ false
   none_has a p e range apart c begun last at lacks i f there = by (within a f.block) refl
     where
-      first : p.first ≡ e.block.lo
-      first = let r = stands p c in let s : r.entry ≡ e = (let q : Some r.entry ≡ Some e = sym r.at ∙ at in cc) in r.first ∙ ap (λ (y : Entry). y.block.lo) s
+      first : p.block.lo ≡ e.block.lo
+      first = let r = stands p c in let s : r.entry ≡ e = (let q : Some r.entry ≡ Some e = sym r.at ∙ at in cc) in ap (λ (b : Block). b.lo) r.block ∙ ap (λ (y : Entry). y.block.lo) s
 
       ordered : e.block.lo ≤ e.block.hi
       ordered = leb-true _ _ (and_parts (nat_le e.block.lo e.block.hi) (nat_le e.block.hi top) (and_parts (block_in_range e.block) (list_all (dest_in_range e.block) e.dests) (list_all-at entry_in_range es p.entry e range at)).0).0
@@ -125,7 +145,7 @@ module _ (es : List Entry) (order : List Place) (every : IsPermutation (places_f
           let w = and_parts (nat_le f.block.lo a) (nat_le a f.block.hi) v in
           let l : f.block.lo ≤ a = leb-true _ _ w.0 in
           let h : a ≤ f.block.hi = leb-true _ _ w.1 in
-          let g : f.block.lo ≤ p.first = kept (λ q. q.first ≤ a → q.first ≤ p.first) last i f there l in
+          let g : f.block.lo ≤ p.block.lo = kept (λ q. q.block.lo ≤ a → q.block.lo ≤ p.block.lo) last i f there l in
           let n = first in
           let o = ordered in
           let m : within e.block.lo f.block ≡ true = and_from _ _ (le-leb f.block.lo e.block.lo (omega (arith, g, n))) (le-leb e.block.lo f.block.hi (omega (arith, n, begun, h))) in

@@ -30,3 +30,4 @@ pub mod Sweep
 pub mod Tally
 pub mod UnitRows
 pub mod Ways
+pub mod Woven

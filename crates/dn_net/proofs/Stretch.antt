@@ -1,13 +1,15 @@
 -- Blocks in the order of their first addresses, each stretched to the greatest last address so far.
-use Rattle.std.proofs.Common.{◌≡◌, ℕ, zero, suc, ◌<◌, ◌≤◌, ◌⊎◌, inl, inr, Bool, true, false, if◌then◌else◌, ◌&&◌, ◌||◌, nat_le, nat_lt, List, [], ◌∷◌, Some, None, refl, sym, ap, ◌∙◌, arith, ltb-true, length, get_or, slice_get}
+use Rattle.std.proofs.Common.{◌≡◌, ℕ, zero, suc, ◌<◌, ◌≤◌, ◌⊎◌, inl, inr, Bool, true, false, if◌then◌else◌, ◌&&◌, ◌||◌, nat_le, nat_lt, List, [], ◌∷◌, Some, None, refl, sym, ap, ◌∙◌, arith, leb-true, ltb-true, IsTrue, All, length, get_or, slice_get}
 use Rattle.std.proofs.lemmas.Bool.{cases_lt, le-leb, leb-false, ltb-false}
 use Rattle.std.proofs.lemmas.Option.{get_or_from_slice_get, slice_get_within, slice_get-get_or}
-use Rattle.std.proofs.lemmas.List.Sorted.{list_any-IsPermutation}
-use Rattle.std.specs.List.{list_any}
+use Rattle.std.proofs.lemmas.List.Sorted.{All-permutation, list_any-IsPermutation}
+use Rattle.std.specs.List.{list_all, list_any}
 use Rattle.std.specs.List.Sorted.{IsNonDecreasingBy, IsPermutation}
-use Rattle.dn_base.proofs.Booleans.{or_cases, or_left, or_right, and_from}
+use Rattle.dn_base.proofs.Booleans.{or_cases, or_left, or_right, and_from, and_parts}
+use Rattle.dn_base.proofs.Lists.{list_all-at}
 use Rattle.dn_net.specs.declared.node.Block.{Block}
-use Rattle.dn_net.specs.Decode.{within, in_some_block}
+use Rattle.dn_net.specs.Decode.{top, within, in_some_block}
+use Rattle.dn_net.specs.Rules.{block_in_range}
 use Rattle.dn_net.proofs.Sweep.{within_early, within_late}
 use Rattle.dn_net.proofs.Least.{within_to, within_from}
 
@@ -121,13 +123,37 @@ raised_same bs up a = by (in_some_block a (raised 0 bs)) refl (in_some_block a b
     by true e false f = sym (none (shrinks a 0 bs up e)) ∙ f
     by false e true f = sym e ∙ grows a 0 bs f
 
-any_within : (a : ℕ) (bs : List Block) → in_some_block a bs ≡ list_any (within a) bs
+pub any_within : (a : ℕ) (bs : List Block) → in_some_block a bs ≡ list_any (within a) bs
 any_within a [] = refl
 any_within a (b ∷ bs) = ap (λ (t : Bool). within a b || t) (any_within a bs)
 
 -- in another order the blocks have the same addresses
 pub moved_same : (bs cs : List Block) → IsPermutation bs cs → (a : ℕ) → in_some_block a cs ≡ in_some_block a bs
 moved_same bs cs same a = any_within a cs ∙ sym (list_any-IsPermutation (within a) bs cs same) ∙ sym (any_within a bs)
+
+higher_low : (m h : ℕ) → m ≤ top → h ≤ top → higher m h ≤ top
+higher_low m h k l = by (higher_cases m h)
+  where
+    by : ((m < h) × (higher m h ≡ h)) ⊎ ((h ≤ m) × (higher m h ≡ m)) → higher m h ≤ top
+    by (inl u) = let e = u.1 in omega (arith, e, l)
+    by (inr u) = let e = u.1 in omega (arith, e, k)
+
+range_parts : (b : Block) → IsTrue (block_in_range b) → (b.lo ≤ b.hi) × (b.hi ≤ top)
+range_parts b r = let p = and_parts (nat_le b.lo b.hi) (nat_le b.hi top) r in (leb-true b.lo b.hi p.0, leb-true b.hi top p.1)
+
+-- blocks in range are in range when they are stretched
+pub raised_in_range : (m : ℕ) (bs : List Block) → m ≤ top → All (λ b. IsTrue (block_in_range b)) bs → All (λ b. IsTrue (block_in_range b)) (raised m bs)
+raised_in_range m [] l valid k d h = absurd (omega arith)
+raised_in_range m (b ∷ bs) l valid zero d h =
+    let r = range_parts b (valid 0 b (omega arith)) in
+    let o = r.0 in
+    let u = (higher_above m b.hi).1 in
+    and_from (nat_le b.lo (higher m b.hi)) (nat_le (higher m b.hi) top) (le-leb b.lo (higher m b.hi) (omega (arith, o, u))) (le-leb (higher m b.hi) top (higher_low m b.hi l r.1))
+raised_in_range m (b ∷ bs) l valid (suc k) d h = raised_in_range (higher m b.hi) bs (higher_low m b.hi l (range_parts b (valid 0 b (omega arith))).1) (λ j e i. valid (suc j) e (omega arith)) k d (omega arith)
+
+-- each block of a list in range, in any order
+pub each_in_range : (bs cs : List Block) → IsPermutation bs cs → IsTrue (list_all block_in_range bs) → All (λ b. IsTrue (block_in_range b)) cs
+each_in_range bs cs same all = All-permutation (λ b. IsTrue (block_in_range b)) bs cs same (λ k d l. list_all-at block_in_range bs k (get_or bs k d) all (slice_get-get_or bs k d l))
 
 none_has : (a : ℕ) (rows : List Block) → ((k : ℕ) (d : Block) → k < length rows → within a (get_or rows k d) ≡ false) → in_some_block a rows ≡ false
 none_has a [] none = refl

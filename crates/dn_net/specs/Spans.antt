@@ -1,13 +1,13 @@
 -- The blocks of a node as one list, and what lies in them.
 use Rattle.std.specs.Prelude.{ℕ, Bool, true, false, ◌&&◌, ◌||◌, not, nat_lt, List, ◌++◌, map, count_by}
 use Rattle.dn_net.specs.declared.node.Block.{Block}
-use Rattle.dn_net.specs.declared.node.Entry.{Entry}
+use Rattle.dn_net.specs.declared.entries.Place.{Place}
 use Rattle.dn_net.specs.declared.spans.Span.{Span}
 use Rattle.dn_net.specs.Decode.{within}
 
 -- the map blocks and then the accept blocks
-abbrev pub node_spans : List Entry → List Block → List Span
-node_spans entries accepts = map (λ e. record { block = e.block; mapped = true }) entries ++ map (λ b. record { block = b; mapped = false }) accepts
+abbrev pub node_spans : List Place → List Block → List Span
+node_spans places accepts = map (λ p. record { block = p.block; mapped = true }) places ++ map (λ b. record { block = b; mapped = false }) accepts
 
 -- how many map blocks, and how many accept blocks, have the address
 abbrev pub maps_in : List Span → ℕ → ℕ

@@ -1,8 +1,9 @@
-//! The accept blocks of a node, where an address is sought by binary search.
+//! The accept blocks of a node, which are sorted once: an address is sought among them by binary search.
 
-ghost use Rattle.std.specs.Prelude.{◌≡◌, ℕ, IfOk, nat_lt, if◌then◌else◌};
+ghost use Rattle.std.specs.Prelude.{◌≡◌, ℕ, IfOk, IsTrue, All, nat_lt, if◌then◌else◌};
+ghost use Rattle.std.specs.List.{list_all};
 ghost use Rattle.std.specs.List.Sorted.{IsNonDecreasingBy};
-ghost use Rattle.dn_net.specs.Terms.{in_some_block};
+ghost use Rattle.dn_net.specs.Terms.{block_in_range, in_some_block};
 
 use crate::node::Block;
 use dn_base::items::Items;
@@ -18,16 +19,18 @@ pub(crate) struct AcceptList {
 }
 
 impl Model for AcceptList {
-    ghost use Rattle.std.specs.Prelude.{List, ◌≡◌, ℕ};
+    ghost use Rattle.std.specs.Prelude.{List, ◌≡◌, ℕ, IsTrue, All};
+    ghost use Rattle.std.specs.List.{list_all};
     ghost use Rattle.std.specs.List.Sorted.{IsNonDecreasingBy};
     ghost use Rattle.dn_net.specs.Decode.{in_some_block};
+    ghost use Rattle.dn_net.specs.Rules.{block_in_range};
     ghost use Rattle.dn_net.specs.declared.node.Block.{Block};
 
     ghost Value = { List Block };
 
     ghost view = { λ s. s.blocks };
 
-    ghost invariant = { λ s. record { firsts : IsNonDecreasingBy (λ b. b.lo) s.rows.items; lasts : IsNonDecreasingBy (λ b. b.hi) s.rows.items; same : (a : ℕ) → in_some_block a s.rows.items ≡ in_some_block a s.blocks } };
+    ghost invariant = { λ s. record { firsts : IsNonDecreasingBy (λ b. b.lo) s.rows.items; lasts : IsNonDecreasingBy (λ b. b.hi) s.rows.items; same : (a : ℕ) → in_some_block a s.rows.items ≡ in_some_block a s.blocks; in_range : IsTrue (list_all block_in_range s.blocks) → All (λ b. IsTrue (block_in_range b)) s.rows.items } };
 }
 
 impl AcceptList {
@@ -46,6 +49,16 @@ impl AcceptList {
         self.blocks.as_slice()
     }
 
+    /// Blocks that have the same addresses, by their first addresses.
+    pub(crate) fn rows(&self) -> &[Block]
+        ensures sorted { IsNonDecreasingBy (λ b. b.lo) result.now }
+        ensures same { (a : ℕ) → in_some_block a result.now ≡ in_some_block a self.now }
+        ensures in_range { IsTrue (list_all block_in_range self.now)
+            → All (λ b. IsTrue (block_in_range b)) result.now }
+    {
+        self.rows.as_slice()
+    }
+
     /// Whether one of the blocks has the address.
     pub(crate) fn has(&self, addr: u64) -> bool
         ensures { result ≡ in_some_block addr self.now }
@@ -60,6 +73,8 @@ fn rows_of(alloc: Global, blocks: &[Block]) -> Result<Vec<Block>, AllocError>
     ensures lasts { IfOk result (λ v. IsNonDecreasingBy (λ b. b.hi) v.items) }
     ensures same { IfOk result (λ v. (a : ℕ) → in_some_block a v.items
         ≡ in_some_block a blocks.now) }
+    ensures in_range { IfOk result (λ v. IsTrue (list_all block_in_range blocks.now)
+        → All (λ b. IsTrue (block_in_range b)) v.items) }
 {
     let mut sorted = Vec::from_slice(alloc, blocks)?;
     sorted.sort_unstable_by_key(|block| block.lo);
@@ -73,6 +88,8 @@ fn stretched_blocks(alloc: Global, blocks: &[Block]) -> Result<Vec<Block>, Alloc
     ensures lasts { IfOk result (λ v. IsNonDecreasingBy (λ b. b.hi) v.items) }
     ensures same { IfOk result (λ v. (a : ℕ) → in_some_block a v.items
         ≡ in_some_block a blocks.now) }
+    ensures in_range { IfOk result (λ v. All (λ b. IsTrue (block_in_range b)) blocks.now
+        → All (λ b. IsTrue (block_in_range b)) v.items) }
 {
     let mut rows = Vec::with_capacity(alloc, blocks.len())?;
     let mut reach = 0;

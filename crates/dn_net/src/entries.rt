@@ -1,34 +1,37 @@
-//! The map entries of a node, where an address is sought by binary search.
+//! The map entries of a node, whose blocks are sorted once: an address is sought among them by binary search.
 
 ghost use Rattle.std.specs.Prelude.{◌≡◌, ◌≤◌, ◌<◌, ◌-◌, ℕ, Bool, Option, Some, IfOk, IfNone, IfSome, IsTrue, All, Contains};
 ghost use Rattle.std.specs.List.{list_all, count_by};
-ghost use Rattle.std.specs.List.Sorted.{IsNonDecreasingBy, IsPermutation};
+ghost use Rattle.std.specs.List.Sorted.{IsNonDecreasingBy, IsPermutation, IsStableByKey};
+ghost use Rattle.std.specs.Ordering.{nat_cmp};
 ghost use Rattle.dn_net.specs.Terms.{by_entries, by_over, entry_in_range, places_from, within};
 ghost use Rattle.dn_net.specs.declared.node.Entry.{Entry};
 
-use crate::node::Entry;
+use crate::node::{Block, Entry};
 use dn_base::items::Items;
 use std::alloc::{AllocError, Global};
 use std::marker::Model;
 
-/// The first address of a map block, and the place of its entry.
-#[derive(Clone, Copy)]
-pub(crate) struct Place {
-    first: u64,
-    entry: usize,
+/// A map block, and the place of its entry among those of the node.
+#[derive(Clone, Copy, Debug, PartialEq, Eq)]
+pub struct Place {
+    pub block: Block,
+    pub entry: usize,
 }
 
 /// The map entries of a node, which contracts see as their list in the order of the text.
 #[derive(Drop)]
 pub(crate) struct EntryList {
     entries: Items<Entry>,
-    /// The places of the entries, by the first addresses of their blocks.
+    /// The blocks of the entries with the places of these, by their first addresses. Those with one first address
+    /// stand in the order of the entries.
     order: Vec<Place>,
 }
 
 impl Model for EntryList {
     ghost use Rattle.std.specs.Prelude.{List};
-    ghost use Rattle.std.specs.List.Sorted.{IsNonDecreasingBy, IsPermutation};
+    ghost use Rattle.std.specs.List.Sorted.{IsNonDecreasingBy, IsPermutation, IsStableByKey};
+    ghost use Rattle.std.specs.Ordering.{nat_cmp};
     ghost use Rattle.dn_net.specs.declared.node.Entry.{Entry};
     ghost use Rattle.dn_net.specs.Order.{places_from};
 
@@ -36,7 +39,7 @@ impl Model for EntryList {
 
     ghost view = { λ s. s.entries };
 
-    ghost invariant = { λ s. record { every : IsPermutation (places_from 0 s.entries) s.order.items; sorted : IsNonDecreasingBy (λ p. p.first) s.order.items } };
+    ghost invariant = { λ s. record { every : IsPermutation (places_from 0 s.entries) s.order.items; sorted : IsNonDecreasingBy (λ p. p.block.lo) s.order.items; stable : IsStableByKey (λ p. p.block.lo) nat_cmp (places_from 0 s.entries) s.order.items } };
 }
 
 impl EntryList {
@@ -45,7 +48,7 @@ impl EntryList {
         ensures { IfOk result (λ l. l ≡ entries) }
     {
         let mut order = places(alloc, entries.as_slice())?;
-        order.sort_unstable_by_key(|place| place.first);
+        order.sort_by_key(|place| place.block.lo)?;
         Ok(EntryList { entries, order })
     }
 
@@ -54,6 +57,17 @@ impl EntryList {
         ensures { result.now ≡ self.now }
     {
         self.entries.as_slice()
+    }
+
+    /// The blocks of the entries with the places of these, by their first addresses. Those with one first address
+    /// stand in the order of the entries.
+    pub(crate) fn order(&self) -> &[Place]
+        ensures sorted { IsNonDecreasingBy (λ p. p.block.lo) result.now }
+        ensures every { IsPermutation (places_from 0 self.now) result.now }
+        ensures stable { IsStableByKey (λ p. p.block.lo) nat_cmp (places_from 0 self.now)
+            result.now }
+    {
+        self.order.as_slice()
     }
 
     /// The map entry that has the address.
@@ -78,7 +92,7 @@ fn places(alloc: Global, entries: &[Entry]) -> Result<Vec<Place>, AllocError>
     let mut order = Vec::with_capacity(alloc, entries.len())?;
     for (place, entry) in entries.iter().enumerate() {
         order.push(Place {
-            first: entry.block.lo,
+            block: entry.block,
             entry: place,
         })?;
     }
@@ -89,7 +103,7 @@ fn places(alloc: Global, entries: &[Entry]) -> Result<Vec<Place>, AllocError>
 /// before the address, can.
 fn entry_at<'a>(entries: &'a [Entry], order: &[Place], addr: u64) -> Option<&'a Entry>
     requires every { IsPermutation (places_from 0 entries.now) order.now }
-    requires sorted { IsNonDecreasingBy (λ p. p.first) order.now }
+    requires sorted { IsNonDecreasingBy (λ p. p.block.lo) order.now }
     requires in_range { IsTrue (list_all entry_in_range entries.now) }
     requires apart { (a : ℕ) → count_by (λ e. within a e.block) entries.now ≤ 1 }
     ensures none { IfNone result ((over : Option ℕ) → by_entries addr over entries.now
@@ -114,14 +128,14 @@ fn entry_at<'a>(entries: &'a [Entry], order: &[Place], addr: u64) -> Option<&'a 
 
 /// The last place whose block begins at or before the address.
 fn last_before(order: &[Place], addr: u64) -> Option<&Place>
-    requires { IsNonDecreasingBy (λ p. p.first) order.now }
-    ensures none { IfNone result (All (λ p. addr < p.first) order.now) }
+    requires { IsNonDecreasingBy (λ p. p.block.lo) order.now }
+    ensures none { IfNone result (All (λ p. addr < p.block.lo) order.now) }
     ensures there { IfSome result (λ p. Contains order.now p.now) }
-    ensures begun { IfSome result (λ p. p.now.first ≤ addr) }
-    ensures last { IfSome result (λ p. All (λ q. q.first ≤ addr
-        → q.first ≤ p.now.first) order.now) }
+    ensures begun { IfSome result (λ p. p.now.block.lo ≤ addr) }
+    ensures last { IfSome result (λ p. All (λ q. q.block.lo ≤ addr
+        → q.block.lo ≤ p.now.block.lo) order.now) }
 {
-    let after = order.partition_point(|place| place.first <= addr);
+    let after = order.partition_point(|place| place.block.lo <= addr);
     if after == 0 {
         return None;
     }

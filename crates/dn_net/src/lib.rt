@@ -6,7 +6,7 @@
 
 mod accepts;
 pub mod checked;
-mod entries;
+pub mod entries;
 pub mod laws;
 pub mod names;
 pub mod net;

@@ -1,13 +1,16 @@
 //! The nodes of a net, with their full names and numbers.
 
-ghost use Rattle.std.specs.Prelude.{◌≡◌, ◌≢◌, ◌↔◌, [], ◌∷◌, ◌++◌, OnErr, IfOk, length, slice_get, map, option_map, position, false, Some, None, ◌<◌, IsTrue, Option};
+ghost use Rattle.std.specs.Prelude.{◌≡◌, ◌≢◌, ℕ, [], ◌∷◌, ◌++◌, OnErr, IfOk, length, slice_get, map, option_map, position, false, Some, None, ◌<◌, IsTrue, Option, All};
 ghost use Rattle.std.specs.List.{list_any, list_all};
+ghost use Rattle.std.specs.List.Sorted.{IsNonDecreasingBy, IsPermutation, IsStableByKey};
+ghost use Rattle.std.specs.Ordering.{nat_cmp};
 ghost use Rattle.std.specs.Str.{bytes_eq};
 ghost use Rattle.std.specs.Option.{option_copied, is_some};
-ghost use Rattle.dn_net.specs.Terms.{IsNet, in_some_block, is_formed, node_limit, over_dests, over_is_based, unit_at};
+ghost use Rattle.dn_net.specs.Terms.{IsNet, block_in_range, in_some_block, is_formed, node_limit, over_dests, over_is_based, places_from, unit_at};
+ghost use Rattle.dn_net.specs.declared.node.NodeDecl.{NodeDecl};
 
 use crate::accepts::AcceptList;
-use crate::entries::EntryList;
+use crate::entries::{EntryList, Place};
 use crate::node::{Block, Dest, Entry, NodeDecl, Role, Unit};
 use dn_base::items::Items;
 use indexmap::IndexMap;
@@ -168,6 +171,32 @@ impl Net {
         ensures { option_map (λ d. d.entries) (slice_get self.now node) ≡ Some result.now }
     {
         self.parts(node).entries.as_slice()
+    }
+
+    /// Blocks with the addresses of a node's accept blocks, by their first addresses.
+    pub fn accept_rows(&self, node: u16) -> &[Block]
+        requires { node < length self.now }
+        ensures sorted { IsNonDecreasingBy (λ b. b.lo) result.now }
+        ensures same { (d : NodeDecl) → slice_get self.now node ≡ Some d
+            → (a : ℕ) → in_some_block a result.now ≡ in_some_block a d.accepts }
+        ensures in_range { (d : NodeDecl) → slice_get self.now node ≡ Some d
+            → IsTrue (list_all block_in_range d.accepts)
+            → All (λ b. IsTrue (block_in_range b)) result.now }
+    {
+        self.parts(node).accepts.rows()
+    }
+
+    /// The map blocks of a node with the places of their entries, by their first addresses. Those with one first
+    /// address stand in the order of the entries.
+    pub fn entry_order(&self, node: u16) -> &[Place]
+        requires { node < length self.now }
+        ensures sorted { IsNonDecreasingBy (λ p. p.block.lo) result.now }
+        ensures every { (d : NodeDecl) → slice_get self.now node ≡ Some d
+            → IsPermutation (places_from 0 d.entries) result.now }
+        ensures stable { (d : NodeDecl) → slice_get self.now node ≡ Some d
+            → IsStableByKey (λ p. p.block.lo) nat_cmp (places_from 0 d.entries) result.now }
+    {
+        self.parts(node).entries.order()
     }
 
     /// The node that serves what a node neither accepts nor maps. `None` exactly where it has no `over`.

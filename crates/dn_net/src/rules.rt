@@ -10,7 +10,7 @@ ghost use Rattle.dn_net.specs.declared.node.NodeDecl.{NodeDecl};
 
 use crate::net::Net;
 use crate::node::{Block, Dest, Entry, Role, TOP, Unit};
-use crate::spans::{Span, accepted_addresses, first_overlap, sorted_spans};
+use crate::spans::{Span, accepted_addresses, first_overlap, merged_spans};
 use std::alloc::Global;
 use thiserror::Error;
 
@@ -72,7 +72,7 @@ impl Net {
         if !are_in_range(accepts, entries) {
             return Err(NodeFault::Range { node });
         }
-        let Ok(spans) = sorted_spans(alloc, entries, accepts) else {
+        let Ok(spans) = merged_spans(alloc, self.entry_order(node), self.accept_rows(node)) else {
             return Err(NodeFault::OutOfMemory);
         };
         if let Some(addr) = first_overlap(&spans) {

@@ -1,11 +1,11 @@
 //! The blocks of a node in the order of their first addresses, and what one pass over them finds.
 
-ghost use Rattle.std.specs.Prelude.{◌≡◌, ℕ, ◌+◌, ◌<◌, ◌≤◌, ◌&&◌, ◌||◌, nat_lt, false, IfOk, IfSome, IfNone, IsTrue, All};
-ghost use Rattle.std.specs.List.{list_all};
+ghost use Rattle.std.specs.Prelude.{◌≡◌, ℕ, ◌+◌, ◌<◌, ◌≤◌, ◌&&◌, ◌||◌, ◌++◌, [], not, nat_lt, false, filter, IfOk, OnOk, IfSome, IfNone, IsTrue, All};
 ghost use Rattle.std.specs.List.Sorted.{IsPermutation, IsNonDecreasingBy};
-ghost use Rattle.dn_net.specs.Terms.{block_in_range, count_below, entry_in_range, is_accepted_in, node_spans, overlaps_in, top};
+ghost use Rattle.dn_net.specs.Terms.{block_in_range, count_below, is_accepted_in, node_spans, overlaps_in, top};
 
-use crate::node::{Block, Entry};
+use crate::entries::Place;
+use crate::node::Block;
 use std::alloc::{AllocError, Global};
 
 /// A block of a node. One that is not mapped is accepted.
@@ -27,40 +27,56 @@ impl Span {
     }
 }
 
-/// The blocks of a node, by their first addresses.
-pub(crate) fn sorted_spans(
+/// The blocks of a node by their first addresses: its map blocks and its accept blocks, each in this order, merged.
+pub(crate) fn merged_spans(
     alloc: Global,
-    entries: &[Entry],
+    maps: &[Place],
     accepts: &[Block],
 ) -> Result<Vec<Span>, AllocError>
-    ensures same { IfOk result (λ v. IsPermutation (node_spans entries.now accepts.now) v.items) }
+    requires maps { IsNonDecreasingBy (λ p. p.block.lo) maps.now }
+    requires accepts { IsNonDecreasingBy (λ b. b.lo) accepts.now }
+    requires maps_in_range { All (λ p. IsTrue (block_in_range p.block)) maps.now }
+    requires accepts_in_range { All (λ b. IsTrue (block_in_range b)) accepts.now }
+    ensures same { IfOk result (λ v. IsPermutation (node_spans maps.now accepts.now) v.items) }
     ensures sorted { IfOk result (λ v. IsNonDecreasingBy (λ s. s.block.lo) v.items) }
-    ensures in_range { IfOk result (λ v. IsTrue (list_all block_in_range accepts.now
-        && list_all entry_in_range entries.now)
-        → All (λ s. IsTrue (block_in_range s.block)) v.items) }
+    ensures in_range { IfOk result (λ v. All (λ s. IsTrue (block_in_range s.block)) v.items) }
 {
-    let mut spans = all_spans(alloc, entries, accepts)?;
-    spans.sort_unstable_by_key(|span| span.block.lo);
+    let mut spans = Vec::new(alloc);
+    let mut rest = accepts;
+    for place in maps {
+        let (before, others) = split_below(rest, place.block.lo);
+        push_accepts(&mut spans, before)?;
+        spans.push(Span {
+            block: place.block,
+            mapped: true,
+        })?;
+        rest = others;
+    }
+    push_accepts(&mut spans, rest)?;
     Ok(spans)
 }
 
-fn all_spans(alloc: Global, entries: &[Entry], accepts: &[Block]) -> Result<Vec<Span>, AllocError>
-    ensures { IfOk result (λ v. v.items ≡ node_spans entries.now accepts.now) }
+/// The blocks that begin below an address, and the others.
+fn split_below(blocks: &[Block], addr: u64) -> (&[Block], &[Block])
+    requires { IsNonDecreasingBy (λ b. b.lo) blocks.now }
+    ensures below { result.0.now ≡ filter (λ b. nat_lt b.lo addr) blocks.now }
+    ensures others { result.1.now ≡ filter (λ b. not (nat_lt b.lo addr)) blocks.now }
+    ensures sorted { IsNonDecreasingBy (λ b. b.lo) result.1.now }
 {
-    let mut spans = Vec::new(alloc);
-    for entry in entries {
-        spans.push(Span {
-            block: entry.block,
-            mapped: true,
-        })?;
-    }
+    blocks.split_at(blocks.partition_point(|block| block.lo < addr))
+}
+
+/// Adds accept blocks.
+fn push_accepts(spans: &mut Vec<Span>, accepts: &[Block]) -> Result<(), AllocError>
+    ensures { OnOk result (spans.new.items ≡ spans.old.items ++ node_spans [] accepts.now) }
+{
     for block in accepts {
         spans.push(Span {
             block: *block,
             mapped: false,
         })?;
     }
-    Ok(spans)
+    Ok(())
 }
 
 /// The least address that lies in two map blocks, or in a map block and an accept block.

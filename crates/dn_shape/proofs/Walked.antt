@@ -18,8 +18,6 @@ use Rattle.dn_interval.specs.Strands.{seg_gives, segs_give}
 use Rattle.dn_interval.proofs.Listing.{normal_are_listed}
 use Rattle.dn_interval.proofs.Names.{segs_from, segs_to}
 use Rattle.dn_interval.proofs.Normal.{normal_like}
-use Rattle.dn_net.specs.declared.node.Block.{Block}
-use Rattle.dn_net.specs.declared.node.Entry.{Entry}
 use Rattle.dn_net.specs.declared.node.Name.{Name}
 use Rattle.dn_net.specs.declared.node.NodeDecl.{NodeDecl}
 use Rattle.dn_net.specs.Decode.{top, within, steps, Step}
@@ -33,11 +31,11 @@ use Rattle.dn_net.proofs.Levels.{IsRow, level_is_row}
 use Rattle.dn_net.proofs.Members.{member_filter, filter_member, member_flat_map, flat_map_member}
 use Rattle.dn_net.proofs.Resolution.{name_is}
 use Rattle.dn_walk.specs.declared.walks.WalkRow.{WalkRow}
-use Rattle.dn_walk.specs.Legs.{Leg, leg_view, bare_leg, bare_legs, legs_by, AreLegs}
+use Rattle.dn_walk.specs.Legs.{Leg, leg_view, bare_leg, bare_legs, AreLegs}
 use Rattle.dn_walk.specs.Levels.{bare_onto, bare_extensions_by}
 use Rattle.dn_walk.specs.Rows.{BareWalk, bare_walk, row_view}
 use Rattle.dn_walk.proofs.Bridge.{met_bare, each_onto}
-use Rattle.dn_walk.proofs.Nodes.{legs_are, legs_of_node}
+use Rattle.dn_walk.proofs.Nodes.{legs_of_node}
 use Rattle.dn_walk.proofs.BareWalks.{rise_back}
 use Rattle.dn_walk.proofs.Ends.{end_in}
 use Rattle.dn_shape.specs.Absorb.{steps_past, rows_past}
@@ -85,15 +83,6 @@ past_bare net m i ls first lent walks e one same more =
     ∙ ap (λ l. flat_map (bare_onward ls m) (map row_view l)) same
     ∙ ap (flat_map (bare_onward ls m)) one
     ∙ all_bare net m ls e (extensions_of net (still_walk i))
-
--- the legs of a node, by its parts
-pub legs_read : (o : Option NodeDecl) (a : List Block) (e : List Entry) (v : Option ℕ) (ls : List Leg) → option_map (λ d. d.accepts) o ≡ Some a → option_map (λ d. d.entries) o ≡ Some e → option_map (λ d. d.over) o ≡ Some v → ls ≡ legs_by a e v → option_map bare_legs o ≡ Some ls
-legs_read None a e v ls p q r s = cc
-legs_read (Some d) a e v ls p q r s =
-    let p' : d.accepts ≡ a = cc in
-    let q' : d.entries ≡ e = cc in
-    let r' : d.over ≡ v = cc in
-    ap Some (legs_are d ∙ ap (λ x. legs_by x d.entries d.over) p' ∙ ap (λ x. legs_by a x d.over) q' ∙ ap (λ x. legs_by a e x) r' ∙ sym s)
 
 -- by which walks go on
 pub legs_lead : (net : List NodeDecl) → KeepsNodeRules net → (i : ℕ) (segs : List Seg) → i < length net → option_map bare_legs (slice_get net i) ≡ Some (map leg_view segs) → LeadOn segs

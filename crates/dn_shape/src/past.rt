@@ -86,7 +86,7 @@ pub(crate) fn legs_of(alloc: Global, checked: CheckedNode) -> Result<Items<Seg>,
     ensures lead { IfOk result (λ ls. LeadOn ls) }
 {
     let (net, node) = (checked.net, checked.node);
-    node_legs(alloc, net.accepts(node), net.entries(node), net.over(node))
+    node_legs(alloc, CheckedNet { net }, node)
 }
 
 /// Appends the walk, or where it leads into the node, the walk with each choice by which it goes

@@ -5,7 +5,7 @@ use Rattle.std.proofs.Math.ListN.{drop_of_length-le}
 use Rattle.std.proofs.Math.Seq.{drop-cons}
 use Rattle.std.proofs.lemmas.Bool.{and_parts, or_parts, false≢true}
 use Rattle.std.specs.List.{list_any}
-use Rattle.dn_interval.specs.Strands.{rows_give}
+use Rattle.dn_interval.specs.Strands.{rows_give, seg_gives}
 use Rattle.dn_flat.specs.Levels.{FlatsView, levels_give, reached_of}
 use Rattle.dn_flat.proofs.Shown.{shows_none}
 use Rattle.dn_view.specs.declared.part.Part.{Part}
@@ -23,10 +23,11 @@ use Rattle.dn_kind.specs.declared.unit_kind.Record.{Record}
 use Rattle.dn_kind.specs.Kind.{is_plain_unit_shape, is_within}
 use Rattle.dn_kind.specs.Tables.{Held, name_at_port, output}
 use Rattle.dn_kind.specs.Units.{unit_shape}
-use Rattle.dn_kind.proofs.Outputs.{output_small}
+use Rattle.dn_kind.proofs.Outputs.{has_pages, output_small, page_is}
 use Rattle.dn_flat.specs.Onward.{has_rows}
 use Rattle.dn_view.specs.Passes.{part_gives, part_leads, stops_of, in_slot, names_go, outputs, outputs_by, seg_name}
-use Rattle.dn_view.proofs.Pages.{pages_ascend, IsPartIn, part_in, in_part, of_part, part_names, same_test, true_all, all_true}
+use Rattle.dn_view.proofs.Pages.{pages_ascend, page_start, offset_is, last_offset, page_ends, low, high, IsPartIn, part_in, in_part, of_part, part_names, same_test, true_all, all_true}
+use Rattle.dn_walk.proofs.Cutting.{IsFrom, part_is}
 
 pub sent_name : (o : Option ℕ) (a : ℕ) (x : Name) → ◌≡◌ {A = List Name} (x ∷ []) (name_at_port o a) → (o ≡ Some x.node) × (x.addr ≡ a)
 sent_name None a x e = cc
@@ -65,18 +66,72 @@ module _ (u : UnitPart) (r : Record) (s : Seg) (slot from to : ℕ) (x : Name) (
       ap (λ n. n + (a - (s.span.lo + (from - s.base)))) k.name_is
       ∙ part_names (2 ^ u.page) s.base s.span.lo s.span.hi slot (pow_pos u.page) s.span.ordered k.begins k.ends from to k.from_is k.to_is a (r.page * 2 ^ u.page) (leb-true (s.span.lo + (from - s.base)) a b.0) (leb-true a (s.span.lo + (to - s.base)) b.1)
 
-  -- the last name of the part is at or below the last address
-  pub part_fits : x.addr + ((s.span.lo + (to - s.base)) - (s.span.lo + (from - s.base))) ≤ TOP
-  part_fits =
-      let p : IsPartIn (2 ^ u.page) s.base s.span.lo s.span.hi slot (pow_pos u.page) s.span.ordered k.begins k.ends from to = part_in (2 ^ u.page) s.base s.span.lo s.span.hi slot (pow_pos u.page) s.span.ordered k.begins k.ends from to k.from_is k.to_is in
-      let p1 = p.onward in
-      let p2 = p.order in
-      let a : ℕ = s.span.lo + (to - s.base) in
-      let f : s.span.lo + (from - s.base) ≤ a = omega arith in
-      let e = part_names (2 ^ u.page) s.base s.span.lo s.span.hi slot (pow_pos u.page) s.span.ordered k.begins k.ends from to k.from_is k.to_is a (r.page * 2 ^ u.page) f (omega arith) in
-      let small = output_small (unit_shape u) r (s.base + (a - s.span.lo)) k.plain k.within in
-      let g = k.name_is in
-      omega arith
+-- the size of a slot, as it is shifted
+pub slot_size : (u : UnitPart) → IsTrue (is_plain_unit_shape (unit_shape u)) → 1 * 2 ^ u.page % 18446744073709551616 ≡ 2 ^ u.page
+slot_size u plain = page_is u.page (has_pages (unit_shape u) plain).page
+
+-- a slot in which some name of a segment stands, with its record
+module _ (u : UnitPart) (r : Record) (s : Seg) (slot : ℕ) (plain : IsTrue (is_plain_unit_shape (unit_shape u))) (within : IsTrue (is_within (unit_shape u) r)) (begins : s.base / 2 ^ u.page ≤ slot) (ends : slot ≤ (s.base + (s.span.hi - s.span.lo)) / 2 ^ u.page) where
+  -- it begins no later than the names of the segment end, and ends no earlier than these begin
+  pub slot_begins : slot * 2 ^ u.page ≤ s.base + (s.span.hi - s.span.lo)
+  slot_begins = high (2 ^ u.page) s.base s.span.lo s.span.hi slot (pow_pos u.page) s.span.ordered begins ends
+
+  pub slot_ends : s.base ≤ slot * 2 ^ u.page + (2 ^ u.page - 1)
+  slot_ends =
+      let l : s.base < slot * 2 ^ u.page + 2 ^ u.page = low (2 ^ u.page) s.base s.span.lo s.span.hi slot (pow_pos u.page) s.span.ordered begins ends in
+      let o : 0 < 2 ^ u.page = pow_pos u.page in
+      omega (arith, l, o)
+
+  -- its last address is one, and so is the last to which it is sent
+  pub slot_within : slot * 2 ^ u.page + (2 ^ u.page - 1) ≤ TOP
+  slot_within =
+      let b = slot_begins in
+      let f = s.fits in
+      let p = (has_pages (unit_shape u) plain).page in
+      let e = page_ends u.page slot (omega (arith, p)) (omega (arith, b, f)) in
+      omega (arith, e)
+
+  pub slot_fits : (r.page * 2 ^ u.page + slot * 2 ^ u.page % 2 ^ u.page) + ((slot * 2 ^ u.page + (2 ^ u.page - 1)) - slot * 2 ^ u.page) ≤ TOP
+  slot_fits =
+      let small = output_small (unit_shape u) r (2 ^ u.page - 1) plain within in
+      let last = last_offset (2 ^ u.page) (pow_pos u.page) in
+      let first = page_start (2 ^ u.page) slot (pow_pos u.page) in
+      omega (arith, small, last, first)
+
+  -- the part of the segment that is cut where the slot begins and ends
+  module _ (t : Seg) (lo hi node base : ℕ) (lo_is : lo ≡ slot * 2 ^ u.page) (hi_is : hi ≡ slot * 2 ^ u.page + (2 ^ u.page - 1)) (base_is : base ≡ r.page * 2 ^ u.page + lo % 2 ^ u.page) (gives : (a : ℕ) (z : End) → seg_gives t a z ≡ (in_span s.span a && ((nat_le lo (s.base + (a - s.span.lo)) && nat_le (s.base + (a - s.span.lo)) hi) && (nat_eq node z.node && nat_eq (base + ((s.base + (a - s.span.lo)) - lo)) z.base)))) where
+    from_slot : IsFrom t (s.span.lo + (max s.base lo - s.base)) (s.span.lo + (min (s.base + (s.span.hi - s.span.lo)) hi - s.base)) node (base + (max s.base lo - lo))
+    from_slot =
+        let b = slot_begins in
+        let e = slot_ends in
+        let f = slot_within in
+        part_is s t (record { lo = lo; hi = hi; ordered = omega (arith, lo_is, hi_is); within = omega (arith, hi_is, f) }) (record { node = node; base = base }) (omega (arith, lo_is, b)) (omega (arith, hi_is, e)) gives
+
+    cut_name : t.base ≡ r.page * 2 ^ u.page + max s.base lo % 2 ^ u.page
+    cut_name =
+        let p : IsPartIn (2 ^ u.page) s.base s.span.lo s.span.hi slot (pow_pos u.page) s.span.ordered begins ends (max s.base lo) (min (s.base + (s.span.hi - s.span.lo)) hi) = part_in (2 ^ u.page) s.base s.span.lo s.span.hi slot (pow_pos u.page) s.span.ordered begins ends (max s.base lo) (min (s.base + (s.span.hi - s.span.lo)) hi) (ap (max s.base) lo_is) (ap (min (s.base + (s.span.hi - s.span.lo))) hi_is) in
+        let p1 = p.order in
+        let p2 = p.first in
+        let p3 = p.last in
+        let o = offset_is (2 ^ u.page) (max s.base lo) slot (pow_pos u.page) p2 (omega (arith, p1, p3)) in
+        let z = page_start (2 ^ u.page) slot (pow_pos u.page) in
+        let y : lo % 2 ^ u.page ≡ slot * 2 ^ u.page % 2 ^ u.page = ap (λ n. n % 2 ^ u.page) lo_is in
+        let is = from_slot.base_is in
+        omega (arith, is, base_is, y, z, o, p2, lo_is)
+
+    cut_slot : IsCut u r s slot (max s.base lo) (min (s.base + (s.span.hi - s.span.lo)) hi) (record { node = t.node; addr = t.base })
+    cut_slot = record { plain = plain; within = within; begins = begins; ends = ends; from_is = ap (max s.base) lo_is; to_is = ap (min (s.base + (s.span.hi - s.span.lo))) hi_is; name_is = cut_name }
+
+    pub cut_node : t.node ≡ node
+    cut_node = from_slot.node_is
+
+    pub cut_has : (a : ℕ) → in_span t.span a ≡ in_slot u.page slot s a
+    cut_has a = (λ i. nat_le (from_slot.lo_is i) a && nat_le a (from_slot.hi_is i)) ∙ in_part_is u r s slot (max s.base lo) (min (s.base + (s.span.hi - s.span.lo)) hi) (record { node = t.node; addr = t.base }) cut_slot a
+
+    pub cut_goes : (a : ℕ) → IsTrue (in_span t.span a) → t.base + (a - t.span.lo) ≡ r.page * 2 ^ u.page + (s.base + (a - s.span.lo)) % 2 ^ u.page
+    cut_goes a h =
+        ap (λ n. t.base + (a - n)) from_slot.lo_is
+        ∙ part_name u r s slot (max s.base lo) (min (s.base + (s.span.hi - s.span.lo)) hi) (record { node = t.node; addr = t.base }) cut_slot a ((λ i. nat_le (sym from_slot.lo_is i) a && nat_le a (sym from_slot.hi_is i)) ∙ h)
 
 -- what the name of an address in a slot with this record, or with none, goes on to
 pub slot_goes : (net : List NodeDecl) (h : Held) (next : ℕ → ℕ → End → Bool) (s : Seg) (slot : ℕ) (u : UnitPart) (r : Record) (port a at : ℕ) (z : End) → unit_at net s.node ≡ Some u → h s.node slot ≡ Some r → slice_get u.ports r.port ≡ Some port → IsTrue (in_slot u.page slot s a) → at ≡ r.page * 2 ^ u.page + (s.base + (a - s.span.lo)) % 2 ^ u.page → names_go next (outputs net h (seg_name s a)) z ≡ next port at z

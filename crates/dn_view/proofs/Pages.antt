@@ -1,6 +1,6 @@
 -- Addresses, and the pages in which they lie.
-use Rattle.std.proofs.Common.{◌≡◌, refl, Bool, true, false, ◌&&◌, IsTrue, ℕ, ◌+◌, ◌-◌, ◌*◌, ◌/◌, ◌%◌, ◌^◌, ◌<◌, ◌≤◌, max, min, ap, ◌∙◌, subst, arith}
-use Rattle.std.proofs.Math.Nat.{le-div_iff_mul-le, div-lt_iff_lt-mul, div-add-mod', mod-lt, add-mul, lt_of_mul-lt-mul_right, pow-le-pow_right}
+use Rattle.std.proofs.Common.{◌≡◌, refl, sym, pow-add, Bool, true, false, ◌&&◌, IsTrue, ℕ, ◌+◌, ◌-◌, ◌*◌, ◌/◌, ◌%◌, ◌^◌, ◌<◌, ◌≤◌, max, min, ap, ◌∙◌, subst, arith}
+use Rattle.std.proofs.Math.Nat.{le-div_iff_mul-le, div-lt_iff_lt-mul, div-add-mod', mod-lt, add-mul, lt_of_mul-lt-mul_right, mul-le-mul_right, pow-le-pow_right}
 use Rattle.std.proofs.lemmas.Bool.{false≢true}
 use Rattle.std.proofs.lemmas.Nat.{div-mul-add}
 
@@ -64,6 +64,38 @@ output_of_hop w x y i pos agree =
     let at : (x + i) / w * w ≡ x / w * w + d.0 * w = d.2 in
     omega arith
 
+-- a page begins at an address on a page's edge
+pub page_start : (w page : ℕ) → 0 < w → page * w % w ≡ 0
+page_start w page pos =
+    let f : page * w / w ≡ page = page_is w (page * w) page pos (omega arith) (omega arith) in
+    let r = (in_page w (page * w) pos).rest in
+    let s : page * w / w * w ≡ page * w = ap (λ n. n * w) f in
+    omega (arith, r, s)
+
+-- what an address is on in its page
+pub offset_is : (w x page : ℕ) → 0 < w → page * w ≤ x → x < page * w + w → x % w ≡ x - page * w
+offset_is w x page pos from to =
+    let f : x / w ≡ page = page_is w x page pos from to in
+    let r = (in_page w x pos).rest in
+    let s : x / w * w ≡ page * w = ap (λ n. n * w) f in
+    omega (arith, r, s)
+
+-- the last offset in a page
+pub last_offset : (w : ℕ) → 0 < w → (w - 1) % w ≡ w - 1
+last_offset w pos = let e = offset_is w (w - 1) 0 pos (omega arith) (omega arith) in omega (arith, e)
+
+-- a page of a power of 2 that begins at or below the last address ends there or below
+pub page_ends : (p page : ℕ) → p ≤ 56 → page * 2 ^ p ≤ 72057594037927935 → page * 2 ^ p + (2 ^ p - 1) ≤ 72057594037927935
+page_ends p page l h =
+    let all : 2 ^ (56 - p + p) ≡ 2 ^ (56 - p) * 2 ^ p = pow-add 2 (56 - p) p in
+    let sum : 56 - p + p ≡ 56 = omega arith in
+    let whole : 2 ^ 56 ≡ 2 ^ (56 - p) * 2 ^ p = ap (λ n. 2 ^ n) (sym sum) ∙ all in
+    let below : page * 2 ^ p < 2 ^ (56 - p) * 2 ^ p = subst (λ n. page * 2 ^ p < n) whole (omega (arith, h)) in
+    let few : page < 2 ^ (56 - p) = lt_of_mul-lt-mul_right (2 ^ p) below in
+    let more : (page + 1) * 2 ^ p ≤ 2 ^ (56 - p) * 2 ^ p = mul-le-mul_right (2 ^ p) (omega (arith, few)) in
+    let step : (page + 1) * 2 ^ p ≡ page * 2 ^ p + 1 * 2 ^ p = add-mul page 1 (2 ^ p) in
+    omega (arith, more, step, whole)
+
 -- the slots of a hop end within the unit
 pub last_slot_there : (w x size slots : ℕ) → 0 < w → 1 ≤ size → x + size ≤ slots * w → (x + size - 1) / w + 1 ≤ slots
 last_slot_there w x size slots pos some within =
@@ -76,7 +108,7 @@ max_below a b n l m = grind arith
 -- the part of a stretch of addresses that lies in a page, in numbers: what begins at `base` for an address `lo`, and goes
 -- on to an address `hi`
 module _ (w base lo hi page : ℕ) (pos : 0 < w) (ordered : lo ≤ hi) (begins : base / w ≤ page) (ends : page ≤ (base + (hi - lo)) / w) where
-  low : base < page * w + w
+  pub low : base < page * w + w
   low =
       let b : InPage w base (base / w) = in_page w base pos in
       let d = pages_between w (base / w) page begins in
@@ -84,7 +116,7 @@ module _ (w base lo hi page : ℕ) (pos : 0 < w) (ordered : lo ≤ hi) (begins :
       let at = d.2 in
       omega arith
 
-  high : page * w ≤ base + (hi - lo)
+  pub high : page * w ≤ base + (hi - lo)
   high = (le-div_iff_mul-le pos).0 ends
 
   -- its first address and its last

@@ -16,7 +16,8 @@ use crate::range::{held_end, slot_range};
 use crate::records::record_for;
 use dn_base::OutOfMemory;
 use dn_flat::flats::Flats;
-use dn_interval::{Rows, Seg, Span};
+use dn_interval::onward::cut;
+use dn_interval::{End, Rows, Seg, Span};
 use dn_kind::output::output_name;
 use dn_kind::unit_kind::Record;
 use dn_net::checked::CheckedNet;
@@ -131,7 +132,8 @@ pub(crate) fn push_sent(
     }
 }
 
-/// The part of a segment whose names stand in a slot, with the names to which its record sends them.
+/// The part of a segment whose names stand in a slot, with the names to which its record sends them: that of the slot's
+/// first address is told by the record.
 fn sent_part(unit: &Unit, record: Record, seg: Seg, slot: u64) -> Seg
     requires plain { IsTrue (is_plain_unit_shape (unit_shape unit.now)) }
     requires within { IsTrue (is_within (unit_shape unit.now) «record») }
@@ -144,17 +146,14 @@ fn sent_part(unit: &Unit, record: Record, seg: Seg, slot: u64) -> Seg
         ≡ «record».page * 2 ^ unit.now.page + (seg.base + (a - seg.span.lo)) % 2 ^ unit.now.page }
 {
     let size = 1 << unit.page;
-    let first = seg.base.max(slot * size);
-    let last = (seg.base + (seg.span.hi - seg.span.lo)).min(slot * size + (size - 1));
-    let name = output_name(unit, record, first);
-    Seg {
-        span: Span {
-            lo: seg.span.lo + (first - seg.base),
-            hi: seg.span.lo + (last - seg.base),
-        },
+    let lo = slot * size;
+    let hi = lo + (size - 1);
+    let name = output_name(unit, record, lo);
+    let end = End {
         node: name.node,
         base: name.addr,
-    }
+    };
+    cut(seg, Span { lo, hi }, end)
 }
 
 /// The unit that a node is. `None` exactly where it is none, or is not there.

@@ -15,7 +15,7 @@ use Rattle.dn_net.specs.WalkRules.{Broken, is_wide, walk_limit}
 use Rattle.dn_walk.specs.declared.walks.WalkRow.{WalkRow}
 use Rattle.dn_walk.specs.Rows.{BareWalk, row_view}
 use Rattle.dn_walk.specs.Legs.{Leg, AreLegs, IsLegOf, leg_view}
-use Rattle.dn_walk.specs.Levels.{bare_last_out, bare_meets, bare_onto, bare_extensions_by, bare_extensions, bare_still_walk, bare_still_walks, bare_level, bare_walks, bare_levels, bare_before, IsRowOf}
+use Rattle.dn_walk.specs.Levels.{bare_meets, bare_onto, bare_extensions_by, bare_extensions, bare_still_walk, bare_still_walks, bare_level, bare_walks, bare_levels, bare_before, IsRowOf}
 use Rattle.dn_base.proofs.Members.{map_member, member_map, member_get_or, member_of_all}
 use Rattle.dn_net.proofs.Members.{member_filter, member_flat_map}
 use Rattle.dn_walk.proofs.Meets.{meets_parts, max_is, min_is}

@@ -1,18 +1,17 @@
--- The orders in which legs and walks are sorted.
+-- The orders in which map blocks and walks are sorted.
 use Rattle.std.proofs.Common.{◌≡◌, ℕ, ◌<◌, ◌≤◌, ◌⊎◌, inl, inr, Bool, true, false, cond, ◌&&◌, ◌||◌, nat_lt, ◌==◌, List, map, refl, sym, ap, ◌∙◌, subst, arith, ltb-true, eqb-true}
 use Rattle.std.proofs.lemmas.Bool.{ltb-false, le-ltb, eq-eqb}
 use Rattle.std.specs.Cmp.{IsStrictWeakOrder}
 use Rattle.std.specs.declared.cmp.Ordering.{Ordering}
 use Rattle.std.specs.declared.cmp.Ordering.TheVariants.{Less, Equal, Greater}
 use Rattle.std.specs.Ordering.{nat_cmp, ordering_then, is_lt}
-use Rattle.std.specs.List.Sorted.{IsSortedBy, IsStableBy}
+use Rattle.std.specs.List.Sorted.{IsSortedBy, IsStableBy, IsStableByKey}
 use Rattle.std.proofs.lemmas.List.Sorted.{IsStrictWeakOrder-by_number}
 use Rattle.dn_base.proofs.Booleans.{and-false}
-use Rattle.dn_interval.specs.declared.row.Seg.{Seg}
+use Rattle.dn_net.specs.declared.entries.Place.{Place}
 use Rattle.dn_net.specs.Walks.{in_order}
 use Rattle.dn_walk.specs.declared.walks.WalkRow.{WalkRow}
 use Rattle.dn_walk.specs.Rows.{BareWalk, row_view}
-use Rattle.dn_walk.specs.Legs.{leg_before, leg_view}
 use Rattle.dn_walk.specs.Levels.{bare_before}
 use Rattle.dn_walk.proofs.Sorting.{sorted_is, map_in_order}
 
@@ -110,12 +109,9 @@ by_number a b = by (nat_lt a b) (a == b)
     by false true = refl
     by false false = refl
 
-same_leg_order : ◌≡◌ {A = Seg → Seg → Bool} (λ s t. is_lt (nat_cmp s.span.lo t.span.lo)) (λ s t. leg_before (leg_view s) (leg_view t))
-same_leg_order = λ i s t. by_number s.span.lo t.span.lo i
+same_place_order : ◌≡◌ {A = Place → Place → Bool} (λ p q. is_lt (nat_cmp p.block.lo q.block.lo)) (λ p q. nat_lt p.block.lo q.block.lo)
+same_place_order = λ i p q. by_number p.block.lo q.block.lo i
 
--- legs after a stable sort by their first addresses
-pub legs_in_order : (xs ys : List Seg) → IsSortedBy (λ s t. is_lt (nat_cmp s.span.lo t.span.lo)) ys → IsStableBy (λ s t. is_lt (nat_cmp s.span.lo t.span.lo)) xs ys → map leg_view ys ≡ in_order leg_before (map leg_view xs)
-legs_in_order xs ys sorted stable =
-    let lt : Seg → Seg → Bool = λ s t. leg_before (leg_view s) (leg_view t) in
-    ap (map leg_view) (sorted_is lt (IsStrictWeakOrder-by_number (λ (s : Seg). s.span.lo)) xs ys (subst (λ f. IsSortedBy f ys) same_leg_order sorted) (subst (λ f. IsStableBy f xs ys) same_leg_order stable))
-    ∙ map_in_order leg_view lt leg_before (λ s t. refl) xs
+-- places after a stable sort by the first addresses of their blocks: those with one first address stand as they stood
+pub places_stay : (ps order : List Place) → IsStableByKey (λ p. p.block.lo) nat_cmp ps order → IsStableBy (λ p q. nat_lt p.block.lo q.block.lo) ps order
+places_stay ps order stable = subst (λ f. IsStableBy f ps order) same_place_order stable

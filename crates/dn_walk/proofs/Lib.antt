@@ -8,6 +8,7 @@ pub mod Keys
 pub mod Least
 pub mod Lows
 pub mod Meets
+pub mod Merged
 pub mod Nexts
 pub mod Nodes
 pub mod Onward

@@ -1,29 +1,38 @@
 -- The legs of a node of a checked net, without the choices.
-use Rattle.std.proofs.Common.{◌≡◌, ℕ, zero, suc, ◌+◌, ◌-◌, ◌<◌, ◌≤◌, Bool, true, false, not, ◌||◌, nat_le, nat_lt, List, [], ◌∷◌, ◌++◌, map, length, get_or, take, slice_get, Option, Some, None, option_map, refl, sym, ap, ◌∙◌, subst, arith, IsTrue}
+use Rattle.std.proofs.Common.{◌≡◌, ℕ, zero, suc, ◌+◌, ◌-◌, ◌<◌, ◌≤◌, Bool, true, false, not, ◌&&◌, ◌||◌, nat_le, nat_lt, List, [], ◌∷◌, ◌++◌, map, length, get_or, take, slice_get, Option, Some, None, option_map, refl, sym, ap, ◌∙◌, subst, arith, le-leb, IsTrue}
 use Rattle.std.specs.List.{All, list_all}
+use Rattle.std.specs.List.Sorted.{IsPermutation}
 use Rattle.std.proofs.lemmas.List.{take_more, map-append, get_or-map}
-use Rattle.std.proofs.lemmas.Option.{slice_get-get_or}
+use Rattle.std.proofs.lemmas.List.Sorted.{IsPermutation-map}
+use Rattle.std.proofs.lemmas.Option.{get_or_from_slice_get, slice_get-get_or}
+use Rattle.dn_base.proofs.Booleans.{and_parts}
+use Rattle.dn_base.proofs.Lists.{item_there}
+use Rattle.dn_base.proofs.Members.{map_member, member_get_or}
+use Rattle.dn_net.specs.declared.entries.Place.{Place}
 use Rattle.dn_net.specs.declared.node.Block.{Block}
 use Rattle.dn_net.specs.declared.node.Dest.{Dest}
 use Rattle.dn_net.specs.declared.node.Entry.{Entry}
 use Rattle.dn_net.specs.declared.node.NodeDecl.{NodeDecl}
 use Rattle.dn_net.specs.Chain.{Member}
-use Rattle.dn_net.specs.Decode.{top, in_some_block, within, refers_within}
+use Rattle.dn_net.specs.Decode.{top, in_some_block, is_accepted_at, refers_within}
+use Rattle.dn_net.specs.Order.{places_from}
 use Rattle.dn_net.specs.Rules.{block_in_range, entry_in_range, KeepsRules, KeepsNodeRules}
 use Rattle.dn_net.specs.Walks.{Leg as NetLeg, in_order, dest_legs, entry_legs, gap_legs, gaps, legs}
-use Rattle.dn_net.proofs.Kept.{kept_at}
-use Rattle.dn_net.proofs.Places.{length-map}
-use Rattle.dn_net.proofs.Steps.{node_at}
-use Rattle.dn_interval.specs.declared.span.Span.{Span}
-use Rattle.dn_interval.specs.Spans.{has, in_span, AreMaximal}
-use Rattle.dn_walk.specs.Legs.{Leg, bare_leg, bare_legs, dest_leg, bare_entry_legs, gap_leg, bare_gap_legs, leg_before, legs_by, gaps_by, span_view, IsLegOf, AreLegs}
 use Rattle.dn_net.proofs.Apart.{node_apart}
-use Rattle.dn_walk.proofs.Holes.{spans_are_left}
+use Rattle.dn_net.proofs.Gaps.{in_append}
+use Rattle.dn_net.proofs.Kept.{kept_at}
+use Rattle.dn_net.proofs.Latest.{place_blocks}
 use Rattle.dn_net.proofs.Legs.{leads_of_leg, leads_in_range, leads_within}
-use Rattle.dn_base.proofs.Members.{map_member, member_get_or}
-use Rattle.dn_base.proofs.Booleans.{and_parts}
+use Rattle.dn_net.proofs.Members.{some_same}
 use Rattle.dn_net.proofs.Order.{legs_rise}
 use Rattle.dn_net.proofs.Pairs.{pairs_map, pairs_more, pairs_rise}
+use Rattle.dn_net.proofs.Places.{length-map}
+use Rattle.dn_net.proofs.Steps.{node_at}
+use Rattle.dn_net.proofs.Stretch.{moved_same}
+use Rattle.dn_interval.specs.declared.span.Span.{Span}
+use Rattle.dn_interval.specs.Spans.{has, AreMaximal}
+use Rattle.dn_walk.specs.Legs.{Leg, bare_leg, bare_legs, dest_leg, bare_entry_legs, gap_leg, bare_gap_legs, leg_before, legs_by, gaps_by, span_view, IsLegOf, AreLegs}
+use Rattle.dn_walk.proofs.Holes.{spans_are_left}
 use Rattle.dn_walk.proofs.Sorting.{map_in_order}
 
 bare_dests : (i j : ℕ) (b : Block) (ds : List Dest) → map bare_leg (dest_legs i j b ds) ≡ map (dest_leg b) ds
@@ -47,35 +56,23 @@ legs_are n =
     map_in_order bare_leg (λ l m. nat_lt l.block.lo m.block.lo) leg_before (λ l m. refl) (entry_legs 0 n.entries ++ gap_legs n.over (gaps n))
     ∙ ap (in_order leg_before) (map-append bare_leg (entry_legs 0 n.entries) (gap_legs n.over (gaps n)) ∙ ap (λ l. l ++ map bare_leg (gap_legs n.over (gaps n))) (bare_entries 0 n.entries) ∙ ap (λ l. bare_entry_legs n.entries ++ l) (bare_gaps n.over (gaps n)))
 
--- the legs of a node, from its parts as they are read
-pub legs_at : (net : List NodeDecl) (i : ℕ) (accepts : List Block) (entries : List Entry) (over : Option ℕ) → i < length net → option_map (λ d. d.accepts) (slice_get net i) ≡ Some accepts → option_map (λ d. d.entries) (slice_get net i) ≡ Some entries → option_map (λ d. d.over) (slice_get net i) ≡ Some over → map bare_legs (take (i + 1) net) ≡ map bare_legs (take i net) ++ legs_by accepts entries over ∷ []
-legs_at net i accepts entries over l a e o = by (slice_get net i) refl a e o
-  where
-    by : (u : Option NodeDecl) → slice_get net i ≡ u → option_map (λ d. d.accepts) u ≡ Some accepts → option_map (λ d. d.entries) u ≡ Some entries → option_map (λ d. d.over) u ≡ Some over → map bare_legs (take (i + 1) net) ≡ map bare_legs (take i net) ++ legs_by accepts entries over ∷ []
-    by None u a e o = cc
-    by (Some n) u a e o =
-        let a' : n.accepts ≡ accepts = cc in
-        let e' : n.entries ≡ entries = cc in
-        let o' : n.over ≡ over = cc in
-        let s : ◌≡◌ {A = Option NodeDecl} (Some (get_or net i n)) (Some n) = sym (slice_get-get_or net i n l) ∙ u in
-        let g : get_or net i n ≡ n = cc in
-        ap (map bare_legs) (take_more net i n l ∙ ap (λ x. take i net ++ x ∷ []) g)
-        ∙ map-append bare_legs (take i net) (n ∷ [])
-        ∙ ap (λ x. map bare_legs (take i net) ++ x ∷ []) (legs_are n ∙ ap (λ x. legs_by x n.entries n.over) a' ∙ ap (λ x. legs_by accepts x n.over) e' ∙ ap (λ x. legs_by accepts entries x) o')
+-- the legs of one node more
+pub legs_at : (net : List NodeDecl) (i : ℕ) (ls : List Leg) → i < length net → option_map bare_legs (slice_get net i) ≡ Some ls → map bare_legs (take (i + 1) net) ≡ map bare_legs (take i net) ++ ls ∷ []
+legs_at net i ls l e =
+    let n = item_there net i l in
+    let s : ◌≡◌ {A = Option (List Leg)} (Some (bare_legs n.0)) (Some ls) = ap (option_map bare_legs) (sym n.1) ∙ e in
+    let t : bare_legs n.0 ≡ ls = some_same (bare_legs n.0) ls s in
+    ap (map bare_legs) (take_more net i n.0 l ∙ ap (λ x. take i net ++ x ∷ []) (get_or_from_slice_get net i n.0 n.0 n.1))
+    ∙ map-append bare_legs (take i net) (n.0 ∷ [])
+    ∙ ap (λ x. map bare_legs (take i net) ++ x ∷ []) t
 
--- what holds of a part of each node that keeps the rules holds of the part as it is read
-part_keeps : {Y : Type 0} (P : Y → Type 0) (part : NodeDecl → Y) → ((n : NodeDecl) → KeepsRules n → P (part n)) → (net : List NodeDecl) (i : ℕ) (y : Y) → All KeepsRules net → option_map part (slice_get net i) ≡ Some y → P y
-part_keeps P part holds net i y h a = by (slice_get net i) refl a
-  where
-    by : (u : Option NodeDecl) → slice_get net i ≡ u → option_map part u ≡ Some y → P y
-    by None u a = cc
-    by (Some n) u a = let same : part n ≡ y = cc in subst P same (holds n (kept_at net i h n u))
+-- the legs of a node, from those of its entries and of its gaps in order
+pub legs_of_parts : (n : NodeDecl) (entries : List Entry) (made gaps : List Leg) → n.entries ≡ entries → bare_gap_legs n.over (gaps_by n.accepts n.entries) ≡ gaps → made ≡ in_order leg_before (bare_entry_legs entries ++ gaps) → bare_legs n ≡ made
+legs_of_parts n entries made gaps e g m = legs_are n ∙ (λ i. in_order leg_before (bare_entry_legs (e i) ++ g i)) ∙ sym m
 
-pub accepts_in_range : (net : List NodeDecl) (i : ℕ) (accepts : List Block) → All KeepsRules net → option_map (λ d. d.accepts) (slice_get net i) ≡ Some accepts → IsTrue (list_all block_in_range accepts)
-accepts_in_range = part_keeps (λ l. IsTrue (list_all block_in_range l)) (λ d. d.accepts) (λ n k. (and_parts (list_all block_in_range n.accepts) (list_all entry_in_range n.entries) k.in_range).0)
-
-pub entries_in_range : (net : List NodeDecl) (i : ℕ) (entries : List Entry) → All KeepsRules net → option_map (λ d. d.entries) (slice_get net i) ≡ Some entries → IsTrue (list_all entry_in_range entries)
-entries_in_range = part_keeps (λ l. IsTrue (list_all entry_in_range l)) (λ d. d.entries) (λ n k. (and_parts (list_all block_in_range n.accepts) (list_all entry_in_range n.entries) k.in_range).1)
+-- the blocks and the entries of a node that keeps the rules
+pub node_in_range : (net : List NodeDecl) → All KeepsRules net → (i : ℕ) (n : NodeDecl) → slice_get net i ≡ Some n → IsTrue (list_all block_in_range n.accepts) × IsTrue (list_all entry_in_range n.entries)
+node_in_range net each i n at = and_parts (list_all block_in_range n.accepts) (list_all entry_in_range n.entries) (kept_at net i each n at).in_range
 
 -- they lead on in range, and neither their first nor their last addresses descend
 pub legs_of_node : (net : List NodeDecl) → KeepsNodeRules net → (i : ℕ) (n : NodeDecl) → slice_get net i ≡ Some n → AreLegs (length net) (bare_legs n)
@@ -123,28 +120,6 @@ all_legs net rules = λ k d l.
 pub all_legs_of : (net : List NodeDecl) → KeepsNodeRules net → (xs : List (List Leg)) → xs ≡ map bare_legs net → All (AreLegs (length xs)) xs
 all_legs_of net rules xs e = subst (λ x. All (AreLegs (length x)) x) (sym e) (subst (λ n. All (AreLegs n) (map bare_legs net)) (sym (length-map bare_legs net)) (all_legs net rules))
 
--- the gaps between blocks, from the spans that they leave out
-pub any_blocks : (a : ℕ) (spans : List Span) → has spans a ≡ in_some_block a (map span_view spans)
-any_blocks a [] = refl
-any_blocks a (s ∷ spans) = ap (λ b. in_span s a || b) (any_blocks a spans)
-
-swapped : (a : ℕ) (xs ys : List Block) → in_some_block a (xs ++ ys) ≡ in_some_block a (ys ++ xs)
-swapped a xs ys = split xs ys ∙ turned (in_some_block a xs) (in_some_block a ys) ∙ sym (split ys xs)
-  where
-    assoc : (p q r : Bool) → (p || (q || r)) ≡ ((p || q) || r)
-    assoc true q r = refl
-    assoc false q r = refl
-
-    split : (xs ys : List Block) → in_some_block a (xs ++ ys) ≡ (in_some_block a xs || in_some_block a ys)
-    split [] ys = refl
-    split (x ∷ xs) ys = ap (λ b. within a x || b) (split xs ys) ∙ assoc (within a x) (in_some_block a xs) (in_some_block a ys)
-
-    turned : (p q : Bool) → (p || q) ≡ (q || p)
-    turned true true = refl
-    turned true false = refl
-    turned false true = refl
-    turned false false = refl
-
 blocks_in_range : (entries : List Entry) (accepts : List Block) → IsTrue (list_all entry_in_range entries) → IsTrue (list_all block_in_range accepts) → IsTrue (list_all block_in_range (map (λ e. e.block) entries ++ accepts))
 blocks_in_range [] accepts e a = a
 blocks_in_range (x ∷ xs) accepts e a =
@@ -152,6 +127,30 @@ blocks_in_range (x ∷ xs) accepts e a =
     let b = (and_parts (block_in_range x.block) (list_all (λ d. nat_le (d.addr + (x.block.hi - x.block.lo)) top) x.dests) r.0).0 in
     rw b (blocks_in_range xs accepts r.1 a)
 
-pub gaps_are : (accepts : List Block) (entries : List Entry) (blocks covered rest : List Span) → IsTrue (list_all block_in_range accepts) → IsTrue (list_all entry_in_range entries) → map span_view blocks ≡ accepts ++ map (λ e. e.block) entries → ((a : ℕ) → has covered a ≡ has blocks a) → AreMaximal rest → ((a : ℕ) → a ≤ top → has rest a ≡ not (has covered a)) → map span_view rest ≡ gaps_by accepts entries
-gaps_are accepts entries blocks covered rest ar er is cov maximal same =
-    spans_are_left (map (λ e. e.block) entries ++ accepts) (blocks_in_range entries accepts er ar) rest maximal (λ a l. same a l ∙ ap not (cov a ∙ any_blocks a blocks ∙ ap (in_some_block a) is ∙ swapped a accepts (map (λ e. e.block) entries)))
+neither : (p q : Bool) → (not p && not q) ≡ not (q || p)
+neither true true = refl
+neither true false = refl
+neither false true = refl
+neither false false = refl
+
+-- the gaps between the blocks of a node are what neither its accept blocks nor its map blocks have
+module _ (n : NodeDecl) (range : IsTrue (list_all block_in_range n.accepts) × IsTrue (list_all entry_in_range n.entries)) (order : List Place) (every : IsPermutation (places_from 0 n.entries) order) (accepted mapped unaccepted unmapped : List Span) (acc : (a : ℕ) → has accepted a ≡ is_accepted_at a (Some n)) (maps : (a : ℕ) → has mapped a ≡ in_some_block a (map (λ p. p.block) order)) (unacc : (a : ℕ) → a ≤ top → has unaccepted a ≡ not (has accepted a)) (unmap : (a : ℕ) → a ≤ top → has unmapped a ≡ not (has mapped a)) where
+  accepts_have : (a : ℕ) → a ≤ top → has accepted a ≡ in_some_block a n.accepts
+  accepts_have a l = acc a ∙ ap (λ t. t && in_some_block a n.accepts) (le-leb a top l)
+
+  entries_have : (a : ℕ) → has mapped a ≡ in_some_block a (map (λ e. e.block) n.entries)
+  entries_have a =
+      maps a
+      ∙ moved_same (map (λ (p : Place). p.block) (places_from 0 n.entries)) (map (λ (p : Place). p.block) order) (IsPermutation-map (λ (p : Place). p.block) (places_from 0 n.entries) order every) a
+      ∙ ap (in_some_block a) (place_blocks 0 n.entries)
+
+  free : (met : List Span) (a : ℕ) → a ≤ top → has met a ≡ (has unaccepted a && has unmapped a) → has met a ≡ not (in_some_block a (map (λ e. e.block) n.entries ++ n.accepts))
+  free met a l same =
+      same
+      ∙ (λ i. unacc a l i && unmap a l i)
+      ∙ (λ i. not (accepts_have a l i) && not (entries_have a i))
+      ∙ neither (in_some_block a n.accepts) (in_some_block a (map (λ e. e.block) n.entries))
+      ∙ ap not (sym (in_append a (map (λ e. e.block) n.entries) n.accepts))
+
+  pub gaps_are : (met : List Span) → ((a : ℕ) → has met a ≡ (has unaccepted a && has unmapped a)) → AreMaximal met → map span_view met ≡ gaps_by n.accepts n.entries
+  gaps_are met same maximal = spans_are_left (map (λ e. e.block) n.entries ++ n.accepts) (blocks_in_range n.entries n.accepts range.1 range.0) met maximal (λ a l. free met a l (same a))

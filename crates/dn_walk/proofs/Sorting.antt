@@ -9,7 +9,7 @@ use Rattle.dn_net.specs.Walks.{put_in, in_order}
 use Rattle.dn_net.proofs.Pairs.{Pairwise}
 
 -- no item comes before one that stands in front of it
-abbrev Rises : {X : Type 0} → (X → X → Bool) → List X → Type 0
+abbrev pub Rises : {X : Type 0} → (X → X → Bool) → List X → Type 0
 Rises lt [] = Unit {0}
 Rises lt (x ∷ xs) = Each (λ y. lt y x ≡ false) xs × Rises lt xs
 
@@ -137,9 +137,13 @@ rises_from {X} lt o (x ∷ (y ∷ ys)) s =
         let e : suc k + 1 ≡ suc (k + 1) = omega arith in
         subst (λ n. lt (get_or (x ∷ (y ∷ ys)) n d) (get_or (y ∷ ys) k d) ≡ false) e (s (suc k) d (omega arith) (omega arith))
 
+-- a list in which no item comes before an earlier one, and items that tie stand as they stood, is the list in order
+pub rising_is : {X : Type 0} (lt : X → X → Bool) → IsStrictWeakOrder lt → (xs ys : List X) → Rises lt ys → ((t : X) → filter (ties lt t) ys ≡ filter (ties lt t) xs) → ys ≡ in_order lt xs
+rising_is lt o xs ys r e = one_rising lt o ys (in_order lt xs) r (rises_in_order lt o xs) (λ t. e t ∙ sym (stable_in_order lt o t xs))
+
 -- what a stable sort gives
 pub sorted_is : {X : Type 0} (lt : X → X → Bool) → IsStrictWeakOrder lt → (xs ys : List X) → IsSortedBy lt ys → IsStableBy lt xs ys → ys ≡ in_order lt xs
-sorted_is lt o xs ys s t = one_rising lt o ys (in_order lt xs) (rises_from lt o ys s) (rises_in_order lt o xs) (λ x. t x ∙ sym (stable_in_order lt o x xs))
+sorted_is lt o xs ys s t = rising_is lt o xs ys (rises_from lt o ys s) t
 
 map_put : {X Y : Type 0} (f : X → Y) (lt : X → X → Bool) (lt' : Y → Y → Bool) → ((x y : X) → lt x y ≡ lt' (f x) (f y)) → (x : X) (ys : List X) → map f (put_in lt x ys) ≡ put_in lt' (f x) (map f ys)
 map_put f lt lt' e x [] = refl

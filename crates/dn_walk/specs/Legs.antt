@@ -1,7 +1,8 @@
 -- The legs of nodes without their choices.
-use Rattle.std.specs.Prelude.{ℕ, ◌+◌, ◌-◌, ◌<◌, ◌≤◌, Bool, nat_lt, List, [], ◌∷◌, ◌++◌, map, Option, Some, None}
+use Rattle.std.specs.Prelude.{ℕ, ◌+◌, ◌-◌, ◌<◌, ◌≤◌, Bool, nat_lt, List, [], ◌∷◌, ◌++◌, map, slice_get, Option, Some, None}
 use Rattle.std.specs.List.{All, flat_map}
 use Rattle.std.specs.List.Sorted.{IsNonDecreasingBy}
+use Rattle.dn_net.specs.declared.entries.Place.{Place}
 use Rattle.dn_net.specs.declared.node.Block.{Block}
 use Rattle.dn_net.specs.declared.node.Dest.{Dest}
 use Rattle.dn_net.specs.declared.node.Entry.{Entry}
@@ -41,6 +42,15 @@ dest_leg b d = record { lo = b.lo; hi = b.hi; node = d.node; addr = d.addr }
 -- the legs of entries, without their choices
 abbrev pub bare_entry_legs : List Entry → List Leg
 bare_entry_legs entries = flat_map (λ e. map (dest_leg e.block) e.dests) entries
+
+-- the destinations of an entry, where there is one
+abbrev pub dests_of : Option Entry → List Dest
+dests_of None = []
+dests_of (Some e) = e.dests
+
+-- the legs of a map block with the place of its entry, without their choices
+abbrev pub place_legs : List Entry → Place → List Leg
+place_legs entries p = map (dest_leg p.block) (dests_of (slice_get entries p.entry))
 
 -- the leg of a gap, to the same addresses of a node
 abbrev pub gap_leg : ℕ → Block → Leg

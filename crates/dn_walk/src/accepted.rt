@@ -5,7 +5,7 @@ ghost use Rattle.dn_interval.specs.Terms.{has};
 ghost use Rattle.dn_net.specs.Terms.{KeepsNodeRules, is_accepted_at};
 ghost use Rattle.dn_walk.specs.Terms.{AreAccepted};
 
-use crate::spans::{accept_spans, covered_set};
+use crate::spans::covered_set;
 use dn_base::OutOfMemory;
 use dn_interval::SpanSet;
 use dn_net::checked::CheckedNet;
@@ -31,5 +31,5 @@ pub fn accepted_set(alloc: Global, net: &Net, node: u16) -> Result<SpanSet, OutO
     requires there { node < length net.now }
     ensures { IfOk result (λ set. (a : ℕ) → has set a ≡ is_accepted_at a (slice_get net.now node)) }
 {
-    covered_set(alloc, accept_spans(alloc, net.accepts(node))?)
+    covered_set(alloc, net.accept_rows(node))
 }

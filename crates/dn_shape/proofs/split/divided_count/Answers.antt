@@ -1,5 +1,5 @@
 -- One node more.
-use Rattle.std.proofs.Common.{◌≡◌, true, ◌+◌, ap, drop, arith}
+use Rattle.std.proofs.Common.{◌≡◌, ◌+◌, ap, drop, arith}
 use Rattle.dn_net.proofs.Faults.{part_is}
 use Rattle.dn_shape.specs.Split.{is_divided, new_nodes, divided_count}
 use Rattle.dn_shape.proofs.Read.{rest_at}

@@ -1,5 +1,5 @@
 -- One node more.
-use Rattle.std.proofs.Common.{◌≡◌, ◌∙◌, true, ◌+◌, ◌++◌, ◌∷◌, [], ap, sym, subst, drop, length, arith, IsTrue, append_assoc}
+use Rattle.std.proofs.Common.{◌≡◌, ◌∙◌, ◌+◌, ◌++◌, ◌∷◌, [], ap, sym, subst, drop, length, arith, IsTrue, append_assoc}
 use Rattle.dn_base.proofs.Lists.{length-last}
 use Rattle.dn_net.specs.Decode.{is_formed}
 use Rattle.dn_net.proofs.Steps.{node_at}

@@ -1,31 +1,41 @@
--- The legs of the entries and of the gaps, sorted.
-use Rattle.std.proofs.Common.{◌≡◌, ◌∙◌, ◌++◌, sym, ap, rules, map}
-use Rattle.std.proofs.lemmas.List.{append-nil}
-use Rattle.std.proofs.lemmas.List.Sorted.{answers_always}
+-- The legs of the node's entries and of its gaps, in order.
+use Rattle.std.proofs.Common.{◌∙◌, sym, ap, subst, map, option_map, Some, IsTrue}
+use Rattle.std.specs.List.{list_all}
+use Rattle.std.specs.List.Sorted.{IsNonDecreasingBy, IsPermutation, IsStableByKey}
+use Rattle.std.specs.Ordering.{nat_cmp}
+use Rattle.dn_base.proofs.Lists.{item_there}
 use Rattle.dn_interval.specs.declared.row.Seg.{Seg}
-use Rattle.dn_net.specs.Walks.{in_order}
-use Rattle.dn_walk.specs.Legs.{leg_view, bare_entry_legs, bare_gap_legs, gap_leg, leg_before, gaps_by, span_view}
-use Rattle.dn_walk.proofs.Keys.{legs_in_order}
+use Rattle.dn_net.specs.declared.entries.Place.{Place}
+use Rattle.dn_net.specs.declared.node.NodeDecl.{NodeDecl}
+use Rattle.dn_net.specs.Order.{places_from}
+use Rattle.dn_net.specs.Rules.{entry_in_range}
+use Rattle.dn_net.proofs.Faults.{part_is}
+use Rattle.dn_walk.specs.Legs.{bare_gap_legs, bare_legs, gaps_by, leg_view}
+use Rattle.dn_walk.proofs.Nodes.{legs_of_parts, node_in_range}
 use Rattle.dn_walk.proofs.leg.node_legs.Goals as goal
-use Rattle.dn_walk.proofs.leg.node_legs.Goals.{in-Some+in_ok-gaps+in_ok-push_gaps, in_default}
+
+pub merged_legs-requires-clause-entries : goal.merged_legs-requires-clause-entries
+merged_legs-requires-clause-entries c =
+    let d = item_there c.args.checked.net.now c.args.node c.requires.there in
+    subst (λ l. IsTrue (list_all entry_in_range l)) (part_is (λ d. d.entries) _ d.0 _ d.1 c.entries.ensures) (node_in_range c.args.checked.net.now c.args.checked.rules.each c.args.node d.0 d.1).1
+
+pub merged_legs-requires-clause-every : goal.merged_legs-requires-clause-every
+merged_legs-requires-clause-every c =
+    let d = item_there c.args.checked.net.now c.args.node c.requires.there in
+    subst (λ l. IsPermutation (places_from 0 l) c.entry_order.result.now) (part_is (λ d. d.entries) _ d.0 _ d.1 c.entries.ensures) (c.entry_order.ensures.every d.0 d.1)
+
+pub merged_legs-requires-clause-stable : goal.merged_legs-requires-clause-stable
+merged_legs-requires-clause-stable c =
+    let d = item_there c.args.checked.net.now c.args.node c.requires.there in
+    subst (λ l. IsStableByKey (λ (p : Place). p.block.lo) nat_cmp (places_from 0 l) c.entry_order.result.now) (part_is (λ d. d.entries) _ d.0 _ d.1 c.entries.ensures) (c.entry_order.ensures.stable d.0 d.1)
+
+pub merged_legs-requires-clause-gaps : goal.merged_legs-requires-clause-gaps
+merged_legs-requires-clause-gaps c = subst (λ l. IsNonDecreasingBy (λ (s : Seg). s.span.lo) l) (sym c.as_slice.ensures.value) c.in_ok-gaps.ensures.sorted
 
 pub returns : goal.returns
 returns c =
-    let accepts = c.args.accepts.now in
-    let entries = c.args.entries.now in
-    let computes = answers_always _ _ _ (λ f a r g h. search rules) in
-    let sorted = legs_in_order _ _ (c.in_ok-sort_by_key.ensures.sorted (λ (s : Seg). s.span.lo) computes) (c.sort_by_key.ensures.stable (λ (s : Seg). s.span.lo) computes) in
-    let all : map leg_view c.match-over.legs.items ≡ bare_entry_legs entries ++ bare_gap_legs c.args.over (gaps_by accepts entries) = elim c.match-over.branch [
-      | in-Some+in_ok-gaps+in_ok-push_gaps w ↦
-          ap (λ v. map leg_view v.items) w.legs-is
-          ∙ w.in_ok-push_gaps.ensures
-          ∙ ap (λ l. l ++ map (gap_leg w.in-Some.node) (map span_view w.spans.result.now)) c.in_ok-legs.ensures
-          ∙ ap (λ l. bare_entry_legs entries ++ map (gap_leg w.in-Some.node) l) (ap (map span_view) w.spans.ensures.value ∙ w.in_ok-gaps.ensures)
-          ∙ ap (λ o. bare_entry_legs entries ++ bare_gap_legs o (gaps_by accepts entries)) (sym w.in-Some.is)
-      | in_default w ↦
-          ap (λ v. map leg_view v.items) w.legs-is
-          ∙ c.in_ok-legs.ensures
-          ∙ sym (append-nil (bare_entry_legs entries))
-          ∙ ap (λ o. bare_entry_legs entries ++ bare_gap_legs o (gaps_by accepts entries)) (sym w.in_default.is)
-    ] in
-    ap (map leg_view) c.from_vec.ensures ∙ sorted ∙ ap (in_order leg_before) all
+    let d = item_there c.args.checked.net.now c.args.node c.requires.there in
+    let gaps = part_is (λ (n : NodeDecl). bare_gap_legs n.over (gaps_by n.accepts n.entries)) _ d.0 _ d.1 c.in_ok-gaps.ensures.legs ∙ ap (map leg_view) (sym c.as_slice.ensures.value) in
+    ap (λ o. option_map bare_legs o) d.1
+    ∙ ap Some (legs_of_parts d.0 c.entries.result.now _ _ (part_is (λ n. n.entries) _ d.0 _ d.1 c.entries.ensures) gaps c.in_ok-legs.ensures)
+    ∙ ap (λ l. Some (map leg_view l)) (sym c.from_vec.ensures)

@@ -1,5 +1,5 @@
 -- Each row goes on by the legs that it meets, of its end node.
-use Rattle.std.proofs.Common.{refl, ◌≡◌, ◌∙◌, ◌+◌, ◌-◌, ◌≤◌, ◌++◌, sym, ap, map, List, length, take, vec_len, arith, rules, subst}
+use Rattle.std.proofs.Common.{refl, ◌≡◌, ◌∙◌, ◌+◌, ◌++◌, sym, ap, map, List, length, take, vec_len, arith, rules, subst}
 use Rattle.std.specs.List.{filter, flat_map}
 use Rattle.std.proofs.lemmas.List.{length-append}
 use Rattle.dn_interval.specs.declared.row.Seg.{Seg}

@@ -1,5 +1,5 @@
 -- The part of the walk whose names lie in the leg goes on.
-use Rattle.std.proofs.Common.{◌≡◌, ◌≤◌, ◌+◌, ◌-◌, ap, arith}
+use Rattle.std.proofs.Common.{◌≤◌, ◌+◌, ◌-◌, ap, arith}
 use Rattle.dn_walk.specs.Legs.{leg_view}
 use Rattle.dn_walk.specs.Rows.{row_view}
 use Rattle.dn_walk.proofs.Cutting.{part_is, onto_is}
