@@ -13,6 +13,7 @@ use crate::refusal::refusal;
 use dn_base::device::Tables;
 use dn_book::book::{Book, CommitFault};
 use dn_book::grant::Grant;
+use dn_net::checked::CheckedNet;
 use dn_place::booked::first_in_book;
 use dn_placement::request::Request;
 use dn_view::system::System;
@@ -70,7 +71,7 @@ pub fn grant<D: Tables>(
     ensures counted { IsCounted (D.faults device.old) (D.faults device.new)
         (is_grant_fault result) }
 {
-    if let Some(why) = refusal(book, system.net, id, request) {
+    if let Some(why) = refusal(book, CheckedNet { net: system.net }, id, request) {
         return Err(why);
     }
     let placement = match first_in_book(alloc, book, system, request, None) {

@@ -2,13 +2,12 @@
 
 ghost use Rattle.std.specs.Prelude.{◌≡◌, ◌<◌, length, slice_get, Some, IsTrue};
 ghost use Rattle.std.specs.Option.{option_map};
-ghost use Rattle.std.specs.List.{All};
-ghost use Rattle.dn_net.specs.Terms.{KeepsRules};
 ghost use Rattle.dn_grant.specs.Terms.{grant_fault_view, grant_refusal, is_target_at};
 
 use crate::accepted::refused_address;
 use crate::fault::GrantFault;
 use dn_book::book::Book;
+use dn_net::checked::CheckedNet;
 use dn_net::net::Net;
 use dn_placement::request::Request;
 use dn_placement::roles::{is_agent, is_vectors};
@@ -17,11 +16,11 @@ use dn_placement::roles::{is_agent, is_vectors};
 const MAX_GRANTS: usize = 4096;
 
 /// The first refusal of a request that holds before a placement is sought. It takes no memory.
-pub fn refusal(book: &Book, net: &Net, id: u32, request: &Request) -> Option<GrantFault>
-    requires rules { All KeepsRules net.now }
+pub fn refusal(book: &Book, checked: CheckedNet, id: u32, request: &Request) -> Option<GrantFault>
     ensures { option_map grant_fault_view result ≡ option_map (λ why. Some why)
-        (grant_refusal net.now book.now.grants id request.now) }
+        (grant_refusal checked.entry.net.now book.now.grants id request.now) }
 {
+    let net = checked.net;
     if book.has_id(id) {
         return Some(GrantFault::IdUsed);
     }
@@ -31,7 +30,7 @@ pub fn refusal(book: &Book, net: &Net, id: u32, request: &Request) -> Option<Gra
     if !is_target(net, request.node) {
         return Some(GrantFault::NoTarget);
     }
-    if let Some(first) = refused_address(net, request.node, request.base, request.size) {
+    if let Some(first) = refused_address(checked, request.node, request.base, request.size) {
         return Some(GrantFault::NotAccepted { first });
     }
     if book.grants().len() >= MAX_GRANTS {

@@ -18,6 +18,7 @@ use dn_flat::flats::Flats;
 use dn_interval::{Rows, Seg, Span};
 use dn_kind::output::output_name;
 use dn_kind::unit_kind::Record;
+use dn_net::checked::CheckedNet;
 use dn_net::net::Net;
 use dn_net::node::Unit;
 use std::alloc::Global;
@@ -73,7 +74,10 @@ fn pass_seg(
     if !leads_on(course.system.flats, unit, part) {
         return Ok(());
     }
-    let range = slot_range(course.system.net, course.records, unit, seg);
+    let checked = CheckedNet {
+        net: course.system.net,
+    };
+    let range = slot_range(checked, course.records, unit, seg);
     for slot in range.0..range.1 {
         pass_slot(out, mid, course, part, unit, seg, slot)?;
     }

@@ -1,8 +1,8 @@
 //! Which slots of a unit a pass looks at.
 
-ghost use Rattle.std.specs.Prelude.{◌≡◌, ℕ, ◌+◌, ◌-◌, ◌/◌, ◌^◌, ◌<◌, ◌≤◌, ◌⊎◌, Some, None, IsTrue};
+ghost use Rattle.std.specs.Prelude.{◌≡◌, ℕ, ◌+◌, ◌-◌, ◌/◌, ◌^◌, ◌<◌, ◌≤◌, ◌⊎◌, Some, None};
 ghost use Rattle.dn_net.specs.declared.node.Unit.{Unit as UnitPart};
-ghost use Rattle.dn_net.specs.Terms.{has_plain_units, unit_at};
+ghost use Rattle.dn_net.specs.Terms.{unit_at};
 ghost use Rattle.dn_kind.specs.Terms.{AreHeld, Held};
 ghost use Rattle.dn_kind.specs.declared.rights.Rights.{Rights};
 ghost use Rattle.dn_placement.specs.Terms.{hop_record, placed_records};
@@ -10,85 +10,85 @@ ghost use Rattle.dn_view.specs.Terms.{AreFitted, IsFitted, IsFitting, records_ta
 
 use crate::records::{Records, unit_page};
 use dn_interval::Seg;
-use dn_net::net::Net;
+use dn_net::checked::CheckedNet;
 use dn_net::node::Unit;
 use dn_placement::request::Request;
 use dn_tables::placement::{Hop, Placement};
 
 /// From which slot to before which one a pass looks at the slots of a unit for a segment: of those in
 /// which the segment has names, none outside of them has a record that is taken.
-pub(crate) fn slot_range(net: &Net, records: Records, unit: &Unit, seg: Seg) -> (u64, u64)
-    requires plain { IsTrue (has_plain_units net.now) }
-    requires unit { unit_at net.now seg.node ≡ Some unit.now }
-    requires fitting { IsFitting net.now records }
+pub(crate) fn slot_range(checked: CheckedNet, records: Records, unit: &Unit, seg: Seg) -> (u64, u64)
+    requires unit { unit_at checked.net.now seg.node ≡ Some unit.now }
+    requires fitting { IsFitting checked.net.now records }
     ensures begins { seg.base / 2 ^ unit.now.page ≤ result.0 }
     ensures ends { result.1 ≤ (seg.base + (seg.span.hi - seg.span.lo)) / 2 ^ unit.now.page + 1 }
     ensures there { result.1 ≤ unit.now.slots }
-    ensures rest { (h : Held) (slot : ℕ) → AreHeld net.now h → seg.base / 2 ^ unit.now.page ≤ slot
+    ensures rest { (h : Held) (slot : ℕ) → AreHeld checked.entry.net.now h
+        → seg.base / 2 ^ unit.now.page ≤ slot
         → slot ≤ (seg.base + (seg.span.hi - seg.span.lo)) / 2 ^ unit.now.page
         → (slot < result.0) ⊎ (result.1 ≤ slot)
-        → records_taken net.now h records.entry seg.node slot ≡ None }
+        → records_taken checked.entry.net.now h records.entry seg.node slot ≡ None }
 {
     let first = seg.base >> unit.page;
     let last = (seg.base + (seg.span.hi - seg.span.lo)) >> unit.page;
-    let taken = taken_range(net, records, seg.node, u64::from(unit.slots));
+    let taken = taken_range(checked, records, seg.node, u64::from(unit.slots));
     (first.max(taken.0), (last + 1).min(taken.1))
 }
 
 /// From which slot to before which one a unit may have records that are taken.
-fn taken_range(net: &Net, records: Records, node: u16, slots: u64) -> (u64, u64)
-    requires plain { IsTrue (has_plain_units net.now) }
-    requires unit { (u : UnitPart) × (unit_at net.now node ≡ Some u) × (slots ≡ u.slots) }
-    requires fitting { IsFitting net.now records }
+fn taken_range(checked: CheckedNet, records: Records, node: u16, slots: u64) -> (u64, u64)
+    requires unit { (u : UnitPart) × (unit_at checked.net.now node ≡ Some u) × (slots ≡ u.slots) }
+    requires fitting { IsFitting checked.net.now records }
     ensures there { result.1 ≤ slots }
-    ensures rest { (h : Held) (slot : ℕ) → AreHeld net.now h → (slot < result.0) ⊎ (result.1 ≤ slot)
-        → records_taken net.now h records.entry node slot ≡ None }
+    ensures rest { (h : Held) (slot : ℕ) → AreHeld checked.entry.net.now h
+        → (slot < result.0) ⊎ (result.1 ≤ slot)
+        → records_taken checked.entry.net.now h records.entry node slot ≡ None }
 {
     match records {
-        Records::Fresh(request, placement) => placed_range(net, request, placement, node, slots),
+        Records::Fresh(request, placement) => placed_range(
+            checked, request, placement, node, slots,
+        ),
         _ => (0, slots),
     }
 }
 
 /// From which slot to before which one a placement has records in a unit.
 fn placed_range(
-    net: &Net,
+    checked: CheckedNet,
     request: &Request,
     placement: &Placement,
     node: u16,
     slots: u64,
 ) -> (u64, u64)
-    requires plain { IsTrue (has_plain_units net.now) }
-    requires unit { (u : UnitPart) × (unit_at net.now node ≡ Some u) × (slots ≡ u.slots) }
-    requires fitted { AreFitted net.now request.now placement.now }
+    requires unit { (u : UnitPart) × (unit_at checked.net.now node ≡ Some u) × (slots ≡ u.slots) }
+    requires fitted { AreFitted checked.net.now request.now placement.now }
     ensures there { result.1 ≤ slots }
     ensures rest { (slot : ℕ) → (slot < result.0) ⊎ (result.1 ≤ slot)
-        → placed_records net.now request.now placement.now node slot ≡ None }
+        → placed_records checked.entry.net.now request.now placement.now node slot ≡ None }
 {
     let mut range = (slots, 0);
     let hops = placement.hops();
     for (place, hop) in hops.iter().enumerate() {
-        range = with_hop(net, request.size, *hop, node, range);
+        range = with_hop(checked, request.size, *hop, node, range);
     }
     range
 }
 
 /// A range of slots of a unit, and those that a hop takes of it.
-fn with_hop(net: &Net, size: u64, hop: Hop, node: u16, range: (u64, u64)) -> (u64, u64)
+fn with_hop(checked: CheckedNet, size: u64, hop: Hop, node: u16, range: (u64, u64)) -> (u64, u64)
     requires some { 1 ≤ size }
-    requires fitted { IsFitted net.now size hop }
-    requires plain { IsTrue (has_plain_units net.now) }
+    requires fitted { IsFitted checked.net.now size hop }
     ensures from { result.0 ≤ range.0 }
     ensures to { range.1 ≤ result.1 }
-    ensures there { (u : UnitPart) → unit_at net.now node ≡ Some u → range.1 ≤ u.slots
-        → result.1 ≤ u.slots }
+    ensures there { (u : UnitPart) → unit_at checked.entry.net.now node ≡ Some u
+        → range.1 ≤ u.slots → result.1 ≤ u.slots }
     ensures rest { (rights : Rights) (slot : ℕ) → (slot < result.0) ⊎ (result.1 ≤ slot)
-        → hop_record net.now size rights hop node slot ≡ None }
+        → hop_record checked.entry.net.now size rights hop node slot ≡ None }
 {
     if node != hop.unit {
         return range;
     }
-    let page = unit_page(net, hop.unit);
+    let page = unit_page(checked, hop.unit);
     let first = hop.x >> page;
     let last = (hop.x + size - 1) >> page;
     (range.0.min(first), range.1.max(last + 1))

@@ -2,7 +2,7 @@
 
 ghost use Rattle.std.specs.Prelude.{◌≡◌, ◌≤◌, Some, IsSome, IsTrue};
 ghost use Rattle.dn_net.specs.declared.node.Unit.{Unit as UnitPart};
-ghost use Rattle.dn_net.specs.Terms.{has_plain_units, unit_at};
+ghost use Rattle.dn_net.specs.Terms.{unit_at};
 ghost use Rattle.dn_kind.specs.Terms.{Held};
 ghost use Rattle.dn_tables.specs.Terms.{has_slot};
 ghost use Rattle.dn_placement.specs.Terms.{hop_record, hop_rights, or_record, placed_records};
@@ -11,7 +11,7 @@ ghost use Rattle.dn_view.specs.Terms.{AreFitted, IsCourse, IsFitted, IsFitting, 
 use crate::course::Course;
 use dn_kind::rights::Rights;
 use dn_kind::unit_kind::Record;
-use dn_net::net::Net;
+use dn_net::checked::CheckedNet;
 use dn_placement::request::Request;
 use dn_tables::placement::{Hop, Placement};
 
@@ -33,7 +33,10 @@ pub(crate) fn record_for(course: Course, node: u16, slot: u32) -> Option<Record>
     ensures { result ≡ course_records (λ k. meaning (k.vtable, k.value)) course.entry node slot }
 {
     let kept = course.tables.record_at(course.system.kinds, node, slot);
-    let record = taken_record(course.system.net, course.records, kept, node, slot)?;
+    let checked = CheckedNet {
+        net: course.system.net,
+    };
+    let record = taken_record(checked, course.records, kept, node, slot)?;
     if record.rights.allows(course.access) {
         Some(record)
     } else {
@@ -43,24 +46,23 @@ pub(crate) fn record_for(course: Course, node: u16, slot: u32) -> Option<Record>
 
 /// The record of a slot that is taken, of which this is the one of the tables.
 fn taken_record(
-    net: &Net,
+    checked: CheckedNet,
     records: Records,
     kept: Option<Record>,
     node: u16,
     slot: u32,
 ) -> Option<Record>
-    requires fitting { IsFitting net.now records }
-    requires plain { IsTrue (has_plain_units net.now) }
+    requires fitting { IsFitting checked.net.now records }
     ensures { (h : Held) → h node slot ≡ kept → result
-        ≡ records_taken net.now h records.entry node slot }
+        ≡ records_taken checked.entry.net.now h records.entry node slot }
 {
     match records {
         Records::Kept => kept,
         Records::Fresh(request, placement) => {
-            fresh_record(kept, placed_record(net, request, placement, node, slot))
+            fresh_record(kept, placed_record(checked, request, placement, node, slot))
         }
         Records::Joined(request, placement) => {
-            joined_record(kept, placed_record(net, request, placement, node, slot))
+            joined_record(kept, placed_record(checked, request, placement, node, slot))
         }
     }
 }
@@ -87,21 +89,20 @@ fn joined_record(kept: Option<Record>, added: Option<Record>) -> Option<Record>
 
 /// The record that a placement puts into a slot.
 fn placed_record(
-    net: &Net,
+    checked: CheckedNet,
     request: &Request,
     placement: &Placement,
     node: u16,
     slot: u32,
 ) -> Option<Record>
-    requires fitted { AreFitted net.now request.now placement.now }
-    requires plain { IsTrue (has_plain_units net.now) }
-    ensures { result ≡ placed_records net.now request.now placement.now node slot }
+    requires fitted { AreFitted checked.net.now request.now placement.now }
+    ensures { result ≡ placed_records checked.entry.net.now request.now placement.now node slot }
 {
     let hops = placement.hops();
     let own = usize::from(placement.own());
     for (place, hop) in hops.iter().enumerate() {
         let rights = hop_rights(request.rights, own, place);
-        let record = hop_record(net, request.size, rights, *hop, node, slot);
+        let record = hop_record(checked, request.size, rights, *hop, node, slot);
         if record.is_some() {
             return record;
         }
@@ -118,7 +119,7 @@ fn hop_rights(rights: Rights, own: usize, place: usize) -> Rights
 
 /// The record that a hop puts into a slot.
 fn hop_record(
-    net: &Net,
+    checked: CheckedNet,
     size: u64,
     rights: Rights,
     hop: Hop,
@@ -126,14 +127,13 @@ fn hop_record(
     slot: u32,
 ) -> Option<Record>
     requires some { 1 ≤ size }
-    requires fitted { IsFitted net.now size hop }
-    requires plain { IsTrue (has_plain_units net.now) }
-    ensures { result ≡ hop_record net.now size rights hop node slot }
+    requires fitted { IsFitted checked.net.now size hop }
+    ensures { result ≡ hop_record checked.entry.net.now size rights hop node slot }
 {
     if node != hop.unit {
         return None;
     }
-    let page = unit_page(net, hop.unit);
+    let page = unit_page(checked, hop.unit);
     let slot = u64::from(slot);
     let first = hop.x >> page;
     if slot < first || (hop.x + size - 1) >> page < slot {
@@ -147,13 +147,13 @@ fn hop_record(
 }
 
 /// The page of a unit, as an exponent.
-pub(crate) fn unit_page(net: &Net, node: u16) -> u8
-    requires there { IsSome (unit_at net.now node) }
-    requires plain { IsTrue (has_plain_units net.now) }
-    ensures page { (u : UnitPart) → unit_at net.now node ≡ Some u → result ≡ u.page }
+pub(crate) fn unit_page(checked: CheckedNet, node: u16) -> u8
+    requires there { IsSome (unit_at checked.net.now node) }
+    ensures page { (u : UnitPart) → unit_at checked.entry.net.now node ≡ Some u
+        → result ≡ u.page }
     ensures small { result ≤ 40 }
 {
-    match net.unit(node) {
+    match checked.net.unit(node) {
         Some(unit) => unit.page,
         None => 0,
     }

@@ -1,6 +1,7 @@
 pub mod Accepts
 pub mod BareWalks
 pub mod Bridge
+pub mod Cutting
 pub mod Ends
 pub mod Holes
 pub mod Keys

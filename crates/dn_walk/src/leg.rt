@@ -91,10 +91,13 @@ fn push_dests(legs: &mut Vec<Seg>, block: Block, dests: &[Dest]) -> Result<(), O
     ensures { OnOk result (map leg_view legs.new.items
         ≡ map leg_view legs.old.items ++ map (dest_leg block) dests.now) }
 {
-    let Block { lo, hi } = block;
     for dest in dests {
+        let span = Span {
+            lo: block.lo,
+            hi: block.hi,
+        };
         legs.push(Seg {
-            span: Span { lo, hi },
+            span,
             node: dest.node,
             base: dest.addr,
         })?;

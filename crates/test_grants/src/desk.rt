@@ -21,6 +21,7 @@ use dn_grant::refusal::refusal;
 use dn_interval::Rows;
 use dn_kind::kinds::Kinds;
 use dn_kind::rights::{Access, Rights};
+use dn_net::checked::CheckedNet;
 use dn_net::names::Names;
 use dn_net::net::Net;
 use dn_net::node::{Name, TOP};
@@ -181,7 +182,8 @@ impl<'a> Desk<'a> {
             return Ok(None);
         }
         let system = self.system;
-        if let Some(_why) = refusal(&self.book, system.net, id, request) {
+        let checked = CheckedNet { net: system.net };
+        if let Some(_why) = refusal(&self.book, checked, id, request) {
             return Ok(None);
         }
         let Some(placement) = first_in_book(alloc, &self.book, system, request, None)? else {

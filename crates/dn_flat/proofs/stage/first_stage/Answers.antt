@@ -13,8 +13,8 @@ of-requires c =
     let all : length c.args.legs.now ≡ length c.args.checked.net.now = ap length c.requires.legs ∙ length-map bare_legs c.args.checked.net.now in
     omega (arith, c.nodes-node-end.ensures, c.loop-node-test.true)
 
-pub first_reach-reach-requires-clause-legs : goal.first_reach-reach-requires-clause-legs
-first_reach-reach-requires-clause-legs c =
+pub first_reach-requires-clause-legs : goal.first_reach-requires-clause-legs
+first_reach-requires-clause-legs c =
     sym (slice_get-map bare_legs c.args.checked.net.now c.loop-node.node) ∙ ap (λ l. slice_get l c.loop-node.node) (sym c.requires.legs) ∙ c.of.ensures
 
 pub loop-node-preserved : goal.loop-node-preserved

@@ -6,9 +6,9 @@ use Rattle.dn_grant.proofs.Nearest.{IsFirstUnaccepted, nearest_is_first}
 use Rattle.dn_grant.proofs.accepted.first_unaccepted.Goals as goal
 
 -- what is left of the blocks at the end is nothing
-last : (c : goal.After-loop-block) → IsFirstUnaccepted (slice_get c.args.net.now c.args.node) c.args.base c.loop-block.first
+last : (c : goal.After-loop-block) → IsFirstUnaccepted (slice_get c.args.checked.net.now c.args.node) c.args.base c.loop-block.first
 last c =
-    let n = slice_get c.args.net.now c.args.node in
+    let n = slice_get c.args.checked.net.now c.args.node in
     let bs = c.accepts-block-items.result.now in
     let none : ◌≡◌ {A = List Block} (drop c.loop-block.block-index bs) [] = drop_all c.loop-block.block-index bs c.loop-block-test.false in
     let e = c.loop-block.invariant ∙ ap (λ rest. nearest_address n c.args.base c.loop-block.first rest) none in

@@ -5,5 +5,5 @@ use Rattle.dn_grant.proofs.accepted.first_unaccepted.Given as goal
 
 abbrev pub invariant-loop-block : goal.invariant-loop-block
 invariant-loop-block l =
-    nearest_address (slice_get l.net l.node) l.base (top + 1) l.block-items
-    ≡ nearest_address (slice_get l.net l.node) l.base l.first (drop l.block-index l.block-items)
+    nearest_address (slice_get l.checked.net.now l.node) l.base (top + 1) l.block-items
+    ≡ nearest_address (slice_get l.checked.net.now l.node) l.base l.first (drop l.block-index l.block-items)

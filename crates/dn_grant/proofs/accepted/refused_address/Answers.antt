@@ -4,7 +4,7 @@ use Rattle.dn_grant.proofs.Nearest.{IsFirstUnaccepted, refused_found, refused_no
 use Rattle.dn_grant.proofs.accepted.refused_address.Goals as goal
 use Rattle.dn_grant.proofs.accepted.refused_address.Goals.{After-first_unaccepted-first}
 
-first : (c : After-first_unaccepted-first) → IsFirstUnaccepted (slice_get c.args.net.now c.args.node) c.args.base c.first_unaccepted-first.result
+first : (c : After-first_unaccepted-first) → IsFirstUnaccepted (slice_get c.args.checked.net.now c.args.node) c.args.base c.first_unaccepted-first.result
 first c =
     let said = c.first_unaccepted-first.ensures in
     record { from = said.from; accepted = said.accepted; unaccepted = said.unaccepted }

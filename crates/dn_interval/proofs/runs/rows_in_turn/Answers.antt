@@ -42,7 +42,7 @@ loop-seg-preserved c =
           let items = rw ok at w.push.ensures.items in
           subst (λ v. Turning c.if-goes_on.rows.items v later xs) (sym w.current-is)
           (subst (λ o. Turning o.items t later xs) (sym w.rows-is)
-          (subst (λ l. Turning l t later xs) (sym (items ∙ ap (λ r. rows ++ r ∷ []) w.single.ensures))
+          (subst (λ l. Turning l t later xs) (sym (items ∙ ap (λ r. rows ++ r ∷ []) w.row_of_seg.ensures))
           (turn_apart rows s t later xs state off)))
     ]
 

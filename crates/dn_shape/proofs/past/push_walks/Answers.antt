@@ -10,4 +10,4 @@ extend_row-requires-clause-meet c = met_meet (row_view c.args.row.now) c.args.le
 
 pub returns : goal.returns
 returns c =
-    on_ok_weaker c.extend_row.result (λ e. e ∙ ap (λ l. map row_view c.args.walks.items ++ l) (met_on (row_view c.args.row.now) c.args.legs.now c.met_by.result.now c.met_by.ensures)) c.extend_row.ensures
+    on_ok_weaker c.extend_row.result (λ e. e ∙ ap (λ l. map row_view c.args.walks.now.items ++ l) (met_on (row_view c.args.row.now) c.args.legs.now c.met_by.result.now c.met_by.ensures)) c.extend_row.ensures

@@ -18,8 +18,8 @@ returns-then-from-gt-MAX_NODES-clause-made c =
 pub sending_nodes-requires-clause-few : goal.sending_nodes-requires-clause-few
 sending_nodes-requires-clause-few c = omega (arith, c.if-from-gt-MAX_NODES.false, c.nodes.ensures, c.from.ensures, c.divided_count.ensures, c.from-2.ensures)
 
-pub add_accepters-requires-clause-few : goal.add_accepters-requires-clause-few
-add_accepters-requires-clause-few c =
+pub add_accepters-requires : goal.add_accepters-requires
+add_accepters-requires c =
     let net = c.args.net.now in
     let made : c.in_ok-made.made ≡ sending_nodes (length net) net = search rules in
     let size = ap length made ∙ sending_length (length net) net in

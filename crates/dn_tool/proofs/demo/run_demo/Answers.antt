@@ -1,4 +1,4 @@
-use Rattle.std.proofs.Common.{rules, ◌≡◌, ◌∙◌, ◌+◌, if◌then◌else◌, ap, sym, subst, map, List, Bool, length, ℕ, Err, arith}
+use Rattle.std.proofs.Common.{rules, ◌≡◌, ◌∙◌, ◌+◌, if◌then◌else◌, ap, sym, subst, map, List, Bool, false, length, ℕ, Err, arith}
 use Rattle.dn_base.proofs.Counts.{counted_none, counted_then}
 use Rattle.dn_kind.specs.Kind.{Meaning}
 use Rattle.dn_book.specs.declared.grant.Grant.{Grant}
@@ -52,6 +52,15 @@ returns-in_err-ended-clause-shown g c =
     let at : IsNext cs c.commands.rest c.next.new.self c.in-Some.command = told_next cs _ _ _ _ c.commands.invariant.behind c.in_ok-command.ensures.next c.in-Some.is in
     let ended : c.from_residual-in_err-ended.result ≡ Err c.in_err-ended.field-0.0 = search rules in
     shown_halted kinds c.args.machine.net.now c.args.agents cs (place cs c.commands.rest) c.in-Some.command (state_view c.commands.state) (state_view c.play-ended.new.state) c.play-ended.result c.in_err-ended.field-0.0 c.from_residual-in_err-ended.result _ _ _ _ _ c.commands.granted c.commands.revoked c.in_err-ended.was ended c.play-ended.ensures.halted.no_write at.within at.at c.commands.invariant.tallied c.play-ended.ensures.through
+
+pub returns-in_err-command-clause-halted : goal.returns-in_err-command-clause-halted
+returns-in_err-command-clause-halted g c =
+    let write : is_write_halt c.from_residual-in_err-command.result ≡ false = search rules in
+    let device : is_device_halt c.from_residual-in_err-command.result ≡ false = search rules in
+    record {
+      sink_counted = rw write (counted_none _);
+      device_counted = rw device c.commands.invariant.device_counted;
+    }
 
 pub returns-in_err-ended-clause-halted : goal.returns-in_err-ended-clause-halted
 returns-in_err-ended-clause-halted g c =

@@ -1,4 +1,4 @@
-use Rattle.std.proofs.Common.{rules, ◌≡◌, ◌∙◌, ◌+◌, sym, subst, map, List, length, IsTrue, ℕ, Err, refl, arith}
+use Rattle.std.proofs.Common.{rules, ◌≡◌, ◌∙◌, ◌+◌, sym, subst, map, List, length, IsTrue, ℕ, Err, false, refl, arith}
 use Rattle.std.specs.List.{list_all}
 use Rattle.dn_base.proofs.Counts.{counted_none, counted_then}
 use Rattle.dn_base.proofs.Told.{if_some_then}
@@ -48,6 +48,15 @@ returns-in_err-command-clause-played g c =
     let cs : List Command = c.args.commands.now in
     let ended : c.from_residual-in_err-command.result ≡ Err NoMemory = search rules in
     halted_unmade kinds c.args.machine.net.now cs (place cs c.commands.rest) (state_view c.commands.state) c.from_residual-in_err-command.result _ _ _ _ _ ended (omega arith) c.commands.invariant.gone
+
+pub returns-in_err-command-clause-halted : goal.returns-in_err-command-clause-halted
+returns-in_err-command-clause-halted g c =
+    let write : is_write_halt c.from_residual-in_err-command.result ≡ false = search rules in
+    let device : is_device_halt c.from_residual-in_err-command.result ≡ false = search rules in
+    record {
+      sink_counted = rw write c.commands.invariant.sink_counted;
+      device_counted = rw device c.commands.invariant.device_counted;
+    }
 
 pub returns-in_err-ended-clause-played : goal.returns-in_err-ended-clause-played
 returns-in_err-ended-clause-played g c =

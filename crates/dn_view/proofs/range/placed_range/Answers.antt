@@ -7,7 +7,7 @@ use Rattle.dn_view.proofs.range.placed_range.Goals as goal
 
 pub loop-place-preserved : goal.loop-place-preserved
 loop-place-preserved c =
-    let net = c.args.net.now in
+    let net = c.args.checked.net.now in
     let rq = c.args.request.now in
     let own = c.args.placement.now.own in
     let hops : List Hop = c.hops-hops.result.now in
@@ -23,4 +23,4 @@ loop-place-preserved c =
     }
 
 pub returns-clause-rest : goal.returns-clause-rest
-returns-clause-rest c slot out = c.loop-place.invariant.rest slot out ∙ hops_end c.args.net.now c.args.request.now.size c.args.request.now.rights c.args.placement.now.own c.loop-place.place c.hops-hops.result.now c.args.node slot c.loop-place-test.false
+returns-clause-rest c slot out = c.loop-place.invariant.rest slot out ∙ hops_end c.args.checked.net.now c.args.request.now.size c.args.request.now.rights c.args.placement.now.own c.loop-place.place c.hops-hops.result.now c.args.node slot c.loop-place-test.false

@@ -4,13 +4,13 @@ use Rattle.dn_view.proofs.records.hop_record.Goals as goal
 
 pub overflow_add-hop : goal.overflow_add-hop
 overflow_add-hop c =
-    let e : HasEnds c.args.size c.args.hop = small_ends c.args.net.now c.args.size c.args.hop c.requires.plain c.requires.fitted in
+    let e : HasEnds c.args.size c.args.hop = small_ends c.args.checked.net.now c.args.size c.args.hop c.args.checked.plain c.requires.fitted in
     let x = e.x in
     omega arith
 
 pub overflow_add-result : goal.overflow_add-result
 overflow_add-result c =
-    let e : HasEnds c.args.size c.args.hop = small_ends c.args.net.now c.args.size c.args.hop c.requires.plain c.requires.fitted in
+    let e : HasEnds c.args.size c.args.hop = small_ends c.args.checked.net.now c.args.size c.args.hop c.args.checked.plain c.requires.fitted in
     let y = e.y in
     let l : c.args.hop.y / 2 ^ c.unit_page-page.result ≤ c.args.hop.y = div-le_self c.args.hop.y (2 ^ c.unit_page-page.result) in
     omega (arith, c.from-slot.ensures, c.ranges.slot)

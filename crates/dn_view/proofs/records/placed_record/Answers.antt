@@ -7,13 +7,13 @@ use Rattle.dn_view.proofs.records.placed_record.Goals.{After-hop_record-record}
 
 -- the records of the hops behind the one at hand
 abbrev rest : After-hop_record-record → Option Record
-rest c = hops_records c.args.net.now c.args.request.now.size c.args.request.now.rights c.args.placement.now.own (c.loop-place.place + 1) (drop (c.loop-place.place + 1) c.hops-hops.result.now) c.args.node c.args.slot
+rest c = hops_records c.args.checked.net.now c.args.request.now.size c.args.request.now.rights c.args.placement.now.own (c.loop-place.place + 1) (drop (c.loop-place.place + 1) c.hops-hops.result.now) c.args.node c.args.slot
 
-whole : (c : After-hop_record-record) → placed_records c.args.net.now c.args.request.now c.args.placement.now c.args.node c.args.slot ≡ or_record c.hop_record-record.result (rest c)
+whole : (c : After-hop_record-record) → placed_records c.args.checked.net.now c.args.request.now c.args.placement.now c.args.node c.args.slot ≡ or_record c.hop_record-record.result (rest c)
 whole c =
     let own : c.from-own.result ≡ c.args.placement.now.own = c.from-own.ensures ∙ c.own.ensures.value in
     c.loop-place.invariant
-    ∙ hops_on c.args.net.now c.args.request.now.size c.args.request.now.rights c.hop_rights-rights.result c.args.placement.now.own c.loop-place.place c.hops-hops.result.now c.args.node c.args.slot (record { unit = 0; port = 0; x = 0; y = 0 }) c.hop_record-record.result c.loop-place-test.true
+    ∙ hops_on c.args.checked.net.now c.args.request.now.size c.args.request.now.rights c.hop_rights-rights.result c.args.placement.now.own c.loop-place.place c.hops-hops.result.now c.args.node c.args.slot (record { unit = 0; port = 0; x = 0; y = 0 }) c.hop_record-record.result c.loop-place-test.true
     (c.hop_rights-rights.ensures ∙ ap (λ o. hop_rights c.args.request.now.rights o c.loop-place.place) own) c.hop_record-record.ensures
 
 pub returns-then-is_some : goal.returns-then-is_some
@@ -27,4 +27,4 @@ loop-place-preserved c =
     hop_passed _ c.hop_record-record.result (rest at) (whole at) c.if-is_some.ensures
 
 pub returns : goal.returns
-returns c = sym (c.loop-place.invariant ∙ hops_end c.args.net.now c.args.request.now.size c.args.request.now.rights c.args.placement.now.own c.loop-place.place c.hops-hops.result.now c.args.node c.args.slot c.loop-place-test.false)
+returns c = sym (c.loop-place.invariant ∙ hops_end c.args.checked.net.now c.args.request.now.size c.args.request.now.rights c.args.placement.now.own c.loop-place.place c.hops-hops.result.now c.args.node c.args.slot c.loop-place-test.false)
