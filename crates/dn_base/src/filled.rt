@@ -1,28 +1,37 @@
 //! A list of a fixed number of items that takes memory only where it is written.
 
-ghost use Rattle.std.specs.Prelude.{◌≡◌, ◌<◌, ◌≤◌, ◌-◌, ◌++◌, length, replicate, slice_index_or, slice_set, vec_capacity, vec_len, IfOk};
+ghost use Rattle.std.specs.Prelude.{◌≡◌, ◌<◌, ◌≤◌, ◌+◌, ◌-◌, ◌*◌, ◌/◌, ◌++◌, ◌^◌, ℕ, get_or, length, nat_lt, replicate, slice_index_or, slice_set, vec_capacity, vec_len, IfOk, IsTrue};
+ghost use Rattle.std.specs.List.{list_all};
+ghost use Rattle.dn_base.specs.Terms.{ArePaged, item_at};
 
 use std::alloc::{AllocError, Global};
 use std::marker::Model;
 
-/// A list of a fixed number of items, which contracts see as the list itself. The items behind the
-/// last one that was ever set are all one value, and are kept as that value alone: the memory of
-/// all items is taken when the list is made, and none of it is touched before an item is set there.
+/// How many items a page has.
+const PAGE: usize = 256;
+
+/// A list of a fixed number of items, which contracts see as the list itself. The memory of all items is
+/// taken when the list is made, and is touched page by page: a page of 256 places is made when an item is
+/// first set in one of them. The items of pages that were not made are all one value.
 #[derive(Drop)]
 pub struct Filled<T> {
+    /// The pages that were made, one behind another.
     items: Vec<T>,
+    /// For each page where it ends among those, or 0 where it was not made.
+    ends: Vec<usize>,
     rest: T,
     count: usize,
 }
 
 impl<T> Model for Filled<T> {
-    ghost use Rattle.std.specs.Prelude.{◌-◌, ◌≤◌, ◌++◌, List, length, replicate, vec_capacity, vec_len};
+    ghost use Rattle.std.specs.Prelude.{List, length, vec_capacity};
+    ghost use Rattle.dn_base.specs.Paged.{ArePaged, paged_items};
 
     ghost Value = { List T };
 
-    ghost view = { λ s. s.items.items ++ replicate (s.count - length s.items.items) s.rest };
+    ghost view = { λ s. paged_items s.items.items s.ends.items s.rest s.count };
 
-    ghost invariant = { λ s. (vec_len s.items ≤ s.count) × (s.count ≤ vec_capacity s.items) };
+    ghost invariant = { λ s. ArePaged (length s.items.items) (vec_capacity s.items) s.ends.items s.count };
 }
 
 impl<T: Copy> Filled<T> {
@@ -30,8 +39,15 @@ impl<T: Copy> Filled<T> {
     pub fn new(alloc: Global, value: T, count: usize) -> Result<Filled<T>, AllocError>
         ensures { IfOk result (λ filled. filled ≡ replicate count value) }
     {
+        let pages = pages_of(count);
+        let Some(room) = pages.checked_mul(PAGE) else {
+            return Err(AllocError);
+        };
+        let items = Vec::with_capacity(alloc, room)?;
+        let ends = vec![in alloc; 0; pages]?;
         Ok(Filled {
-            items: Vec::with_capacity(alloc, count)?,
+            items,
+            ends,
             rest: value,
             count,
         })
@@ -49,19 +65,7 @@ impl<T: Copy> Filled<T> {
         requires { at < length self.now }
         ensures { result ≡ slice_index_or self.now at result }
     {
-        if at < self.items.len() {
-            self.items[at]
-        } else {
-            self.rest
-        }
-    }
-
-    /// The items up to the last one that was set, and the value of all items behind them.
-    pub fn parts(&self) -> (&[T], T)
-        ensures { self.now
-            ≡ result.0.now ++ replicate (length self.now - length result.0.now) result.1 }
-    {
-        (self.items.as_slice(), self.rest)
+        shown(self.items.as_slice(), self.ends.as_slice(), self.rest, at)
     }
 
     /// Puts an item in the place of another. It takes no memory.
@@ -69,13 +73,82 @@ impl<T: Copy> Filled<T> {
         requires { at < length self.old }
         ensures { self.new ≡ slice_set self.old at item }
     {
-        if at < self.items.len() {
-            self.items[at] = item;
-        } else {
-            fill(&mut self.items, self.rest, at);
-            self.items.push_reserved(item);
-        }
+        let rest = self.rest;
+        let end = page_end(&mut self.items, &mut self.ends, rest, self.count, at / PAGE);
+        let place = end - PAGE + at % PAGE;
+        self.items[place] = item;
     }
+}
+
+impl Filled<u64> {
+    /// Each item is a number of 64 bits, for a proof of its caller. It looks at none of them.
+    pub fn word_facts(&self)
+        ensures { IsTrue (list_all (λ w. nat_lt w (2 ^ 64)) self.now) }
+    {
+        words_fit(self.items.as_slice());
+        words_fit(&[self.rest]);
+    }
+}
+
+/// Each word is a number of 64 bits, for a proof of its caller. It does nothing.
+fn words_fit(words: &[u64])
+    ensures { (k : ℕ) → get_or words.now k 0 < 2 ^ 64 }
+{
+    let _words = words;
+}
+
+/// How many pages so many items need.
+fn pages_of(count: usize) -> usize
+    ensures { count ≤ result * 256 }
+{
+    if count == 0 {
+        return 0;
+    }
+    (count - 1) / PAGE + 1
+}
+
+/// The item at a place: that of its page, or the rest where the page was not made.
+fn shown<T: Copy>(items: &[T], ends: &[usize], rest: T, at: usize) -> T
+    requires there { at / 256 < length ends.now }
+    requires whole { 0 < get_or ends.now (at / 256) 0 → 256 ≤ get_or ends.now (at / 256) 0 }
+    requires within { get_or ends.now (at / 256) 0 ≤ length items.now }
+    ensures { result ≡ item_at items.now ends.now rest at }
+{
+    let page = at / PAGE;
+    let end = ends[page];
+    if end == 0 {
+        return rest;
+    }
+    let place = end - PAGE + at % PAGE;
+    items[place]
+}
+
+/// Where a page ends, which is made where it was not, with one value in each of its places. There is room
+/// for it.
+fn page_end<T: Copy>(
+    items: &mut Vec<T>,
+    ends: &mut Vec<usize>,
+    value: T,
+    count: usize,
+    page: usize,
+) -> usize
+    requires paged { ArePaged (length items.old.items) (vec_capacity items.old) ends.old.items count }
+    requires there { page < length ends.old.items }
+    ensures paged { ArePaged (length items.new.items) (vec_capacity items.new) ends.new.items count }
+    ensures end { result ≡ get_or ends.new.items page 0 }
+    ensures made { 0 < result }
+    ensures same { (at : ℕ) → item_at items.new.items ends.new.items value at
+        ≡ item_at items.old.items ends.old.items value at }
+{
+    let made = ends.as_slice();
+    let end = made[page];
+    if end > 0 {
+        return end;
+    }
+    let end = items.len() + PAGE;
+    fill(items, value, end);
+    ends[page] = end;
+    end
 }
 
 /// Appends items of one value until there are so many, for which there is room.

@@ -1,6 +1,6 @@
 //! The image of a set of tables.
 
-ghost use Rattle.std.specs.Prelude.{◌≡◌, ◌++◌, ◌+◌, ◌*◌, ◌-◌, ◌<◌, ◌≤◌, ◌^◌, List, length, map, min, replicate, Some, IfOk, OnOk, IsTrue};
+ghost use Rattle.std.specs.Prelude.{◌≡◌, ◌++◌, ◌+◌, ◌*◌, ◌-◌, ◌<◌, ◌≤◌, ◌^◌, List, length, map, min, Some, IfOk, OnOk, IsTrue};
 ghost use Rattle.std.specs.List.{All};
 ghost use Rattle.std.specs.Option.{option_copied};
 ghost use Rattle.byteorder.specs.Endian.{little_bytes};
@@ -137,30 +137,17 @@ fn push_unit(
         ++ (head_of node width slots ++ word_bytes words.now)) }
 {
     out.extend_from_slice(&head(node, width, slots))?;
-    let (written, rest) = words.parts();
-    push_words(out, written)?;
-    push_repeated(out, rest, words.len() - written.len())
+    push_words(out, words)
 }
 
 /// Appends words.
-fn push_words(out: &mut Vec<u8>, words: &[u64]) -> Result<(), AllocError>
+fn push_words(out: &mut Vec<u8>, words: &Filled<u64>) -> Result<(), AllocError>
     ensures { OnOk result (out.new.items ≡ out.old.items ++ word_bytes words.now) }
 {
-    for word in words {
+    for at in 0..words.len() {
+        let word = words.get(at);
         let mut bytes = [0u8; 8];
-        LittleEndian::write_u64(&mut bytes, *word);
-        out.extend_from_slice(&bytes)?;
-    }
-    Ok(())
-}
-
-/// Appends one word so many times.
-fn push_repeated(out: &mut Vec<u8>, word: u64, count: usize) -> Result<(), AllocError>
-    ensures { OnOk result (out.new.items ≡ out.old.items ++ word_bytes (replicate count word)) }
-{
-    let mut bytes = [0u8; 8];
-    LittleEndian::write_u64(&mut bytes, word);
-    for _ in 0..count {
+        LittleEndian::write_u64(&mut bytes, word);
         out.extend_from_slice(&bytes)?;
     }
     Ok(())

@@ -1,8 +1,8 @@
 //! The nodes that declarations make, before the nodes to which they refer have numbers.
 
 use crate::scoped::ScopedName;
-use crate::shared::SharedName;
 use dn_base::items::Items;
+use dn_base::text::Text;
 use dn_net::node::{Block, Role};
 
 /// A node as it is declared, with the full names of the nodes to which it refers.
@@ -12,7 +12,7 @@ pub struct Draft {
     pub line: u32,
     pub role: Role,
     /// The full name.
-    pub name: SharedName,
+    pub name: Text,
     pub accepts: Items<Block>,
     pub entries: Items<DraftEntry>,
     /// The full name of the node that serves the rest.

@@ -21,7 +21,6 @@ mod orders;
 mod recent;
 mod scope;
 mod scoped;
-mod shared;
 mod stack;
 pub mod text_table;
 mod titles;

@@ -13,7 +13,6 @@ use crate::names::NameTable;
 use crate::scoped::ScopedName;
 use crate::values::{Flaw, NameFault};
 use dn_base::items::Items;
-use dn_base::text::Text;
 use dn_net::net::Net;
 use dn_net::node::{Block, Dest, Entry, NodeDecl, Unit};
 use std::alloc::{AllocError, Global};
@@ -64,7 +63,7 @@ fn node_in(alloc: Global, names: &NameTable, draft: &Draft) -> Result<NodeDecl, 
         None => None,
     };
     Ok(NodeDecl {
-        text: Text::of(alloc, draft.name.as_str())?,
+        text: draft.name.share()?,
         role: draft.role,
         accepts: copy_blocks(alloc, draft.accepts.as_slice())?,
         entries: all_linked(alloc, names, draft.entries.as_slice())?,

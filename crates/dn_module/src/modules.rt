@@ -10,9 +10,9 @@ ghost use Rattle.dn_base.specs.Terms.{Answers};
 
 use crate::fault::ExpandFault;
 use crate::names::NameTable;
-use crate::shared::SharedName;
 use crate::titles::Titles;
 use dn_base::items::Items;
+use dn_base::text::Text;
 use dn_parse::syntax::{Body, Param, Stmt};
 use std::alloc::{AllocError, Global};
 
@@ -159,7 +159,7 @@ fn put<'a, 't>(
     ensures modules_err { OnErr result (modules.new.items ≡ modules.old.items) }
 {
     modules.reserve(1)?;
-    let name = SharedName::of(alloc, known.module.title)?;
+    let name = Text::of(alloc, known.module.title)?;
     let _ = names.add(name)?;
     modules.push_reserved(known);
     Ok(())

@@ -4,7 +4,7 @@ ghost use Rattle.std.specs.Prelude.{◌≡◌, [], ◌∷◌, ◌++◌, if◌the
 ghost use Rattle.std.specs.List.{list_any};
 ghost use Rattle.std.specs.Str.{bytes_eq};
 
-use crate::shared::SharedName;
+use dn_base::text::Text;
 use indexmap::IndexSet;
 use std::alloc::{AllocError, Global};
 use std::marker::Model;
@@ -50,7 +50,7 @@ impl NameTable {
 
     /// Adds a name, and answers whether it is new. One that is there already is not added again, and for
     /// want of memory the names are unchanged.
-    pub fn add(&mut self, name: SharedName) -> Result<bool, AllocError>
+    pub fn add(&mut self, name: Text) -> Result<bool, AllocError>
         requires room { length self.old < 1024 }
         ensures is_new { IfOk result (λ is_new. is_new ≡ not
             (list_any (bytes_eq name) self.old)) }
@@ -58,7 +58,7 @@ impl NameTable {
             (if is_new then self.old ++ name ∷ [] else self.old)) }
         ensures err { OnErr result (self.new ≡ self.old) }
     {
-        let is_new = self.names.insert(name.into_text())?;
+        let is_new = self.names.insert(name.into_shared())?;
         Ok(is_new)
     }
 }

@@ -10,9 +10,9 @@ use crate::draft::{Draft, DraftDest, DraftEntry, DraftUnit};
 use crate::recent::Recent;
 use crate::scope::Scope;
 use crate::scoped::ScopedName;
-use crate::shared::SharedName;
 use crate::values::{Flaw, NameFault, reference, shared_name, value, value_or, value_within};
 use dn_base::items::Items;
+use dn_base::text::Text;
 use dn_kind::kinds::Kinds;
 use dn_net::node::{Block, Role};
 use dn_parse::syntax::{BlockExpr, Decl, DeclRole, DestExpr, EntryExpr, NameExpr, Spec, UnitExpr};
@@ -116,13 +116,7 @@ fn node_draft(
 }
 
 /// A node that neither accepts nor maps anything. It takes no memory.
-fn bare_draft(
-    alloc: Global,
-    line: u32,
-    role: Role,
-    name: SharedName,
-    unit: Option<DraftUnit>,
-) -> Draft
+fn bare_draft(alloc: Global, line: u32, role: Role, name: Text, unit: Option<DraftUnit>) -> Draft
     ensures { result ≡ bare_draft line role name unit }
 {
     Draft {

@@ -4,8 +4,8 @@ ghost use Rattle.std.specs.Prelude.{◌≡◌, [], ◌∷◌, ◌++◌, ◌<◌,
 ghost use Rattle.dn_module.specs.Terms.{as_they_stand, node_by, numbers_by, prefix_of, under, value_for_word};
 
 use crate::scoped::ScopedName;
-use crate::shared::SharedName;
 use crate::words::Words;
+use dn_base::text::Text;
 use std::alloc::{AllocError, Global};
 use std::marker::Model;
 
@@ -29,7 +29,7 @@ pub struct Number<'a> {
 /// The use of a module: its full name, and what stands for the parameters.
 #[derive(Drop)]
 pub struct Within {
-    prefix: SharedName,
+    prefix: Text,
     words: Words,
 }
 
@@ -59,7 +59,7 @@ impl<'a> Scope<'a> {
 
     /// The body of a used module: the full name of the use, and what stands for the parameters. It takes no
     /// memory.
-    pub fn of_use(alloc: Global, prefix: SharedName, words: Words) -> Scope<'a>
+    pub fn of_use(alloc: Global, prefix: Text, words: Words) -> Scope<'a>
         ensures { result ≡ record { numbers = words.0; naming = under prefix words.1 } }
     {
         Scope {
@@ -112,7 +112,7 @@ impl<'a> Scope<'a> {
     }
 
     /// The full name that is put before the names of a module's body. `None` exactly outside of modules.
-    pub fn prefix(&self) -> Option<&SharedName>
+    pub fn prefix(&self) -> Option<&Text>
         ensures { option_map (λ t. t.now) result ≡ prefix_of self.now.naming }
     {
         match &self.within {

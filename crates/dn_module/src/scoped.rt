@@ -4,7 +4,7 @@ ghost use Rattle.std.specs.Prelude.{◌≡◌, [], ◌++◌, IfOk, IfSome, unwra
 ghost use Rattle.std.specs.Rc.{rc_str_bytes};
 ghost use Rattle.std.specs.String.{string_bytes};
 
-use crate::shared::SharedName;
+use dn_base::text::Text;
 use std::alloc::{AllocError, Global};
 use std::marker::Model;
 use std::rc::RcStr;
@@ -14,7 +14,7 @@ use std::rc::RcStr;
 #[derive(Drop)]
 pub struct ScopedName {
     /// The full name of the use, where it stands in the body of one.
-    front: Option<SharedName>,
+    front: Option<Text>,
     /// What stands behind it.
     own: RcStr,
 }
@@ -37,7 +37,7 @@ impl ScopedName {
     }
 
     /// The name in the body of a use, behind whose full name the text stands. It takes no memory.
-    pub fn within(front: SharedName, own: RcStr) -> ScopedName
+    pub fn within(front: Text, own: RcStr) -> ScopedName
         ensures { result ≡ front ++ rc_str_bytes own }
     {
         ScopedName {
@@ -76,7 +76,7 @@ impl ScopedName {
 }
 
 /// The full name of a use once more, where there is one.
-fn shared_front(front: &Option<SharedName>) -> Result<Option<SharedName>, AllocError>
+fn shared_front(front: &Option<Text>) -> Result<Option<Text>, AllocError>
     ensures { IfOk result (λ f. f ≡ front.now) }
 {
     match front {
@@ -86,7 +86,7 @@ fn shared_front(front: &Option<SharedName>) -> Result<Option<SharedName>, AllocE
 }
 
 /// A copy of the full name of a use, or no text where there is none.
-fn front_text(alloc: Global, front: &Option<SharedName>) -> Result<String, AllocError>
+fn front_text(alloc: Global, front: &Option<Text>) -> Result<String, AllocError>
     ensures { IfOk result (λ t. string_bytes t ≡ unwrap_or front.now []) }
 {
     match front {

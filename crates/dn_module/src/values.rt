@@ -12,7 +12,6 @@ use crate::fault::ExpandFault;
 use crate::recent::Recent;
 use crate::scope::Scope;
 use crate::scoped::ScopedName;
-use crate::shared::SharedName;
 use dn_base::text::Text;
 use dn_parse::syntax::{Expr, PartExpr};
 use std::alloc::{AllocError, Global};
@@ -191,16 +190,16 @@ pub fn declared_name(alloc: Global, scope: &Scope, name: &[PartExpr]) -> Result<
         }
         None => push_dotted(&mut text, scope, name)?,
     }
-    Ok(Text::from_string(text))
+    Ok(Text::from_string(text)?)
 }
 
 /// The same full name, which all who hold it share.
-pub fn shared_name(alloc: Global, scope: &Scope, name: &[PartExpr]) -> Result<SharedName, NameFault>
+pub fn shared_name(alloc: Global, scope: &Scope, name: &[PartExpr]) -> Result<Text, NameFault>
     ensures { Answers (λ x. x) name_fault_view result
         (full_name (in_declared scope.now (name_view name.now))) }
 {
     let text = declared_name(alloc, scope, name)?;
-    Ok(SharedName::of(alloc, text.as_str())?)
+    Ok(Text::of(alloc, text.as_str())?)
 }
 
 /// The same full name, behind that of the use.

@@ -16,6 +16,7 @@ use dn_base::items::Items;
 use indexmap::IndexMap;
 use std::alloc::{AllocError, Global};
 use std::marker::Model;
+use std::rc::RcStr;
 
 /// What a net keeps of a node beside its full name.
 #[derive(Drop)]
@@ -32,7 +33,7 @@ pub struct Parts {
 /// Contracts see the list of their declarations.
 #[derive(Drop)]
 pub struct Net {
-    nodes: IndexMap<String, Parts>,
+    nodes: IndexMap<RcStr, Parts>,
 }
 
 impl Parts {
@@ -68,16 +69,16 @@ impl Model for Net {
     ghost use Rattle.std.specs.Prelude.{List, ◌≢◌, ◌≤◌, length, map, IsTrue};
     ghost use Rattle.std.specs.List.{AllPairs, list_all};
     ghost use Rattle.dn_net.specs.Decode.{is_formed};
-    ghost use Rattle.std.specs.String.{string_bytes};
+    ghost use Rattle.std.specs.Rc.{rc_str_bytes};
     ghost use Rattle.dn_net.specs.declared.node.NodeDecl.{NodeDecl};
     ghost use Rattle.dn_net.specs.Legal.{node_limit};
     ghost use Rattle.dn_net.specs.Parts.{declaration_by, over_is_based};
 
     ghost Value = { List NodeDecl };
 
-    ghost view = { λ n. map (declaration_by (λ s. string_bytes s)) n.nodes.entries };
+    ghost view = { λ n. map (declaration_by (λ s. rc_str_bytes s)) n.nodes.entries };
 
-    ghost invariant = { λ n. record { small : length n.nodes.entries ≤ node_limit; formed : IsTrue (list_all is_formed (map (declaration_by (λ s. string_bytes s)) n.nodes.entries)); names_differ : AllPairs (λ (d e : NodeDecl). d.text ≢ e.text) (map (declaration_by (λ s. string_bytes s)) n.nodes.entries); based : IsTrue (list_all (λ e. over_is_based e.1.over) n.nodes.entries) } };
+    ghost invariant = { λ n. record { small : length n.nodes.entries ≤ node_limit; formed : IsTrue (list_all is_formed (map (declaration_by (λ s. rc_str_bytes s)) n.nodes.entries)); names_differ : AllPairs (λ (d e : NodeDecl). d.text ≢ e.text) (map (declaration_by (λ s. rc_str_bytes s)) n.nodes.entries); based : IsTrue (list_all (λ e. over_is_based e.1.over) n.nodes.entries) } };
 }
 
 impl Net {
@@ -117,7 +118,7 @@ impl Net {
             unit,
         } = decl;
         let parts = Parts::new(alloc, role, accepts, entries, over, unit)?;
-        let _ = self.nodes.insert(text.into_string(), parts)?;
+        let _ = self.nodes.insert(text.into_shared(), parts)?;
         Ok(number)
     }
 

@@ -1,13 +1,13 @@
 //! Parts of one sort, one behind another.
 
-ghost use Rattle.std.specs.Prelude.{◌<◌, map, IfOk};
+ghost use Rattle.std.specs.Prelude.{◌≡◌, ◌<◌, [], ◌∷◌, map, IfOk};
 ghost use Rattle.dn_token.specs.Terms.{cursor_view};
 ghost use Rattle.dn_parse.specs.Terms.{IsShorter, Reads, first_and, first_and_most};
 
 use crate::cursor::Halt;
 use dn_base::items::Items;
 use dn_token::cursor::Cursor;
-use std::alloc::Global;
+use std::alloc::{AllocError, Global};
 
 /// A part of which one or more may stand one behind another.
 pub(crate) trait Member<'a>: Drop {
@@ -65,8 +65,7 @@ pub(crate) fn eight_members<'a, M: Member<'a>>(
     ensures shorter { IfOk result (λ _. IsShorter tokens.new tokens.old) }
 {
     let first = M::first(alloc, tokens)?;
-    let mut members = Items::new(alloc);
-    members.push(first)?;
+    let mut members = one_member(alloc, first)?;
     let mut left = 7_u8;
     'list: while left > 0 {
         let next = M::next(alloc, tokens)?;
@@ -76,5 +75,14 @@ pub(crate) fn eight_members<'a, M: Member<'a>>(
         members.push(member)?;
         left -= 1;
     }
+    Ok(members)
+}
+
+/// The list of one member, in just the memory that it needs: most lists have no second one.
+fn one_member<M: Drop>(alloc: Global, member: M) -> Result<Items<M>, AllocError>
+    ensures { IfOk result (λ members. members ≡ member ∷ []) }
+{
+    let mut members = Items::from_vec(Vec::with_capacity(alloc, 1)?);
+    members.push(member)?;
     Ok(members)
 }

@@ -222,5 +222,5 @@ fn free_text(alloc: Global, net: &Net, text: &str) -> Result<Text, OutOfMemory>
 fn accepter_text(alloc: Global, text: &str, number: u16) -> Result<Text, OutOfMemory>
     ensures { IfOk result (λ t. t ≡ accepter_text text.now number) }
 {
-    Ok(Text::from_string(format!(in alloc; "{text}.acc{number}")?))
+    Ok(Text::from_string(format!(in alloc; "{text}.acc{number}")?)?)
 }

@@ -18,20 +18,6 @@ use Rattle.dn_image.specs.Image.{are_filled, is_filled, word_count}
 abbrev pub are_small : List ℕ → Bool
 are_small ws = list_all (λ w. nat_lt w (2 ^ 64)) ws
 
--- the words of a slice are so
-pub all_small : (ws : List ℕ) → ((i : ℕ) → get_or ws i 0 < 2 ^ 64) → IsTrue (are_small ws)
-all_small [] each = refl
-all_small (w ∷ ws) each = and_from (nat_lt w (2 ^ 64)) (are_small ws) (lt-ltb w (2 ^ 64) (each 0)) (all_small ws (λ i. each (suc i)))
-
--- and words of which those behind the last of a slice are all one value
-pub all_small_and : (ws : List ℕ) (n w : ℕ) → IsTrue (are_small ws) → IsTrue (are_small (w ∷ [])) → IsTrue (are_small (ws ++ replicate n w))
-all_small_and [] zero w each rest = refl
-all_small_and [] (suc n) w each rest =
-    and_from (nat_lt w (2 ^ 64)) (are_small (replicate n w)) (and_parts (nat_lt w (2 ^ 64)) true rest).0 (all_small_and [] n w each rest)
-all_small_and (v ∷ ws) n w each rest =
-    let b = and_parts (nat_lt v (2 ^ 64)) (are_small ws) each in
-    and_from (nat_lt v (2 ^ 64)) (are_small (ws ++ replicate n w)) b.0 (all_small_and ws n w b.1 rest)
-
 -- a table has as many words as its kind and its slots ask for
 width_is : (k : Option Meaning) (width : ℕ) → IsTrue (is_wide k width) → width ≡ width_by k
 width_is None width e = cc

@@ -119,7 +119,7 @@ impl Refusal {
         ensures { IfOk result (λ r. r ≡ by_text rule) }
     {
         let name = rule.name();
-        let text = Text::from_string(format!(in alloc; "refused: {name}")?);
+        let text = Text::from_string(format!(in alloc; "refused: {name}")?)?;
         Ok(Refusal { rule, text })
     }
 
@@ -128,7 +128,7 @@ impl Refusal {
         ensures { IfOk result (λ r. r ≡ by_line rule line) }
     {
         let name = rule.name();
-        let text = Text::from_string(format!(in alloc; "refused: line {line} {name}")?);
+        let text = Text::from_string(format!(in alloc; "refused: line {line} {name}")?)?;
         Ok(Refusal { rule, text })
     }
 
@@ -137,7 +137,7 @@ impl Refusal {
         ensures { IfOk result (λ r. r ≡ by_limit line limit) }
     {
         let rule = Rule::TooMany;
-        let text = Text::from_string(format!(in alloc; "refused: line {line} TooMany {limit}")?);
+        let text = Text::from_string(format!(in alloc; "refused: line {line} TooMany {limit}")?)?;
         Ok(Refusal { rule, text })
     }
 
@@ -146,7 +146,7 @@ impl Refusal {
         ensures { IfOk result (λ r. r ≡ by_shown rule what.now) }
     {
         let name = rule.name();
-        let text = Text::from_string(format!(in alloc; "refused: {name} {what}")?);
+        let text = Text::from_string(format!(in alloc; "refused: {name} {what}")?)?;
         Ok(Refusal { rule, text })
     }
 

@@ -14,7 +14,6 @@ use crate::ids::Ids;
 use crate::machine::Machine;
 use crate::reshape::Unmade;
 use dn_base::device::{MakeFault, Tables};
-use dn_base::filled::Filled;
 use dn_base::items::Items;
 use dn_book::book::Book;
 use dn_flat::flat::{Flat, flatten};
@@ -150,22 +149,6 @@ pub fn keep_flats(
     Ok(())
 }
 
-/// Each word is one of 64 bits, for a proof of its caller. It does nothing.
-fn words_are_small(words: &[u64])
-    ensures { IsTrue (list_all (λ w. nat_lt w (2 ^ 64)) words.now) }
-{
-    let _words = words;
-}
-
-/// Each word of a unit is one of 64 bits, for a proof of its caller. It looks at none of them.
-fn are_small(words: &Filled<u64>)
-    ensures { IsTrue (list_all (λ w. nat_lt w (2 ^ 64)) words.now) }
-{
-    let (written, rest) = words.parts();
-    words_are_small(written);
-    words_are_small(&[rest]);
-}
-
 /// The words of a node are of 64 bits, for a proof of its caller. It looks at none of them.
 fn has_small_words(net: &Net, tables: &TableSet, node: u16)
     requires units { units_of tables.now ≡ map (λ n. n.unit) net.now }
@@ -174,7 +157,7 @@ fn has_small_words(net: &Net, tables: &TableSet, node: u16)
 {
     tables.facts();
     if net.is_unit(node) {
-        are_small(tables.words(node));
+        tables.words(node).word_facts();
     }
 }
 

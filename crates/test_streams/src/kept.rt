@@ -45,7 +45,7 @@ fn keeps_items_and_texts(rt: HostRuntime) -> Result<(), Fail> {
     assert_eq!(rt; again.as_slice(), [1, 2].as_slice());
     let text = Text::of(alloc, "núcleo")?;
     assert_eq!(rt; text.as_str(), "núcleo");
-    let again = Text::from_string(text.into_string());
+    let again = text.share()?;
     assert_eq!(rt; again.as_str(), "núcleo");
     Ok(())
 }

@@ -9,5 +9,5 @@ pub returns-clause-is_new : goal.returns-clause-is_new
 returns-clause-is_new c =
     let keys = c.self.inside.names.keys in
     c.in_ok-is_new.ensures.added
-    ∙ ap (λ (t : List ℕ). not (list_any (λ k. bytes_eq t (rc_str_bytes k)) keys)) c.into_text.ensures
+    ∙ ap (λ (t : List ℕ). not (list_any (λ k. bytes_eq t (rc_str_bytes k)) keys)) c.into_shared.ensures
     ∙ ap not (sym (list_any-map (λ s. rc_str_bytes s) (bytes_eq c.args.name) keys) ∙ ap (list_any (bytes_eq c.args.name)) c.self.view_is)
