@@ -13,6 +13,7 @@ use crate::spans::block_of;
 use dn_base::OutOfMemory;
 use dn_base::items::Items;
 use dn_interval::{End, Row, Rows, Seg, Span, TOP};
+use dn_net::checked::CheckedNet;
 use dn_net::node::{Dest, Entry};
 use dn_walk::leg::node_legs;
 use dn_walk::level::{extend_row, met_by};
