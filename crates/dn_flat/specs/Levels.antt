@@ -47,7 +47,8 @@ pub record IsLevels (net : List NodeDecl) (node : ℕ) (levels : Levels) : Type 
   pub stops : AreStops net node levels.stops
   -- each name of a row is in a node that is there
   pub stops_within : IsTrue (list_all (λ rows. ends_within (length net) rows) levels.stops)
-  pub units : (a : ℕ) (y : End) → a ≤ TOP → levels_give levels.stops a y ≡ true → is_among y.node levels.units ≡ true
+  pub units : (a : ℕ) (y : End) → a ≤ TOP → levels_give levels.stops a y ≡ true →
+      is_among y.node levels.units ≡ true
 
 -- there are such levels for each node below this one
 pub record AreLevelsBelow (net : List NodeDecl) (node : ℕ) (nodes : List Levels) : Type 0 where

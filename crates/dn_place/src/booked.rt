@@ -1,13 +1,17 @@
 //! The first admissible placement beside the grants of a book.
 
-ghost use Rattle.std.specs.Prelude.{◌≡◌, map, None, IfOk, IfSome, IsTrue};
+ghost use Rattle.std.specs.Prelude.{◌≡◌, ◌≤◌, ◌+◌, map, slice_get, Some, None, IfOk, IfSome, IsTrue};
+ghost use Rattle.dn_net.specs.Terms.{is_agent_at, top};
+ghost use Rattle.dn_kind.specs.Terms.{are_rights};
 ghost use Rattle.dn_placement.specs.declared.request.Request.{Request};
 ghost use Rattle.dn_placement.specs.Terms.{IsFirst, NoneSuited};
 ghost use Rattle.dn_book.specs.Terms.{IsKept, slots_of};
 ghost use Rattle.dn_view.specs.Terms.{IsSystem};
 ghost use Rattle.dn_place.specs.Terms.{IsReach, IsRequest};
 
+use crate::entry::entry_of;
 use crate::first::first_from;
+use crate::ground::Ground;
 use crate::reach::{Reach, reach_of};
 use crate::tables::is_barred;
 use dn_base::OutOfMemory;
@@ -66,21 +70,22 @@ pub fn first_in_book_from(
     first_from(alloc, system, tables, request, reach)
 }
 
-/// Whether no hop can stand where the address leads that is asked for: it has no stop, or no hop may take
-/// the slot of its stop. No request of the agent has an admissible placement there.
-pub fn is_shut(book: &Book, system: System, agent: u16, reach: &Reach) -> bool
+/// Whether no hop can stand where an address of an agent leads: it has no stop, or no hop may take the slot
+/// of its stop. No request of the agent has an admissible placement there. It takes no memory.
+pub fn is_shut(book: &Book, system: System, agent: u16, at: u64) -> bool
     requires system { IsSystem (λ k. meaning (k.vtable, k.value)) system }
     requires kept { IsKept system.net.now
         (map (λ k. meaning (k.vtable, k.value)) system.kinds.now.list.items)
         book.now.grants book.now.set }
-    requires reach { IsReach system.net.now agent reach.now }
+    requires agent { IsTrue (is_agent_at (slice_get system.net.now agent)) }
     ensures { IsTrue result → (rq : Request) → rq.agent ≡ agent → NoneSuited system.entry.net.now
-        (slots_of system.entry.net.now book.now.grants) rq reach.now.at }
+        (slots_of system.entry.net.now book.now.grants) rq (Some at) }
 {
-    if reach.at.is_none() {
-        return false;
-    }
-    let Some(entry) = reach.entry else {
+    let ground = Ground {
+        net: system.net,
+        flats: system.flats,
+    };
+    let Some(entry) = entry_of(ground, agent, Some(at)) else {
         return true;
     };
     let tables = book.tables();

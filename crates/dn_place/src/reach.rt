@@ -13,7 +13,8 @@ use dn_interval::End;
 use dn_view::system::System;
 use std::alloc::Global;
 
-/// Where the hops of an agent's requests can stand; where an address is asked for, of those at it: for each node whether a first, a second or a third hop from the agent's end can stand in it.
+/// Where the hops of an agent's requests can stand, at one address where one is asked for: for each node
+/// whether a first, a second or a third hop from the agent's end can stand in it.
 #[derive(Drop)]
 pub struct Reach {
     /// The address that is asked for, if one is.

@@ -61,10 +61,10 @@ pub fn least_vector(alloc: Global, asked: Asked) -> Result<Option<Found>, OutOfM
         NoVector asked.entry.system.net.now asked.entry.book.now.grants asked.entry.agent
         asked.entry.line asked.entry.node) }
 {
-    let reach = reach_of(alloc, asked.system, asked.agent, Some(asked.line))?;
-    if is_shut(asked.book, asked.system, asked.agent, &reach) {
+    if is_shut(asked.book, asked.system, asked.agent, asked.line) {
         return Ok(None);
     }
+    let reach = reach_of(alloc, asked.system, asked.agent, Some(asked.line))?;
     let free = free_vectors(alloc, asked.system.net, asked.book.grants(), asked.node)?;
     for span in free.spans() {
         if let Some(found) = least_of(alloc, asked, &reach, *span)? {

@@ -1,8 +1,6 @@
 use Rattle.std.proofs.Common.{◌≡◌, ◌∙◌, refl, sym, ap, subst, ℕ, true}
 use Rattle.dn_base.proofs.Lists.{take_past}
 use Rattle.dn_interval.specs.Spans.{AreMaximal, has}
-use Rattle.dn_placement.specs.Order.{NoneSuited}
-use Rattle.dn_book.specs.Book.{slots_of}
 use Rattle.dn_vector.specs.Vectors.{is_free_vector, vector_request}
 use Rattle.dn_vector.proofs.Allowed.{vectors_there}
 use Rattle.dn_vector.proofs.Leasts.{one_more, least_here, none_free}
@@ -17,10 +15,7 @@ free_in g c =
 
 pub returns-then-is_shut-clause-none : goal.returns-then-is_shut-clause-none
 returns-then-is_shut-clause-none g c =
-    let net = c.args.asked.system.net.now in
-    let book = c.args.asked.book.now.grants in
-    λ none vector free. subst (λ at. NoneSuited net (slots_of net book) (vector_request c.args.asked.agent c.args.asked.node vector) at) c.in_ok-reach.ensures.at
-    (c.is_shut.ensures c.if-is_shut.true (vector_request c.args.asked.agent c.args.asked.node vector) refl)
+    λ none vector free. c.is_shut.ensures c.if-is_shut.true (vector_request c.args.asked.agent c.args.asked.node vector) refl
 
 pub free_vectors-requires-clause-there : goal.free_vectors-requires-clause-there
 free_vectors-requires-clause-there g c =
