@@ -1,10 +1,11 @@
 use Rattle.std.proofs.Common.{◌≡◌, ◌∙◌, ℕ, sym, subst, map, Some, None}
 use Rattle.dn_interval.specs.declared.row.End.{End}
+use Rattle.dn_net.proofs.Stops.{agent_there}
 use Rattle.dn_placement.specs.Slots.{Slots, slots_of_set}
 use Rattle.dn_book.specs.Book.{slots_of}
 use Rattle.dn_place.specs.Slots.{IsBarred}
 use Rattle.dn_place.proofs.Proper.{kept_slots}
-use Rattle.dn_place.proofs.Readies.{agent_there, formed, one_stop}
+use Rattle.dn_place.proofs.Readies.{formed, one_stop}
 use Rattle.dn_place.proofs.Shut.{shut_off}
 use Rattle.dn_place.proofs.booked.is_shut.Goals as goal
 
