@@ -29,8 +29,8 @@ proper_slots net kinds book set lawful kept =
     }
 
 -- the slots of a set that keeps a book are those that the book leaves
-pub kept_slots : {K : Type 0} {V : K → Type 0} (means : DynBox K Global V → Meaning) (system : System K V) (book : List Grant) (set : List NodeTable) →
+pub system_slots : {K : Type 0} {V : K → Type 0} (means : DynBox K Global V → Meaning) (system : System K V) (book : List Grant) (set : List NodeTable) →
     IsSystem means system → IsSet set → IsKept system.net.now (map means system.kinds.now.list.items) book set →
     ◌≡◌ {A = Slots} (slots_of_set (map means system.kinds.now.list.items) set) (slots_of system.net.now book)
-kept_slots means system book set are is kept =
+system_slots means system book set are is kept =
     kept_slots_are_the_books system.net.now (map means system.kinds.now.list.items) book set (all_of_map means system.kinds.now.list.items are.lawful) are.legal.shaped is kept

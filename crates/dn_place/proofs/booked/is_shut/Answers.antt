@@ -4,7 +4,7 @@ use Rattle.dn_net.proofs.Stops.{agent_there}
 use Rattle.dn_placement.specs.Slots.{Slots, slots_of_set}
 use Rattle.dn_book.specs.Book.{slots_of}
 use Rattle.dn_place.specs.Slots.{IsBarred}
-use Rattle.dn_place.proofs.Proper.{kept_slots}
+use Rattle.dn_place.proofs.Proper.{system_slots}
 use Rattle.dn_place.proofs.Readies.{formed, one_stop}
 use Rattle.dn_place.proofs.Shut.{shut_off}
 use Rattle.dn_place.proofs.booked.is_shut.Goals as goal
@@ -33,7 +33,7 @@ returns g c = λ yes.
     let ks = map (λ k. (goal.UnitKind-dyn g (k.vtable, k.value)).meaning k.value) c.args.system.kinds.now.list.items in
     let net = c.args.system.net.now in
     let set = c.tables-tables.result.now in
-    let slots = kept_slots _ c.args.system c.args.book.now.grants set c.requires.system (record { few = c.facts.ensures.few; sized = c.facts.ensures.sized }) (rw c.tables-tables.ensures c.requires.kept) in
+    let slots = system_slots _ c.args.system c.args.book.now.grants set c.requires.system (record { few = c.facts.ensures.few; sized = c.facts.ensures.sized }) (rw c.tables-tables.ensures c.requires.kept) in
     shut_off net (slots_of net c.args.book.now.grants) c.args.agent (Some c.args.at) c.entry_of.result c.entry_of.ensures (asked c.args.at) (λ z e. subst (λ (s : Slots). IsBarred net s z) slots (subst (λ (w : End). IsBarred net (slots_of_set ks set) w) (some c.in-Some.entry z (sym c.in-Some.is ∙ e)) (c.is_barred.ensures yes)))
   where
     some : (a b : End) → Some a ≡ Some b → a ≡ b

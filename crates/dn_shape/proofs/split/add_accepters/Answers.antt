@@ -6,12 +6,12 @@ use Rattle.dn_shape.proofs.Divided.{one_more}
 use Rattle.dn_shape.proofs.Read.{rest_at, one_node}
 use Rattle.dn_shape.proofs.split.add_accepters.Goals as goal
 
-pub add_accepter-requires-clause-few : goal.add_accepter-requires-clause-few
-add_accepter-requires-clause-few c =
+pub add_accepter-requires : goal.add_accepter-requires
+add_accepter-requires c =
     let net = c.args.checked.net.now in
     let r = rest_at net c.loop-node.node (omega (arith, c.nodes-node-end.ensures, c.loop-node-test.true)) in
     let rest : divided_count (drop c.loop-node.node net) ≡ new_nodes r.node + divided_count (drop (c.loop-node.node + 1) net) = ap divided_count r.rest in
-    λ n at. let same : new_nodes r.node ≡ new_nodes n = ap new_nodes (one_node _ r.node n r.at at) in omega (arith, c.loop-node.invariant.few, rest, same)
+    record { few = λ n at. let same : new_nodes r.node ≡ new_nodes n = ap new_nodes (one_node _ r.node n r.at at) in omega (arith, c.loop-node.invariant.few, rest, same) }
 
 pub loop-node-preserved : goal.loop-node-preserved
 loop-node-preserved c =

@@ -12,7 +12,7 @@ use Rattle.dn_tool.proofs.output.write_net.Goals as goal
 first_text : (kinds : List Meaning) (net : List NodeDecl) (i : ℕ) (text : List ℕ) → i < length net → text ≡ statement_text_at kinds net (slice_get net i) → flat_map (statement_text kinds net) (drop i net) ≡ text ++ flat_map (statement_text kinds net) (drop (i + 1) net)
 first_text kinds net i text l is =
     let next = next_text (statement_text kinds net) net i l in
-    next.text ∙ ap (λ t. t ++ flat_map (statement_text kinds net) (drop (i + 1) net)) (sym (is ∙ ap (statement_text_at kinds net) next.at))
+    next.text ∙ ap (λ (t : List ℕ). t ++ flat_map (statement_text kinds net) (drop (i + 1) net)) (sym (is ∙ ap (statement_text_at kinds net) next.at))
 
 pub loop-node-init : goal.loop-node-init
 loop-node-init g c =

@@ -12,7 +12,7 @@ use Rattle.dn_tool.proofs.output.write_rows.Goals as goal
 
 -- the lines of the first rows that are left, and those of the rows behind them
 first_lines : (net : List NodeDecl) (rest piece later : List Row) (text : List ℕ) → rest ≡ piece ++ later → text ≡ rows_text net (map seen_view piece) → rows_text net (map seen_view rest) ≡ text ++ rows_text net (map seen_view later)
-first_lines net rest piece later text e is = rows_parted net rest piece later e ∙ ap (λ l. l ++ rows_text net (map seen_view later)) (sym is)
+first_lines net rest piece later text e is = rows_parted net rest piece later e ∙ ap (λ (l : List ℕ). l ++ rows_text net (map seen_view later)) (sym is)
 
 pub loop-piece-init : goal.loop-piece-init
 loop-piece-init g c =
