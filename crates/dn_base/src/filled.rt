@@ -81,6 +81,22 @@ impl<T: Copy> Filled<T> {
 }
 
 impl Filled<u64> {
+    /// From which place on each item is 0: behind the last page that was made, or behind all where the items of the
+    /// others are not 0. Time of the pages.
+    pub fn zeros_from(&self) -> usize
+        ensures { (k : ℕ) → result ≤ k → get_or self.now k 0 ≡ 0 }
+    {
+        if self.rest != 0 {
+            return self.count;
+        }
+        let ends = self.ends.as_slice();
+        let mut pages = ends.len();
+        while pages > 0 && ends[pages - 1] == 0 {
+            pages -= 1;
+        }
+        pages * PAGE
+    }
+
     /// Each item is a number of 64 bits, for a proof of its caller. It looks at none of them.
     pub fn word_facts(&self)
         ensures { IsTrue (list_all (λ w. nat_lt w (2 ^ 64)) self.now) }

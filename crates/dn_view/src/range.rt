@@ -82,11 +82,7 @@ pub(crate) fn held_end(system: System, tables: &TableSet, node: u16, unit: &Unit
         node result }
 {
     let slots = u64::from(unit.slots);
-    let (written, rest) = tables.words(node).parts();
-    if rest != 0 {
-        return slots;
-    }
-    slots.min(written.len() as u64)
+    slots.min(tables.words(node).zeros_from() as u64)
 }
 
 /// From which slot to before which one a placement has records in a unit.
