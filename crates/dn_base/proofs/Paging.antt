@@ -1,7 +1,7 @@
 -- Lists whose items are kept page by page: what is shown where a page is made, and where an item is set.
 use Rattle.std.proofs.Common.{◌≡◌, ◌≢◌, ◌∙◌, ap, sym, refl, arith, ℕ, zero, suc, ◌+◌, ◌-◌, ◌*◌, ◌/◌, ◌%◌, ◌^◌, ◌<◌, ◌≤◌, ◌⊎◌, inl, inr, nat_lt, List, [], ◌∷◌, ◌++◌, length, map, get_or, replicate, set, slice_set, IsTrue}
 use Rattle.std.specs.List.{list_all, range_with_len}
-use Rattle.std.proofs.lemmas.List.{length-set, length-replicate, get_or-append-add, get_or-replicate, get_or-set_other, get_or-set_same, get_or_append_left}
+use Rattle.std.proofs.lemmas.List.{get_or_past, length-set, length-replicate, get_or-append-add, get_or-replicate, get_or-set_other, get_or-set_same, get_or_append_left}
 use Rattle.std.proofs.lemmas.List.FromFn.{fill_by_all, get_or-map-range_with_len, length-map-range_with_len}
 use Rattle.dn_base.proofs.Booleans.{and_from}
 use Rattle.dn_base.proofs.Orders.{cases_eq, cases_lt, lt-ltb}
@@ -249,3 +249,10 @@ all_fit items ends rest count each h = go 0 count
     go a zero = refl
     go a (suc m) =
         and_from (nat_lt (item_at items ends rest a) (2 ^ 64)) (list_all (λ w. nat_lt w (2 ^ 64)) (map (item_at items ends rest) (range_with_len (a + 1) m))) (lt-ltb (item_at items ends rest a) (2 ^ 64) (fits (get_or ends (a / 256) 0) (a % 256))) (go (a + 1) m)
+
+-- behind the last page that was made each item is the rest, and behind the last item there is none
+pub zeros_behind : (items ends : List ℕ) (rest count pages : ℕ) → rest ≡ 0 → ((page : ℕ) → pages ≤ page → get_or ends page 0 ≡ 0) → (k : ℕ) → pages * 256 ≤ k → get_or (paged_items items ends rest count) k 0 ≡ 0
+zeros_behind items ends rest count pages none made k far = elim (cases_lt k count) [
+  | inl l ↦ (let m : pages ≤ k / 256 = omega (arith, far) in item_shown rest items ends count k 0 l ∙ ap (λ e. item_by items rest e (k % 256)) (made (k / 256) m) ∙ none)
+  | inr m ↦ get_or_past (paged_items items ends rest count) k 0 (let e = length-map-range_with_len (item_at items ends rest) 0 count in omega (arith, e, m))
+]
