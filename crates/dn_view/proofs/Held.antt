@@ -48,21 +48,10 @@ none_past net kinds set fits node slot u at past =
     by (Some k) None = refl
     by (Some k) (Some ws) = rw past refl
 
--- what stands behind the written words is 0
-behind_written : (ws : List ℕ) (n at : ℕ) → length ws ≤ at → ◌≡◌ {A = ℕ} (get_or (ws ++ replicate n 0) at 0) 0
-behind_written [] n at l = zeros n at
-  where
-    zeros : (n at : ℕ) → ◌≡◌ {A = ℕ} (get_or (replicate n 0) at 0) 0
-    zeros zero at = refl
-    zeros (suc n) zero = refl
-    zeros (suc n) (suc at) = zeros n at
-behind_written (w ∷ ws) n zero l = absurd (omega arith)
-behind_written (w ∷ ws) n (suc at) l = behind_written ws n at (omega arith)
-
--- of a slot past the last one of the unit, and of one behind all words that were ever set where the others are 0, it keeps none
-pub none_behind : (net : List NodeDecl) (kinds : List Meaning) (set : List NodeTable) → All IsLawful kinds → FitsNet net kinds set → IsSet set → (node : ℕ) (u : UnitPart) → unit_at net node ≡ Some u → (written : List ℕ) (n : ℕ) → words_in set node ≡ written ++ replicate n 0 → (slot : ℕ) → (u.slots ≤ slot) ⊎ (length written ≤ slot) → record_kept kinds set node slot ≡ None
-none_behind net kinds set lawful fits is node u at written n words slot (inl l) = held_past net (record_kept kinds set) (kept_are_held net kinds set lawful fits) node slot u at l
-none_behind net kinds set lawful fits is node u at written n words slot (inr l) = by (cases_lt slot u.slots)
+-- of a slot past the last one of the unit, and of one from which on all words are 0, it keeps none
+pub none_behind : (net : List NodeDecl) (kinds : List Meaning) (set : List NodeTable) → All IsLawful kinds → FitsNet net kinds set → IsSet set → (node : ℕ) (u : UnitPart) → unit_at net node ≡ Some u → (end : ℕ) → ((k : ℕ) → end ≤ k → get_or (words_in set node) k 0 ≡ 0) → (slot : ℕ) → (u.slots ≤ slot) ⊎ (end ≤ slot) → record_kept kinds set node slot ≡ None
+none_behind net kinds set lawful fits is node u at end zeros slot (inl l) = held_past net (record_kept kinds set) (kept_are_held net kinds set lawful fits) node slot u at l
+none_behind net kinds set lawful fits is node u at end zeros slot (inr l) = by (cases_lt slot u.slots)
   where
     unit : unit_in set node ≡ Some u
     unit = unit_fits net kinds set fits node ∙ at
@@ -76,10 +65,10 @@ none_behind net kinds set lawful fits is node u at written n words slot (inr l) 
         let is_u : t.unit ≡ Some u = sym (ap unit_of_table e) ∙ unit in
         let s = sized_unit t u (subst (λ o. IsTrue (is_sized_by t o)) is_u (list_all-at is_sized set node t is.sized e)) in
         let spelled : slice_get (words_of set) node ≡ Some t.words = slice_get-map (λ (x : NodeTable). x.words) set node ∙ ap (option_map (λ (x : NodeTable). x.words)) e in
-        let ws : t.words ≡ written ++ replicate n 0 = sym (ap words_of_table e) ∙ words in
+        let ws : words_in set node ≡ t.words = ap words_of_table e in
         let room : slot * t.width + t.width ≤ length t.words = slot_room slot u.slots t.width (length t.words) m s.words in
-        let far : length written ≤ slot * t.width + (t.width - 1) = omega (arith, mul-le-mul_left slot s.least, s.least, l) in
-        let gate : ◌≡◌ {A = ℕ} 0 (gate_word (slot_words t.width t.words slot)) = gate_of_width t.width slot t.words 0 s.least room (sym (ap (λ (x : List ℕ). get_or x (slot * t.width + (t.width - 1)) 0) ws ∙ behind_written written n (slot * t.width + (t.width - 1)) far)) in
+        let far : end ≤ slot * t.width + (t.width - 1) = omega (arith, mul-le-mul_left slot s.least, s.least, l) in
+        let gate : ◌≡◌ {A = ℕ} 0 (gate_word (slot_words t.width t.words slot)) = gate_of_width t.width slot t.words 0 s.least room (sym (subst (λ (x : List ℕ). get_or x (slot * t.width + (t.width - 1)) 0 ≡ 0) ws (zeros (slot * t.width + (t.width - 1)) far))) in
         ap (λ o. record_of_unit kinds o (slice_get (words_of set) node) slot) unit
         ∙ ap (λ o. record_of_unit kinds (Some u) o slot) spelled
         ∙ none_by_gate kinds u t.width slot t.words lawful (width_of_kind kinds t.width t.unit u is_u (list_all-at (λ (x : NodeTable). fits_by kinds x.width x.unit) set node t fits.wide e)) room (sym gate)

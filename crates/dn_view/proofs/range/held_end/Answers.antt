@@ -1,5 +1,6 @@
-use Rattle.std.proofs.Common.{◌≡◌, ◌∙◌, ◌⊎◌, ◌≤◌, ◌-◌, ◌++◌, ℕ, inl, inr, IsSome, Some, length, map, replicate, sym, subst, ap, refl, arith}
+use Rattle.std.proofs.Common.{◌≡◌, ◌∙◌, ◌⊎◌, ◌≤◌, ℕ, inl, inr, IsSome, Some, get_or, map, List, sym, subst, ap, refl, arith}
 use Rattle.std.proofs.lemmas.Bool.{cases_lt}
+use Rattle.dn_tables.specs.Set.{words_in}
 use Rattle.dn_tables.proofs.Slots.{all_of_map}
 use Rattle.dn_tables.proofs.Units.{unit_fits}
 use Rattle.dn_kind.proofs.Held.{held_past}
@@ -11,29 +12,16 @@ words-requires g c =
     let kinds = map (λ k. (goal.UnitKind-dyn g (k.vtable, k.value)).meaning k.value) c.args.system.kinds.now.list.items in
     subst (λ o. IsSome o) (sym (unit_fits c.args.system.net.now kinds c.args.tables.now c.requires.fits c.args.node ∙ c.requires.unit)) refl
 
-pub returns-then-rest-ne0 : goal.returns-then-rest-ne0
-returns-then-rest-ne0 g c =
-    let kinds = map (λ k. (goal.UnitKind-dyn g (k.vtable, k.value)).meaning k.value) c.args.system.kinds.now.list.items in
-    let lawful = all_of_map _ c.args.system.kinds.now.list.items c.requires.system.lawful in
-    let held = kept_are_held c.args.system.net.now kinds c.args.tables.now lawful c.requires.fits in
-    record {
-      most = omega (arith, c.from-slots.ensures);
-      none = λ slot l. held_past c.args.system.net.now _ held c.args.node slot c.args.unit.now c.requires.unit (omega (arith, c.from-slots.ensures, l));
-    }
-
 pub returns : goal.returns
 returns g c =
     let kinds = map (λ k. (goal.UnitKind-dyn g (k.vtable, k.value)).meaning k.value) c.args.system.kinds.now.list.items in
     let net = c.args.system.net.now in
     let set = c.args.tables.now in
     let lawful = all_of_map _ c.args.system.kinds.now.list.items c.requires.system.lawful in
-    let written = c.parts-rest.result.0.now in
-    let zero : c.parts-rest.result.1 ≡ 0 = c.if-rest-ne0.false in
-    let behind = length c.words.result.now - length written in
-    let words = sym c.words.ensures.value ∙ c.parts-rest.ensures ∙ ap (λ n. written ++ replicate behind n) zero in
+    let zeros : (k : ℕ) → c.zeros_from.result ≤ k → get_or (words_in set c.args.node) k 0 ≡ 0 = subst (λ (ws : List ℕ). (k : ℕ) → c.zeros_from.result ≤ k → get_or ws k 0 ≡ 0) c.words.ensures.value c.zeros_from.ensures in
     record {
       most = omega (arith, c.from-slots.ensures);
-      none = λ slot l. none_behind net kinds set lawful c.requires.fits c.words.ensures.set c.args.node c.args.unit.now c.requires.unit written behind words slot
+      none = λ slot l. none_behind net kinds set lawful c.requires.fits c.words.ensures.set c.args.node c.args.unit.now c.requires.unit c.zeros_from.result zeros slot
           (elim (cases_lt slot c.args.unit.now.slots) [
             | inl m ↦ inr (omega (arith, c.from-slots.ensures, l, m))
             | inr m ↦ inl m
