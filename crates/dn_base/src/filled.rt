@@ -148,9 +148,11 @@ fn page_end<T: Copy>(
     count: usize,
     page: usize,
 ) -> usize
-    requires paged { ArePaged (length items.old.items) (vec_capacity items.old) ends.old.items count }
+    requires paged { ArePaged (length items.old.items) (vec_capacity items.old)
+        ends.old.items count }
     requires there { page < length ends.old.items }
-    ensures paged { ArePaged (length items.new.items) (vec_capacity items.new) ends.new.items count }
+    ensures paged { ArePaged (length items.new.items) (vec_capacity items.new)
+        ends.new.items count }
     ensures end { result ≡ get_or ends.new.items page 0 }
     ensures made { 0 < result }
     ensures same { (at : ℕ) → item_at items.new.items ends.new.items value at

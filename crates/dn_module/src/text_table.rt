@@ -63,7 +63,8 @@ impl TextTable {
     /// Adds a text, and answers whether it is new. One that is there already is not added again, and for
     /// want of memory the texts are unchanged.
     pub fn add(&mut self, alloc: Global, text: &str) -> Result<bool, AllocError>
-        ensures is_new { IfOk result (λ is_new. is_new ≡ not (list_any (bytes_eq text.now) self.old)) }
+        ensures is_new { IfOk result (λ is_new. is_new
+            ≡ not (list_any (bytes_eq text.now) self.old)) }
         ensures added { IfOk result (λ is_new. self.new ≡
             (if is_new then self.old ++ text.now ∷ [] else self.old)) }
         ensures err { OnErr result (self.new ≡ self.old) }

@@ -132,8 +132,8 @@ pub(crate) fn push_sent(
     }
 }
 
-/// The part of a segment whose names stand in a slot, with the names to which its record sends them: that of the slot's
-/// first address is told by the record.
+/// The part of a segment whose names stand in a slot, with the names to which its record sends them: that of
+/// the slot's first address is told by the record.
 fn sent_part(unit: &Unit, record: Record, seg: Seg, slot: u64) -> Seg
     requires plain { IsTrue (is_plain_unit_shape (unit_shape unit.now)) }
     requires within { IsTrue (is_within (unit_shape unit.now) «record») }
