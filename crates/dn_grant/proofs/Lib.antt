@@ -1,2 +1,2 @@
 pub mod Allowed
-pub mod Nearest
+pub mod Unaccepted

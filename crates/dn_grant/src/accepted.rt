@@ -1,16 +1,17 @@
 //! The first address of a buffer that its node does not accept, found by the node's blocks.
 
-ghost use Rattle.std.specs.Prelude.{◌≡◌, ℕ, ◌≤◌, ◌<◌, true, false, length, slice_get};
-ghost use Rattle.dn_net.specs.Terms.{is_accepted_at};
-ghost use Rattle.dn_grant.specs.Terms.{nearer_address, refused_address};
+ghost use Rattle.std.specs.Prelude.{◌≡◌, ℕ, ◌≤◌, ◌<◌, true, false, length, slice_get, IsTrue};
+ghost use Rattle.std.specs.List.{All};
+ghost use Rattle.std.specs.List.Sorted.{IsNonDecreasingBy};
+ghost use Rattle.dn_net.specs.Terms.{block_in_range, in_some_block, is_accepted_at};
+ghost use Rattle.dn_grant.specs.Terms.{refused_address};
 
 use dn_net::checked::CheckedNet;
-use dn_net::node::{Block, Name, TOP};
-use dn_net::step::Step;
+use dn_net::node::Block;
 
 /// The address for which a buffer is refused: its base where it is empty, and else the first of its
 /// addresses that the node does not accept. It takes no memory, and goes over the blocks of the node
-/// once.
+/// once, in their order.
 pub fn refused_address(checked: CheckedNet, node: u16, base: u64, size: u64) -> Option<u64>
     requires there { node < length checked.net.now }
     ensures { result ≡ refused_address (slice_get checked.entry.net.now node) base size }
@@ -34,34 +35,25 @@ fn first_unaccepted(checked: CheckedNet, node: u16, base: u64) -> u64
         is_accepted_at a (slice_get checked.entry.net.now node) ≡ true }
     ensures unaccepted { is_accepted_at result (slice_get checked.entry.net.now node) ≡ false }
 {
-    if !is_accepted(checked, node, base) {
-        return base;
-    }
-    let mut first = TOP + 1;
-    for block in checked.net.accepts(node) {
-        first = nearer_address(checked, node, base, *block, first);
+    first_outside(checked.net.accept_rows(node), base)
+}
+
+/// The first address from one on that is in none of the blocks, which stand in order.
+fn first_outside(blocks: &[Block], base: u64) -> u64
+    requires order { IsNonDecreasingBy (λ b. b.lo) blocks.now }
+    requires in_range { All (λ b. IsTrue (block_in_range b)) blocks.now }
+    ensures from { base ≤ result }
+    ensures inside { (a : ℕ) → base ≤ a → a < result → in_some_block a blocks.now ≡ true }
+    ensures outside { in_some_block result blocks.now ≡ false }
+{
+    let mut first = base;
+    for block in blocks {
+        if first < block.lo {
+            return first;
+        }
+        if first <= block.hi {
+            first = block.hi + 1;
+        }
     }
     first
-}
-
-/// The address behind a block, where it is past the base and before the other address and the node
-/// does not accept it; else the other address.
-fn nearer_address(checked: CheckedNet, node: u16, base: u64, block: Block, first: u64) -> u64
-    requires there { node < length checked.net.now }
-    ensures { result ≡ nearer_address (slice_get checked.entry.net.now node) base first block }
-{
-    let behind = block.hi.min(TOP) + 1;
-    if base < behind && behind < first && !is_accepted(checked, node, behind) {
-        behind
-    } else {
-        first
-    }
-}
-
-/// Whether a node accepts an address.
-fn is_accepted(checked: CheckedNet, node: u16, addr: u64) -> bool
-    requires there { node < length checked.net.now }
-    ensures { result ≡ is_accepted_at addr (slice_get checked.entry.net.now node) }
-{
-    matches!(checked.net.step(Name { node, addr }), Step::Accepted)
 }

@@ -1,25 +1,27 @@
-use Rattle.std.proofs.Common.{◌≡◌, ◌∙◌, rules, ap, subst, List, [], slice_get, drop}
-use Rattle.dn_base.proofs.Lists.{drop_all}
-use Rattle.dn_net.specs.declared.node.Block.{Block}
-use Rattle.dn_grant.specs.Accepted.{nearest_address}
-use Rattle.dn_grant.proofs.Nearest.{IsFirstUnaccepted, nearest_is_first}
+use Rattle.std.proofs.Common.{◌≡◌, ◌∙◌, ap, ℕ, slice_get}
+use Rattle.dn_base.proofs.Lists.{item_there}
+use Rattle.dn_net.specs.Decode.{in_some_block, is_accepted_at}
+use Rattle.dn_walk.proofs.Nodes.{node_in_range}
+use Rattle.dn_grant.proofs.Unaccepted.{rows_accept}
+use Rattle.dn_grant.proofs.accepted.first_unaccepted.Goals.{After-accept_rows}
 use Rattle.dn_grant.proofs.accepted.first_unaccepted.Goals as goal
 
--- what is left of the blocks at the end is nothing
-last : (c : goal.After-loop-block) → IsFirstUnaccepted (slice_get c.args.checked.net.now c.args.node) c.args.base c.loop-block.first
-last c =
-    let n = slice_get c.args.checked.net.now c.args.node in
-    let bs = c.accepts-block-items.result.now in
-    let none : ◌≡◌ {A = List Block} (drop c.loop-block.block-index bs) [] = drop_all c.loop-block.block-index bs c.loop-block-test.false in
-    let e = c.loop-block.invariant ∙ ap (λ rest. nearest_address n c.args.base c.loop-block.first rest) none in
-    subst (λ f. IsFirstUnaccepted n c.args.base f) e
-    (nearest_is_first n bs c.args.base c.accepts-block-items.ensures (search rules))
+-- the node accepts just what the rows have
+same : (c : After-accept_rows) (a : ℕ) → is_accepted_at a (slice_get c.args.checked.net.now c.args.node) ≡ in_some_block a c.accept_rows.result.now
+same c a =
+    let net = c.args.checked.net.now in
+    let d = item_there net c.args.node c.requires.there in
+    let range = (node_in_range net c.args.checked.rules.each c.args.node d.0 d.1).0 in
+    ap (is_accepted_at a) d.1 ∙ rows_accept d.0 a c.accept_rows.result.now range (c.accept_rows.ensures.same d.0 d.1 a)
 
-pub returns-clause-from : goal.returns-clause-from
-returns-clause-from c = (last c).from
+pub first_outside-requires-clause-in_range : goal.first_outside-requires-clause-in_range
+first_outside-requires-clause-in_range c =
+    let net = c.args.checked.net.now in
+    let d = item_there net c.args.node c.requires.there in
+    c.accept_rows.ensures.in_range d.0 d.1 (node_in_range net c.args.checked.rules.each c.args.node d.0 d.1).0
 
 pub returns-clause-accepted : goal.returns-clause-accepted
-returns-clause-accepted c = (last c).accepted
+returns-clause-accepted c a l m = same (goal.at.returns-clause-accepted c).After-accept_rows a ∙ c.first_outside.ensures.inside a l m
 
 pub returns-clause-unaccepted : goal.returns-clause-unaccepted
-returns-clause-unaccepted c = (last c).unaccepted
+returns-clause-unaccepted c = same (goal.at.returns-clause-unaccepted c).After-accept_rows c.first_outside.result ∙ c.first_outside.ensures.outside

@@ -1,6 +1,6 @@
 use Rattle.std.proofs.Common.{sym, slice_get}
 use Rattle.std.proofs.lemmas.Bool.{ne_eqb}
-use Rattle.dn_grant.proofs.Nearest.{IsFirstUnaccepted, refused_found, refused_none}
+use Rattle.dn_grant.proofs.Unaccepted.{IsFirstUnaccepted, refused_found, refused_none}
 use Rattle.dn_grant.proofs.accepted.refused_address.Goals as goal
 use Rattle.dn_grant.proofs.accepted.refused_address.Goals.{After-first_unaccepted-first}
 
