@@ -69,12 +69,12 @@ compiled_checks view refused (Ok x) (Ok o) a = refl
 compiled_checks view refused (Ok x) (Err broken) a = cc
 compiled_checks view refused (Err e) (Ok o) a = by (refused e) a
   where
-    by : (f : Option Refused) → IfSome f (λ r. Ok o ≡ Err r) → IfSome f (λ r. None ≡ Some r)
+    by : (f : Option Refused) → IfSome f (λ r. with_refusal (Ok o) ≡ Err r) → IfSome f (λ r. option_map refusal_of (broken_rule (Ok o)) ≡ Some r)
     by None h = tt
     by (Some r) h = cc
 compiled_checks view refused (Err e) (Err broken) a = by (refused e) a
   where
-    by : (f : Option Refused) → IfSome f (λ r. Err (refusal_of broken) ≡ Err r) → IfSome f (λ r. Some (refusal_of broken) ≡ Some r)
+    by : (f : Option Refused) → IfSome f (λ r. with_refusal (Err broken) ≡ Err r) → IfSome f (λ r. option_map refusal_of (broken_rule (Err broken)) ≡ Some r)
     by None h = tt
     by (Some r) h = cc
 
