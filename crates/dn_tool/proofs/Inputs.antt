@@ -10,7 +10,7 @@ use Rattle.dn_tool.specs.Refused.{Refused, of_text, refusal_of}
 use Rattle.dn_words.specs.declared.words.Task.{Task}
 use Rattle.dn_words.specs.declared.words.Task.TheVariants.{Run, Check, Demo}
 use Rattle.dn_words.specs.Words.{task_of}
-use Rattle.dn_tool.specs.Answer.{Answer, IsInput, answer, asked_answer, compiled_answer, demo_answer, played, reads, said, shown, some_task_reads, task_reads, task_text, text_answer, usage}
+use Rattle.dn_tool.specs.Answer.{Answer, IsInput, answer, asked_answer, compiled_answer, demo_answer, is_script, played, reads, said, shown, some_task_reads, task_reads, task_text, text_answer, usage}
 
 -- a text that is longer than the limit is refused by that alone
 long_refused : (kinds : List Meaning) (text : List ℕ) → 4194304 < length text → compilation kinds text ≡ Err (of_text too_long)
@@ -99,3 +99,11 @@ legal_short kinds text o e = short (grind arith)
     short : (length text < input_limit) ⊎ (4194304 < length text) → length text < input_limit
     short (inl l) = l
     short (inr l) = let f : ◌≡◌ {A = Result Expansion Refused} (Err (refusal_of (of_text too_long))) (Ok o) = sym (ap with_refusal (long_refused kinds text l)) ∙ e in absurd (cc)
+
+-- what `check` answers is no script
+pub check_is_no_script : (kinds : List Meaning) (text : List ℕ) → is_script (text_answer Check kinds text) ≡ false
+check_is_no_script kinds text = by (with_refusal (compilation kinds text))
+  where
+    by : (r : Result Expansion Refused) → is_script (compiled_answer Check kinds r) ≡ false
+    by (Err r) = refl
+    by (Ok o) = refl

@@ -1,6 +1,7 @@
 -- What a text comes to where it is refused.
-use Rattle.std.proofs.Common.{◌≡◌, ◌∙◌, ap, sym, Option, option_map, IfSome, Some, None, List, ℕ, Result, Ok, Err, IfOk}
+use Rattle.std.proofs.Common.{◌≡◌, ◌∙◌, ap, sym, Option, option_map, IfSome, Some, None, List, ℕ, Result, Ok, Err, IfOk, refl}
 use Rattle.std.proofs.lemmas.Option.{same_Some}
+use Rattle.dn_base.specs.Answers.{Answers, Checks}
 use Rattle.dn_parse.specs.declared.reader.ParseFault.{ParseFault}
 use Rattle.dn_parse.specs.Tree.{Tree}
 use Rattle.dn_parse.specs.Whole.{TextFault, text_reading}
@@ -12,8 +13,8 @@ use Rattle.dn_kind.specs.Units.{shape_fault}
 use Rattle.dn_module.specs.declared.fault.ExpandFault.{ExpandFault}
 use Rattle.dn_module.specs.Expand.{Expansion, expansion_of}
 use Rattle.dn_module.specs.Faults.{ExpansionFault, expand_fault_view}
-use Rattle.dn_tool.specs.Refused.{Refused, text_refusal, expand_refusal, node_refusal, unit_refusal, walk_refusal}
-use Rattle.dn_tool.specs.Compiled.{by_node_rules, by_unit_rule, by_walk_rules, compilation, expansion_compilation, reading_compilation, with_refusal}
+use Rattle.dn_tool.specs.Refused.{Refused, refusal_of, text_refusal, expand_refusal, node_refusal, unit_refusal, walk_refusal}
+use Rattle.dn_tool.specs.Compiled.{Compilation, broken_rule, by_node_rules, by_unit_rule, by_walk_rules, compilation, expansion_compilation, reading_compilation, with_refusal}
 
 -- the reader refused it
 pub text_refused : {E : Type 0} (kinds : List Meaning) (text : List ℕ) (e : ParseFault) (r : Result Refused E) → IfSome (parse_fault_view e) (λ f. text_reading text ≡ Err f) → IfOk r (λ x. option_map text_refusal (parse_fault_view e) ≡ Some x) → IfOk r (λ x. with_refusal (compilation kinds text) ≡ Err x)
@@ -61,3 +62,24 @@ walks_refused kinds o v (Err y) checked shaped fault is = tt
 -- nothing breaks a rule
 pub is_legal : (kinds : List Meaning) (o : Expansion) → node_fault o.net ≡ None → shape_fault kinds o.net ≡ None → walk_fault o.net ≡ None → with_refusal (expansion_compilation kinds (Ok o)) ≡ Ok o
 is_legal kinds o checked shaped walkable = ap (λ b. with_refusal (by_node_rules kinds o b)) checked ∙ ap (λ b. with_refusal (by_unit_rule o b)) shaped ∙ ap (λ b. with_refusal (by_walk_rules o b)) walkable
+
+-- what a text was compiled to, or refused for, is held against the first rule that it breaks
+pub compiled_checks : {X E : Type 0} (view : X → Expansion) (refused : E → Option Refused) (r : Result X E) (k : Compilation) → Answers view refused r (with_refusal k) → Checks refused r (option_map refusal_of (broken_rule k))
+compiled_checks view refused (Ok x) (Ok o) a = refl
+compiled_checks view refused (Ok x) (Err broken) a = cc
+compiled_checks view refused (Err e) (Ok o) a = by (refused e) a
+  where
+    by : (f : Option Refused) → IfSome f (λ r. with_refusal (Ok o) ≡ Err r) → IfSome f (λ r. option_map refusal_of (broken_rule (Ok o)) ≡ Some r)
+    by None h = tt
+    by (Some r) h = cc
+compiled_checks view refused (Err e) (Err broken) a = by (refused e) a
+  where
+    by : (f : Option Refused) → IfSome f (λ r. with_refusal (Err broken) ≡ Err r) → IfSome f (λ r. option_map refusal_of (broken_rule (Err broken)) ≡ Some r)
+    by None h = tt
+    by (Some r) h = cc
+
+-- and a text that was compiled breaks none
+pub compiled_legal : {X E : Type 0} (view : X → Expansion) (refused : E → Option Refused) (r : Result X E) (k : Compilation) → Answers view refused r (with_refusal k) → IfOk r (λ x. broken_rule k ≡ None)
+compiled_legal view refused (Ok x) (Ok o) a = refl
+compiled_legal view refused (Ok x) (Err broken) a = cc
+compiled_legal view refused (Err e) k a = tt

@@ -1,6 +1,5 @@
 -- The text of a view.
-use Rattle.std.proofs.Common.{◌≡◌, ◌∙◌, ap, sym, subst, ℕ, List, ◌++◌, length, map, codes, append_assoc, nat_lt, IsTrue}
-use Rattle.std.specs.Fmt.{decimal}
+use Rattle.std.proofs.Common.{◌≡◌, ◌∙◌, ap, sym, subst, ℕ, List, ◌++◌, length, map, nat_lt, IsTrue}
 use Rattle.std.specs.List.{list_all}
 use Rattle.std.proofs.lemmas.Grind.{flat_map-append}
 use Rattle.std.proofs.lemmas.List.{map-append}
@@ -11,18 +10,11 @@ use Rattle.dn_interval.specs.Listed.{Seen, seen_view}
 use Rattle.dn_net.specs.declared.node.NodeDecl.{NodeDecl}
 use Rattle.dn_parse.specs.declared.syntax.Mode.{Mode}
 use Rattle.dn_print.specs.Rows.{ends_exist, row_text, rows_text}
-use Rattle.dn_tool.specs.Found.{access_text}
-use Rattle.dn_tool.specs.Viewed.{viewed_text}
+use Rattle.dn_tool.specs.Viewed.{view_heading, viewed_text}
 
 -- rows below their heading
-pub viewed_told : (net : List NodeDecl) (text : List ℕ) (m : Mode) (heading out : List ℕ) (count : ℕ) (rows : List Seen) → heading ≡ codes "view " ++ (text ++ (access_text m ++ (codes " rows " ++ (decimal count ++ codes "\n")))) → count ≡ length rows → out ≡ heading ++ rows_text net rows → out ≡ viewed_text net text m rows
-viewed_told net text m heading out count rows h n o =
-    let access = access_text m in
-    let lines = rows_text net rows in
-    o
-    ∙ ap (λ (t : List ℕ). t ++ lines) h
-    ∙ ap (λ (t : List ℕ). codes "view " ++ t) (append_assoc text (access ++ (codes " rows " ++ (decimal count ++ codes "\n"))) lines ∙ ap (λ (t : List ℕ). text ++ t) (append_assoc access (codes " rows " ++ (decimal count ++ codes "\n")) lines ∙ ap (λ (t : List ℕ). access ++ (codes " rows " ++ t)) (append_assoc (decimal count) (codes "\n") lines)))
-    ∙ ap (λ (k : ℕ). codes "view " ++ (text ++ (access ++ (codes " rows " ++ (decimal k ++ (codes "\n" ++ lines)))))) n
+pub viewed_told : (net : List NodeDecl) (text : List ℕ) (m : Mode) (heading out : List ℕ) (count : ℕ) (rows : List Seen) → heading ≡ view_heading text m count → count ≡ length rows → out ≡ heading ++ rows_text net rows → out ≡ viewed_text net text m rows
+viewed_told net text m heading out count rows h n o = o ∙ ap (λ (t : List ℕ). t ++ rows_text net rows) (h ∙ ap (view_heading text m) n)
 
 -- the lines of some rows, and of those behind them
 pub rows_parted : (net : List NodeDecl) (rest piece later : List Row) → rest ≡ piece ++ later → rows_text net (map seen_view rest) ≡ rows_text net (map seen_view piece) ++ rows_text net (map seen_view later)

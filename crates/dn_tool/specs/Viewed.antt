@@ -45,9 +45,7 @@ view_heading text m count =
 
 -- rows below such a heading
 abbrev pub viewed_text : List NodeDecl → List ℕ → Mode → List Seen → List ℕ
-viewed_text net text m rows =
-    codes "view " ++ (text ++ (access_text m
-    ++ (codes " rows " ++ (decimal (length rows) ++ (codes "\n" ++ rows_text net rows)))))
+viewed_text net text m rows = view_heading text m (length rows) ++ rows_text net rows
 
 -- the reply to a view of what is no agent
 abbrev pub no_agent_text : List ℕ → List ℕ

@@ -1,12 +1,12 @@
 //! From a text to its platform, or to the rule that it breaks.
 
-ghost use Rattle.std.specs.Prelude.{◌≡◌, ◌≤◌, IfOk, IfSome, IsTrue, None, Result, Ok, Err, length, map};
+ghost use Rattle.std.specs.Prelude.{◌≡◌, ◌≤◌, IfOk, IfSome, option_map, IsTrue, None, Result, Ok, Err, length, map};
 ghost use Rattle.std.specs.List.{All, list_all};
 ghost use Rattle.dn_net.specs.Terms.{is_closed};
 ghost use Rattle.dn_kind.specs.Terms.{IsLawful, has_kind, shape_fault};
 ghost use Rattle.dn_module.specs.Terms.{Expansion, names_within, outcome_view};
-ghost use Rattle.dn_tool.specs.Terms.{IsPlatform, Refused, compilation, compile_fault_view, expansion_compilation, platform_view, with_refusal};
-ghost use Rattle.dn_base.specs.Terms.{Answers};
+ghost use Rattle.dn_tool.specs.Terms.{IsLegal, IsPlatform, Refused, compilation, compile_fault_view, expansion_compilation, fault, platform_view, refusal_of, with_refusal};
+ghost use Rattle.dn_base.specs.Terms.{Answers, Checks};
 
 use crate::refusal;
 use crate::refusal::Refusal;
@@ -86,6 +86,11 @@ pub fn compile<'a>(
     requires lawful { All (λ k. IsLawful (meaning (k.vtable, k.value))) kinds.now.list.items }
     ensures answer { Answers platform_view compile_fault_view result
         (with_refusal (compilation (map (λ k. meaning (k.vtable, k.value)) kinds.now.list.items) text.now)) }
+    // It is compiled where it breaks no rule, and refused for the first that it breaks.
+    ensures fault { Checks compile_fault_view result (option_map refusal_of
+        (fault (map (λ k. meaning (k.vtable, k.value)) kinds.now.list.items) text.now)) }
+    ensures legal { IfOk result (λ p.
+        IsLegal (map (λ k. meaning (k.vtable, k.value)) kinds.now.list.items) text.now) }
     ensures shaped { IfOk result (λ p.
         shape_fault (map (λ k. meaning (k.vtable, k.value)) kinds.now.list.items) p.net ≡ None) }
 {

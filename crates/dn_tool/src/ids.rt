@@ -1,6 +1,6 @@
 //! The ids of grants, with their numbers.
 
-ghost use Rattle.std.specs.Prelude.{◌≡◌, [], length, position, IfOk, OnOk};
+ghost use Rattle.std.specs.Prelude.{◌≡◌, [], length, position, IfOk, OnErr, OnOk};
 ghost use Rattle.std.specs.Str.{bytes_eq};
 ghost use Rattle.dn_tool.specs.Terms.{id_number, with_id};
 
@@ -36,10 +36,11 @@ impl Ids {
     }
 
     /// The number of an id, which is the next one where it did not come before. `Err` is want of memory,
-    /// or of numbers.
+    /// or of numbers, and then the ids are unchanged.
     pub fn number(&mut self, alloc: Global, id: &str) -> Result<u32, AllocError>
         ensures number { IfOk result (λ n. n ≡ id_number self.old id.now) }
         ensures ids { OnOk result (self.new ≡ with_id self.old id.now) }
+        ensures err { OnErr result (self.new ≡ self.old) }
     {
         match self.find(id) {
             Some(number) => Ok(number),
@@ -61,6 +62,7 @@ impl Ids {
     fn add(&mut self, alloc: Global, id: &str) -> Result<u32, AllocError>
         ensures number { IfOk result (λ n. n ≡ length self.old) }
         ensures ids { OnOk result (self.new ≡ with_id self.old id.now) }
+        ensures err { OnErr result (self.new ≡ self.old) }
     {
         let number = self.ids.len();
         if number >= 4_294_967_295 {

@@ -1,6 +1,6 @@
 //! The top call: from the words and the bytes of a source to those of a sink, the words of a device, and a status.
 
-ghost use Rattle.std.specs.Prelude.{◌≡◌, ◌≢◌, ℕ, List, ◌==◌, ◌-◌, ◌<◌, ◌≤◌, ◌⊎◌, ◌++◌, [], true, false, codes, length, map, IfOk, None, take};
+ghost use Rattle.std.specs.Prelude.{◌≡◌, ◌≢◌, ℕ, List, ◌==◌, ◌-◌, ◌<◌, ◌≤◌, ◌⊎◌, ◌++◌, [], true, false, codes, length, map, IfOk, None, Some, take};
 ghost use Rattle.std.specs.List.{All};
 ghost use Rattle.std.specs.Option.{IfSome};
 ghost use Rattle.dn_base.specs.Terms.{AtEnd, IsCounted, Taken, TakenAtMost, input_limit};
@@ -38,9 +38,9 @@ pub const REFUSED: u8 = 4;
 
 /// Answers the words: reads the source's text, writes what it comes to, and gives the status.
 ///
-/// The forms of words are `run` and `check`, and both read. Nothing is read where the words are of
-/// no form. `run` makes the units of the text on the device, which has none so far, and answers the
-/// commands. The units of the text are of these kinds, at most 255.
+/// The forms of words are `run`, `check` and `demo N`, of which the first two read. Nothing is read where the
+/// words are of no form. `run` makes the units of the text on the device, which has none so far, and answers
+/// the commands. The units of the text are of these kinds, at most 255.
 pub fn run<S: Source, K: Sink, D: Tables>(
     alloc: Global,
     words: &Words,
@@ -63,6 +63,8 @@ pub fn run<S: Source, K: Sink, D: Tables>(
     ensures untouched { (text : List ℕ) → IsInput words.now (S.left source.old) text →
         is_script (answer words.now (map (λ k. meaning (k.vtable, k.value)) kinds.now.list.items) text)
         ≡ false → device.new ≡ device.old }
+    // With `check` it is as it was, whatever the source tells.
+    ensures checked { task_of words.now ≡ Some Task.Check → device.new ≡ device.old }
     ensures nothing_done { result ≡ 2 →
         (K.written sink.new ≡ K.written sink.old) × (device.new ≡ device.old) }
     ensures statuses { (result < 5) ⊎ ((result ≡ 6) ⊎ (result ≡ 7)) }
