@@ -18,16 +18,17 @@ use Rattle.dn_kind.specs.Tables.{AreHeld, Held, IsHeld, record_held, steps_under
 use Rattle.dn_kind.proofs.Held.{held_records_fit}
 use Rattle.dn_kind.proofs.Nodes.{steps_under_there}
 use Rattle.dn_image.specs.Reading.{image_words}
+use Rattle.dn_view.specs.Named.{AddsThose}
 use Rattle.dn_view.proofs.Rounds.{Rounds}
 use Rattle.dn_lookup.specs.Lookup.{bytes_records, lets_through, record_through}
-use Rattle.dn_lookup.specs.Rounds.{Adds, IsOf, IsResolvedOf, IsSentOf, IsSentOn}
+use Rattle.dn_lookup.specs.Rounds.{IsOf, IsResolvedOf, IsSentOf, IsSentOn}
 
 -- nothing is added for no names
-pub adds_none : (P : Name → Name → Type 0) (xs old : List Name) → Adds (IsOf P (take 0 xs)) old old
+pub adds_none : (P : Name → Name → Type 0) (xs old : List Name) → AddsThose (IsOf P (take 0 xs)) old old
 adds_none P xs old z = ((λ m. inl m), (λ o. elim o [ inl m ↦ m | inr r ↦ absurd r.1 ]))
 
 -- what is added for one name more
-pub adds_more : (P : Name → Name → Type 0) (xs : List Name) (i : ℕ) (d : Name) (old now new : List Name) → i < length xs → Adds (IsOf P (take i xs)) old now → Adds (P (get_or xs i d)) now new → Adds (IsOf P (take (i + 1) xs)) old new
+pub adds_more : (P : Name → Name → Type 0) (xs : List Name) (i : ℕ) (d : Name) (old now new : List Name) → i < length xs → AddsThose (IsOf P (take i xs)) old now → AddsThose (P (get_or xs i d)) now new → AddsThose (IsOf P (take (i + 1) xs)) old new
 adds_more P xs i d old now new l a b z = (into, back)
   where
     x : Name
@@ -55,15 +56,15 @@ adds_more P xs i d old now new l a b z = (into, back)
     back (inl o) = (b z).1 (inl ((a z).1 (inl o)))
     back (inr r) = last r
 
-pub adds_all : (P : Name → Name → Type 0) (xs : List Name) (i : ℕ) (old now : List Name) → length xs ≤ i → Adds (IsOf P (take i xs)) old now → Adds (IsOf P xs) old now
-adds_all P xs i old now l a = subst (λ ys. Adds (IsOf P ys) old now) (take_all i xs l) a
+pub adds_all : (P : Name → Name → Type 0) (xs : List Name) (i : ℕ) (old now : List Name) → length xs ≤ i → AddsThose (IsOf P (take i xs)) old now → AddsThose (IsOf P xs) old now
+adds_all P xs i old now l a = subst (λ ys. AddsThose (IsOf P ys) old now) (take_all i xs l) a
 
 -- all that was added to nothing
-pub those : (P : Name → Type 0) (old new : List Name) → old ≡ [] → Adds P old new → (z : Name) → Member z new ↔ P z
+pub those : (P : Name → Type 0) (old new : List Name) → old ≡ [] → AddsThose P old new → (z : Name) → Member z new ↔ P z
 those P old new none a z = ((λ m. elim ((a z).0 m) [ inl o ↦ absurd (subst (λ ys. Member z ys) none o) | inr p ↦ p ]), (λ p. (a z).1 (inr p)))
 
 -- the names to which stops are sent, as a list
-pub adds_sent : (net : List NodeDecl) (h : Held) (P : Name → Type 0) (stops old new : List Name) → new ≡ old ++ each_step (steps_under net h) stops → ((t : Name) → Member t stops ↔ P t) → Adds (λ z. (t : Name) × P t × Member z (steps_under net h t)) old new
+pub adds_sent : (net : List NodeDecl) (h : Held) (P : Name → Type 0) (stops old new : List Name) → new ≡ old ++ each_step (steps_under net h) stops → ((t : Name) → Member t stops ↔ P t) → AddsThose (λ z. (t : Name) × P t × Member z (steps_under net h t)) old new
 adds_sent net h P stops old new e is z = (into, back)
   where
     f : Name → List Name
@@ -93,11 +94,11 @@ all_there count (x ∷ xs) f = and_from (nat_lt x.node count) (are_there count x
 pub one_there : (count : ℕ) (x : Name) → x.node < count → IsTrue (are_there count (x ∷ []))
 one_there count x l = all_there count (x ∷ []) (λ z m. elim m [ inl e ↦ subst (λ (w : Name). w.node < count) e l | inr o ↦ absurd o ])
 
-pub sent_there : (net : List NodeDecl) (h : Held) (xs next : List Name) → IsTrue (is_closed net) → Adds (IsSentOf net h xs) [] next → IsTrue (are_there (length net) next)
+pub sent_there : (net : List NodeDecl) (h : Held) (xs next : List Name) → IsTrue (is_closed net) → AddsThose (IsSentOf net h xs) [] next → IsTrue (are_there (length net) next)
 sent_there net h xs next closed a = all_there (length net) next (λ z m. elim ((a z).0 m) [ inl o ↦ absurd o | inr r ↦ there_at (length net) (steps_under net h r.2.0) z (steps_under_there net h r.2.0 closed) r.2.2 ])
 
 -- a round more
-pub next_round : (net : List NodeDecl) (h : Held) (n : ℕ) (known more round next : List Name) → Adds (IsResolvedOf net round) known more → Adds (IsSentOf net h round) [] next → (z : Name) → (Member z known ⊎ IsOf (Rounds net h (suc n)) round z) ↔ (Member z more ⊎ IsOf (Rounds net h n) next z)
+pub next_round : (net : List NodeDecl) (h : Held) (n : ℕ) (known more round next : List Name) → AddsThose (IsResolvedOf net round) known more → AddsThose (IsSentOf net h round) [] next → (z : Name) → (Member z known ⊎ IsOf (Rounds net h (suc n)) round z) ↔ (Member z more ⊎ IsOf (Rounds net h n) next z)
 next_round net h n known more round next a b z = (into, back)
   where
     onto : (w : Name) → Member w round → Rounds net h (suc n) w z → Member z more ⊎ IsOf (Rounds net h n) next z

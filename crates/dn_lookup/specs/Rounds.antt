@@ -1,14 +1,10 @@
 -- Names in rounds: those to which names come in the net, and those to which their stops are sent.
-use Rattle.std.specs.Prelude.{◌⊎◌, ◌↔◌, List, IsTrue}
+use Rattle.std.specs.Prelude.{List, IsTrue}
 use Rattle.dn_net.specs.declared.node.Name.{Name}
 use Rattle.dn_net.specs.declared.node.NodeDecl.{NodeDecl}
 use Rattle.dn_net.specs.Chain.{Member}
 use Rattle.dn_net.specs.Decode.{Resolves, StopsAt, is_stop}
 use Rattle.dn_kind.specs.Tables.{Held, StepUnder}
-
--- the names that were there, and those of which this is true
-abbrev pub Adds : (Name → Type 0) → List Name → List Name → Type 0
-Adds P old new = (z : Name) → Member z new ↔ (Member z old ⊎ P z)
 
 -- it is true of one of the names
 abbrev pub IsOf : (Name → Name → Type 0) → List Name → Name → Type 0

@@ -4,7 +4,8 @@ ghost use Rattle.std.specs.Prelude.{◌≡◌, ◌++◌, [], ◌∷◌, ◌+◌,
 ghost use Rattle.dn_net.specs.Terms.{IsLegalNet, each_step, is_accepted, passing_names, sorted_names};
 ghost use Rattle.dn_kind.specs.Terms.{are_there, resolved_names_under, steps_under};
 ghost use Rattle.dn_flat.specs.Terms.{AreFlats};
-ghost use Rattle.dn_lookup.specs.Terms.{Adds, AreStopsOf, IsImage, IsResolvedOf, IsSentOf, IsSentOn, records_in};
+ghost use Rattle.dn_view.specs.Terms.{AddsThose};
+ghost use Rattle.dn_lookup.specs.Terms.{AreStopsOf, IsImage, IsResolvedOf, IsSentOf, IsSentOn, records_in};
 
 use crate::image::Image;
 use crate::output::output;
@@ -97,9 +98,9 @@ fn push_round(
     requires image { IsImage (λ k. meaning (k.vtable, k.value)) image }
     requires flats { AreFlats image.net.now flats.now }
     requires there { IsTrue (are_there (length image.net.now) round.now) }
-    ensures accepted { OnOk result (Adds (IsResolvedOf image.entry.net.now round.now)
+    ensures accepted { OnOk result (AddsThose (IsResolvedOf image.entry.net.now round.now)
         accepted.old.items accepted.new.items) }
-    ensures next { OnOk result (Adds (IsSentOf image.entry.net.now
+    ensures next { OnOk result (AddsThose (IsSentOf image.entry.net.now
         (records_in (λ k. meaning (k.vtable, k.value)) image.entry access) round.now)
         next.old.items next.new.items) }
 {
@@ -122,7 +123,7 @@ fn push_onward(
     requires image { IsImage (λ k. meaning (k.vtable, k.value)) image }
     requires flats { AreFlats image.net.now flats.now }
     requires there { name.node < length image.net.now }
-    ensures { OnOk result (Adds (IsSentOn image.entry.net.now
+    ensures { OnOk result (AddsThose (IsSentOn image.entry.net.now
         (records_in (λ k. meaning (k.vtable, k.value)) image.entry access) name)
         next.old.items next.new.items) }
 {

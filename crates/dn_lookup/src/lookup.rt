@@ -3,7 +3,7 @@
 ghost use Rattle.std.specs.Prelude.{◌≡◌, ◌≢◌, ◌<◌, length, map, slice_get, IfOk, Ok, Err, None, IsTrue};
 ghost use Rattle.std.specs.List.{All};
 ghost use Rattle.dn_base.specs.Terms.{Answers};
-ghost use Rattle.dn_net.specs.Terms.{IsLegalNet, is_agent_at};
+ghost use Rattle.dn_net.specs.Terms.{KeepsNodeRules, is_agent_at};
 ghost use Rattle.dn_kind.specs.Terms.{IsLawful, KeepsUnitShape, are_there};
 ghost use Rattle.dn_image.specs.Terms.{broken_image, version_of};
 ghost use Rattle.dn_view.specs.Terms.{IsSystem};
@@ -53,7 +53,7 @@ pub fn lookup(
     access: Access,
 ) -> Result<Names, LookupFault>
     requires lawful { All (λ k. IsLawful (meaning (k.vtable, k.value))) kinds.now.list.items }
-    requires legal { IsLegalNet net.now }
+    requires rules { KeepsNodeRules net.now }
     requires shaped { KeepsUnitShape
         (map (λ k. meaning (k.vtable, k.value)) kinds.now.list.items) net.now }
     ensures exact { Answers (λ names. names) lookup_fault_view result
@@ -90,7 +90,7 @@ pub fn lookup_whole(
     name: Name,
 ) -> Result<Names, AllocError>
     requires lawful { All (λ k. IsLawful (meaning (k.vtable, k.value))) kinds.now.list.items }
-    requires legal { IsLegalNet net.now }
+    requires rules { KeepsNodeRules net.now }
     requires shaped { KeepsUnitShape
         (map (λ k. meaning (k.vtable, k.value)) kinds.now.list.items) net.now }
     requires whole { broken_image net.now

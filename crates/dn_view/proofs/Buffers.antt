@@ -23,7 +23,7 @@ use Rattle.dn_tables.specs.Placement.{Place}
 use Rattle.dn_placement.specs.declared.request.Request.{Request}
 use Rattle.dn_placement.specs.Exposure.{Adds}
 use Rattle.dn_walk.specs.Ends.{end_of, name_of_end}
-use Rattle.dn_view.specs.Exact.{IsAdded, IsAsked, IsAskedAt, IsExactAt, is_buffer_end, is_buffer_row, is_part, are_buffer}
+use Rattle.dn_view.specs.Exact.{IsAdded, IsAsked, IsAskedAt, IsExactAt, is_buffer_end, is_buffer_row, is_part_of_buffer, are_buffer}
 use Rattle.dn_view.specs.Passes.{seg_name}
 use Rattle.dn_view.proofs.Passed.{seg_gives_it}
 
@@ -116,7 +116,7 @@ rows_buffer rq v shown rows some fits n = (into, back)
     back k = buffer_normal rq v some fits rows (normal_of (IsAskedAt rq v) shown rows k n)
 
 -- a segment that gives what is asked for at its ends is a part of the buffer
-one_part : (rq : Request) (v : ℕ) (s : Seg) → 1 ≤ rq.size → ((a : ℕ) (z : End) → a ≤ TOP → seg_gives s a z ≡ true → IsAskedAt rq v a z) → is_part s rq v ≡ true
+one_part : (rq : Request) (v : ℕ) (s : Seg) → 1 ≤ rq.size → ((a : ℕ) (z : End) → a ≤ TOP → seg_gives s a z ≡ true → IsAskedAt rq v a z) → is_part_of_buffer s rq v ≡ true
 one_part rq v s some k =
     let order : s.span.lo ≤ s.span.hi = s.span.ordered in
     let top : s.span.hi ≤ TOP = s.span.within in
@@ -136,15 +136,15 @@ one_part rq v s some k =
     (and_from (nat_eq s.node rq.node) (nat_le rq.base s.base && nat_eq (s.base - rq.base) (s.span.lo - v)) (eq-eqb s.node rq.node node)
     (and_from (nat_le rq.base s.base) (nat_eq (s.base - rq.base) (s.span.lo - v)) (le-leb rq.base s.base base) (eq-eqb (s.base - rq.base) (s.span.lo - v) same))))
 
-all_parts : (rq : Request) (v : ℕ) (shown : List Seg) → 1 ≤ rq.size → ((a : ℕ) (z : End) → a ≤ TOP → segs_give shown a z ≡ true → IsAskedAt rq v a z) → list_all (λ s. is_part s rq v) shown ≡ true
+all_parts : (rq : Request) (v : ℕ) (shown : List Seg) → 1 ≤ rq.size → ((a : ℕ) (z : End) → a ≤ TOP → segs_give shown a z ≡ true → IsAskedAt rq v a z) → list_all (λ s. is_part_of_buffer s rq v) shown ≡ true
 all_parts rq v [] some k = refl
 all_parts rq v (s ∷ rest) some k =
-    and_from (is_part s rq v) (list_all (λ t. is_part t rq v) rest)
+    and_from (is_part_of_buffer s rq v) (list_all (λ t. is_part_of_buffer t rq v) rest)
     (one_part rq v s some (λ a z low g. k a z low (or_left (seg_gives s a z) (segs_give rest a z) g)))
     (all_parts rq v rest some (λ a z low g. k a z low (or_right (seg_gives s a z) (segs_give rest a z) g)))
 
 -- where a segment is no part of the buffer, they do not give what is asked for
-pub not_parts : (rq : Request) (v : ℕ) (shown : List Seg) → 1 ≤ rq.size → list_all (λ s. is_part s rq v) shown ≡ false → (false ≡ true) ↔ ((a : ℕ) (z : End) → a ≤ TOP → (segs_give shown a z ≡ true) ↔ IsAskedAt rq v a z)
+pub not_parts : (rq : Request) (v : ℕ) (shown : List Seg) → 1 ≤ rq.size → list_all (λ s. is_part_of_buffer s rq v) shown ≡ false → (false ≡ true) ↔ ((a : ℕ) (z : End) → a ≤ TOP → (segs_give shown a z ≡ true) ↔ IsAskedAt rq v a z)
 not_parts rq v shown some e = ((λ f. absurd (false≢true f)), (λ k. absurd (false≢true (sym e ∙ all_parts rq v shown some (λ a z low. (k a z low).0)))))
 
 -- what is newly shown is the buffer exactly where it is what is asked for

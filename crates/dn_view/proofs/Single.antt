@@ -22,7 +22,7 @@ use Rattle.dn_walk.specs.Ends.{end_of}
 use Rattle.dn_flat.specs.Levels.{AreFlats, FlatsView, levels_give, shows}
 use Rattle.dn_view.specs.declared.part.Part.{Part}
 use Rattle.dn_view.specs.declared.part.Part.TheVariants.{Accepts, Stops}
-use Rattle.dn_view.specs.Named.{has_name, ComesTo, IsAlone}
+use Rattle.dn_view.specs.Named.{has_name, ComesTo, IsAtName}
 use Rattle.dn_view.specs.Passes.{part_gives, stops_of}
 use Rattle.dn_view.specs.Views.{ResolvesFromUnder}
 use Rattle.dn_view.proofs.Viewed.{node_accepts, node_stops}
@@ -94,23 +94,23 @@ none_more P xs none z = ((λ m. inl m), (λ o. elim o [ inl m ↦ m | inr p ↦ 
 
 -- what a name comes to, given by segments
 
-pub is_low : (x : Name) (s : Seg) → IsAlone x s → x.addr ≤ TOP
+pub is_low : (x : Name) (s : Seg) → IsAtName x s → x.addr ≤ TOP
 is_low x s is = let f = s.fits in let b = is.base in omega (arith, f, b)
 
-alone_there : (x : Name) (s : Seg) → IsAlone x s → (P : ℕ → ℕ → ℕ → Type 0) → P s.span.lo s.node s.base → P x.addr x.node x.addr
+alone_there : (x : Name) (s : Seg) → IsAtName x s → (P : ℕ → ℕ → ℕ → Type 0) → P s.span.lo s.node s.base → P x.addr x.node x.addr
 alone_there x s is P p = subst (λ a. P a x.node x.addr) is.lo (subst (λ n. P s.span.lo n x.addr) is.node (subst (λ b. P s.span.lo s.node b) is.base p))
 
-pub resolved_given : (net : List NodeDecl) (flats : FlatsView) → AreFlats net flats → (x : Name) → x.node < length net → (s : Seg) → IsAlone x s → (segs : List Seg) → ((z : End) → segs_give segs s.span.lo z ≡ shows flats s.node s.base z) → (z : Name) → (segs_give segs x.addr (end_of z) ≡ true) ↔ Resolves net x z
+pub resolved_given : (net : List NodeDecl) (flats : FlatsView) → AreFlats net flats → (x : Name) → x.node < length net → (s : Seg) → IsAtName x s → (segs : List Seg) → ((z : End) → segs_give segs s.span.lo z ≡ shows flats s.node s.base z) → (z : Name) → (segs_give segs x.addr (end_of z) ≡ true) ↔ Resolves net x z
 resolved_given net flats are x l s is segs given z =
     let e : segs_give segs x.addr (end_of z) ≡ shows flats x.node x.addr (end_of z) = alone_there x s is (λ a n b. segs_give segs a (end_of z) ≡ shows flats n b (end_of z)) (given (end_of z)) in
     node_accepts net flats are x.node (subst (λ n. x.node < n) (sym are.every) l) (segs_give segs x.addr (end_of z)) x.addr (end_of z) (is_low x s is) e
 
-pub stops_given_at : (net : List NodeDecl) (flats : FlatsView) → AreFlats net flats → (x : Name) → x.node < length net → (s : Seg) → IsAlone x s → (segs : List Seg) → ((z : End) → segs_give segs s.span.lo z ≡ levels_give (stops_of flats s.node) s.base z) → (z : Name) → (segs_give segs x.addr (end_of z) ≡ true) ↔ StopsAt net x z
+pub stops_given_at : (net : List NodeDecl) (flats : FlatsView) → AreFlats net flats → (x : Name) → x.node < length net → (s : Seg) → IsAtName x s → (segs : List Seg) → ((z : End) → segs_give segs s.span.lo z ≡ levels_give (stops_of flats s.node) s.base z) → (z : Name) → (segs_give segs x.addr (end_of z) ≡ true) ↔ StopsAt net x z
 stops_given_at net flats are x l s is segs given z =
     let e : segs_give segs x.addr (end_of z) ≡ levels_give (stops_of flats x.node) x.addr (end_of z) = alone_there x s is (λ a n b. segs_give segs a (end_of z) ≡ levels_give (stops_of flats n) b (end_of z)) (given (end_of z)) in
     node_stops net flats are x.node (subst (λ n. x.node < n) (sym are.every) l) (segs_give segs x.addr (end_of z)) x.addr (end_of z) (is_low x s is) e
 
-pub part_given : (net : List NodeDecl) (flats : FlatsView) → AreFlats net flats → (part : Part) (x : Name) → x.node < length net → (s : Seg) → IsAlone x s → (segs : List Seg) → ((z : End) → segs_give segs s.span.lo z ≡ part_gives part flats s.node s.base z) → (z : Name) → (segs_give segs x.addr (end_of z) ≡ true) ↔ ComesTo net part x z
+pub part_given : (net : List NodeDecl) (flats : FlatsView) → AreFlats net flats → (part : Part) (x : Name) → x.node < length net → (s : Seg) → IsAtName x s → (segs : List Seg) → ((z : End) → segs_give segs s.span.lo z ≡ part_gives part flats s.node s.base z) → (z : Name) → (segs_give segs x.addr (end_of z) ≡ true) ↔ ComesTo net part x z
 part_given net flats are Accepts x l s is segs given z = resolved_given net flats are x l s is segs given z
 part_given net flats are Stops x l s is segs given z = stops_given_at net flats are x l s is segs given z
 
@@ -181,7 +181,7 @@ names_are net h x found is =
     ((λ m. (names_in all z).0 (e.1 ((is z).0 m))), (λ m. (is z).1 (e.0 ((names_in all z).1 m)))))
 
 -- the names that segments give to the first address of a name's segment
-pub given_names : (net : List NodeDecl) (h : Held) (x : Name) (s : Seg) → IsAlone x s → (shown : List Seg) (old new : List Name) → old ≡ [] → ((z : Name) → has_name new z ≡ (has_name old z || segs_give shown x.addr (end_of z))) → ((z : End) → (segs_give shown s.span.lo z ≡ true) ↔ ResolvesFromUnder net h s.node s.base z) → (z : Name) → Member z new ↔ ResolvesUnder net h x z
+pub given_names : (net : List NodeDecl) (h : Held) (x : Name) (s : Seg) → IsAtName x s → (shown : List Seg) (old new : List Name) → old ≡ [] → ((z : Name) → has_name new z ≡ (has_name old z || segs_give shown x.addr (end_of z))) → ((z : End) → (segs_give shown s.span.lo z ≡ true) ↔ ResolvesFromUnder net h s.node s.base z) → (z : Name) → Member z new ↔ ResolvesUnder net h x z
 given_names net h x s is shown old new none e given z =
     let has : has_name new z ≡ segs_give shown x.addr (end_of z) = e z ∙ ap (λ l. has_name l z || segs_give shown x.addr (end_of z)) none in
     let r : (segs_give shown x.addr (end_of z) ≡ true) ↔ ResolvesFromUnder net h x.node x.addr (end_of z) = alone_there x s is (λ a n b. (segs_give shown a (end_of z) ≡ true) ↔ ResolvesFromUnder net h n b (end_of z)) (given (end_of z)) in

@@ -45,8 +45,8 @@ abbrev pub IsAskedAt : Request → ℕ → ℕ → End → Type 0
 IsAskedAt rq v a z = Adds rq v (record { node = rq.agent; addr = a }) (name_of_end z)
 
 -- the segment gives addresses of the buffer alone, where the agent is to have them
-abbrev pub is_part : Seg → Request → ℕ → Bool
-is_part s rq v =
+abbrev pub is_part_of_buffer : Seg → Request → ℕ → Bool
+is_part_of_buffer s rq v =
     nat_le v s.span.lo && (nat_le s.span.hi (v + (rq.size - 1)) && (nat_eq s.node rq.node
     && (nat_le rq.base s.base && nat_eq (s.base - rq.base) (s.span.lo - v))))
 

@@ -17,7 +17,7 @@ abbrev pub has_name : List Name → Name → Bool
 has_name xs z = list_any (name_eq z) xs
 
 -- the segment begins at the address of the name, and gives the name there
-pub record IsAlone (x : Name) (s : Seg) : Type 0 where
+pub record IsAtName (x : Name) (s : Seg) : Type 0 where
   pub node : s.node ≡ x.node
   pub base : s.base ≡ x.addr
   pub lo : s.span.lo ≡ x.addr
@@ -27,9 +27,13 @@ abbrev pub ComesTo : List NodeDecl → Part → Name → Name → Type 0
 ComesTo net Accepts x z = Resolves net x z
 ComesTo net Stops x z = StopsAt net x z
 
+-- the names that were there, and those of which this is true
+abbrev pub AddsThose : (Name → Type 0) → List Name → List Name → Type 0
+AddsThose P old new = (z : Name) → Member z new ↔ (Member z old ⊎ P z)
+
 -- the names that were there, and those to which the name comes
 abbrev pub AddsPart : List NodeDecl → Part → Name → List Name → List Name → Type 0
-AddsPart net part x old new = (z : Name) → Member z new ↔ (Member z old ⊎ ComesTo net part x z)
+AddsPart net part x old new = AddsThose (ComesTo net part x) old new
 
 -- the names that were there, and those that the segments give to the address
 abbrev pub AddsGiven : List Seg → ℕ → List Name → List Name → Type 0

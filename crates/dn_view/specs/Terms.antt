@@ -1,8 +1,8 @@
 -- The words of the crate that clauses cite, from one place.
 pub use Rattle.dn_view.specs.Addition.{RefusalIsComplete}
 pub use Rattle.dn_view.specs.Courses.{IsCourse, course_records}
-pub use Rattle.dn_view.specs.Exact.{IsAskedAt, IsExactAt, are_buffer, is_buffer_end, is_buffer_row, is_part}
-pub use Rattle.dn_view.specs.Named.{AddsGiven, AddsOne, AddsPart, IsAlone}
+pub use Rattle.dn_view.specs.Exact.{IsAskedAt, IsExactAt, are_buffer, is_buffer_end, is_buffer_row, is_part_of_buffer}
+pub use Rattle.dn_view.specs.Named.{AddsGiven, AddsOne, AddsPart, AddsThose, IsAtName}
 pub use Rattle.dn_view.specs.Passes.{in_slot, names_go, outputs, part_gives, part_leads, seg_name, seg_passes, segs_pass, stops_of}
 pub use Rattle.dn_view.specs.Records.{AreFitted, HoldsBelow, IsFitted, IsFitting, fresh_record, records_taken}
 pub use Rattle.dn_view.specs.Systems.{AreSystemTables, IsSystem}

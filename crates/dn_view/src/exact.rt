@@ -10,7 +10,7 @@ ghost use Rattle.dn_kind.specs.Terms.{allows, are_rights};
 ghost use Rattle.dn_tables.specs.Terms.{FitsNet, record_kept};
 ghost use Rattle.dn_placement.specs.Terms.{IsAdmissible, IsPlacement, slots_of_set};
 ghost use Rattle.dn_walk.specs.Terms.{name_of_end};
-ghost use Rattle.dn_view.specs.Terms.{AreExactIn, ComesIn, IsAskedAt, IsExactIn, IsPassedIn, IsSystem, IsTrial, are_buffer, is_buffer_end, is_buffer_row, is_part};
+ghost use Rattle.dn_view.specs.Terms.{AreExactIn, ComesIn, IsAskedAt, IsExactIn, IsPassedIn, IsSystem, IsTrial, are_buffer, is_buffer_end, is_buffer_row, is_part_of_buffer};
 
 use crate::course::Course;
 use crate::part::Part;
@@ -192,10 +192,10 @@ fn show_buffer(alloc: Global, shown: &[Seg], request: &Request, v: u64) -> Resul
 fn are_parts(shown: &[Seg], request: &Request, v: u64) -> bool
     requires some { 1 ≤ request.now.size }
     requires within { v + request.now.size ≤ TOP + 1 }
-    ensures { result ≡ list_all (λ s. is_part s request.now v) shown.now }
+    ensures { result ≡ list_all (λ s. is_part_of_buffer s request.now v) shown.now }
 {
     for seg in shown {
-        if !is_part(seg, request, v) {
+        if !is_part_of_buffer(seg, request, v) {
             return false;
         }
     }
@@ -203,10 +203,10 @@ fn are_parts(shown: &[Seg], request: &Request, v: u64) -> bool
 }
 
 /// Whether a segment shows addresses of the buffer alone, where the agent is to have them.
-fn is_part(seg: &Seg, request: &Request, v: u64) -> bool
+fn is_part_of_buffer(seg: &Seg, request: &Request, v: u64) -> bool
     requires some { 1 ≤ request.now.size }
     requires within { v + request.now.size ≤ TOP + 1 }
-    ensures { result ≡ is_part seg.now request.now v }
+    ensures { result ≡ is_part_of_buffer seg.now request.now v }
 {
     v <= seg.span.lo
         && seg.span.hi <= v + (request.size - 1)

@@ -3,7 +3,7 @@
 ghost use Rattle.std.specs.Prelude.{◌≡◌, ◌<◌, length, IfSome, IsNone, OnOk};
 ghost use Rattle.dn_interval.specs.declared.span.TheConstants.{TOP};
 ghost use Rattle.dn_flat.specs.Terms.{AreFlats};
-ghost use Rattle.dn_view.specs.Terms.{AddsGiven, AddsOne, AddsPart, IsAlone};
+ghost use Rattle.dn_view.specs.Terms.{AddsGiven, AddsOne, AddsPart, IsAtName};
 
 use crate::part::Part;
 use crate::pass::push_sent;
@@ -15,7 +15,7 @@ use dn_net::node::Name;
 use std::alloc::Global;
 
 /// Adds the names to which a name comes in the net. Time of what its node comes to, and of the names that this
-/// gives to its address.
+/// gives to its address. For want of memory some of the names may have been added.
 pub fn push_names(
     alloc: Global,
     net: &Net,
@@ -41,7 +41,7 @@ pub fn push_names(
 /// The segment of the address of a name alone, which gives the name. None where the address is past the
 /// last one: such a name comes to nothing.
 pub(crate) fn seg_of(name: Name) -> Option<Seg>
-    ensures some { IfSome result (IsAlone name) }
+    ensures some { IfSome result (IsAtName name) }
     ensures none { IsNone result → TOP < name.addr }
 {
     let Name { node, addr } = name;

@@ -69,8 +69,8 @@ fn taken_range(checked: CheckedNet, records: Records, node: u16, slots: u64, end
     }
 }
 
-/// From which slot on no slot of a unit holds a record: no word of these was ever set, or the unit has
-/// none of them.
+/// From which slot on no slot of a unit holds a record: from there on each word is 0, behind the last page
+/// that was made, or the unit has no more slots.
 pub(crate) fn held_end(system: System, tables: &TableSet, node: u16, unit: &Unit) -> u64
     requires system { IsSystem (λ k. meaning (k.vtable, k.value)) system }
     requires fits { FitsNet system.net.now

@@ -57,8 +57,8 @@ pub fn resolve<'a>(
     set_of(alloc, found)
 }
 
-/// The same of a name that leads to few, which are followed one by one, level by level. None where there are more,
-/// and then it says nothing. `Err` is want of memory.
+/// The same of a name that leads to few, which are followed one by one, level by level. `None` says nothing of the
+/// name, beside that [`resolve`] is to answer. `Err` is want of memory.
 pub fn resolve_few(
     alloc: Global,
     net: &Net,

@@ -1,11 +1,12 @@
 -- What the names so far come to.
 use Rattle.std.proofs.Common.{take, map}
+use Rattle.dn_view.specs.Named.{AddsThose}
 use Rattle.dn_lookup.specs.Lookup.{bytes_records}
-use Rattle.dn_lookup.specs.Rounds.{Adds, IsResolvedOf, IsSentOf}
+use Rattle.dn_lookup.specs.Rounds.{IsResolvedOf, IsSentOf}
 use Rattle.dn_lookup.proofs.levels.push_round.Given as goal
 
 abbrev pub invariant-loop-name : goal.invariant-loop-name
 invariant-loop-name g l = record {
-  accepted : Adds (IsResolvedOf l.image.net.now (take l.name-index l.round)) l.initial.accepted.items l.accepted.items;
-  next : Adds (IsSentOf l.image.net.now (bytes_records l.image.net.now (map (λ k. (goal.UnitKind-dyn g (k.vtable, k.value)).meaning k.value) l.image.kinds.now.list.items) l.image.bytes.now l.image.version l.access) (take l.name-index l.round)) l.initial.next.items l.next.items;
+  accepted : AddsThose (IsResolvedOf l.image.net.now (take l.name-index l.round)) l.initial.accepted.items l.accepted.items;
+  next : AddsThose (IsSentOf l.image.net.now (bytes_records l.image.net.now (map (λ k. (goal.UnitKind-dyn g (k.vtable, k.value)).meaning k.value) l.image.kinds.now.list.items) l.image.bytes.now l.image.version l.access) (take l.name-index l.round)) l.initial.next.items l.next.items;
 }

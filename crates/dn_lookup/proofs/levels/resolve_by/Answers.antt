@@ -12,10 +12,11 @@ use Rattle.dn_kind.specs.Tables.{Held, AreHeld, ResolvesUnder, resolved_names_un
 use Rattle.dn_kind.proofs.Nodes.{resolved_under_there}
 use Rattle.dn_kind.proofs.Stages.{set_is_ends, set_within}
 use Rattle.dn_tables.proofs.Slots.{all_of_map}
+use Rattle.dn_view.specs.Named.{AddsThose}
 use Rattle.dn_view.proofs.Rounds.{Rounds, four_rounds}
 use Rattle.dn_view.proofs.Single.{names_are}
 use Rattle.dn_lookup.specs.Lookup.{bytes_records}
-use Rattle.dn_lookup.specs.Rounds.{Adds, IsOf, IsResolvedOf, IsSentOf}
+use Rattle.dn_lookup.specs.Rounds.{IsOf, IsResolvedOf, IsSentOf}
 use Rattle.dn_lookup.proofs.Rounds.{first_round, next_round, no_round, one_there, sent_there, through_held}
 use Rattle.dn_lookup.proofs.levels.resolve_by.Goals as goal
 
@@ -37,8 +38,8 @@ loop-preserved g c =
     let net = c.args.image.net.now in
     let h : Held = bytes_records c.args.image.net.now (map (λ k. (goal.UnitKind-dyn g (k.vtable, k.value)).meaning k.value) c.args.image.kinds.now.list.items) c.args.image.bytes.now c.args.image.version c.args.access in
     let same : c.as_slice.result.now ≡ c.loop.round.items = search rules in
-    let accepted : Adds (IsResolvedOf net c.loop.round.items) c.loop.accepted.items c.push_round.new.accepted.items = subst (λ (l : List Name). Adds (IsResolvedOf net l) c.loop.accepted.items c.push_round.new.accepted.items) same c.in_ok-push_round.ensures.accepted in
-    let sent : Adds (IsSentOf net h c.loop.round.items) [] c.push_round.new.next.items = subst (λ (l : List Name). Adds (IsSentOf net h c.loop.round.items) l c.push_round.new.next.items) c.new-next.ensures.items (subst (λ (l : List Name). Adds (IsSentOf net h l) c.new-next.result.items c.push_round.new.next.items) same c.in_ok-push_round.ensures.next) in
+    let accepted : AddsThose (IsResolvedOf net c.loop.round.items) c.loop.accepted.items c.push_round.new.accepted.items = subst (λ (l : List Name). AddsThose (IsResolvedOf net l) c.loop.accepted.items c.push_round.new.accepted.items) same c.in_ok-push_round.ensures.accepted in
+    let sent : AddsThose (IsSentOf net h c.loop.round.items) [] c.push_round.new.next.items = subst (λ (l : List Name). AddsThose (IsSentOf net h c.loop.round.items) l c.push_round.new.next.items) c.new-next.ensures.items (subst (λ (l : List Name). AddsThose (IsSentOf net h l) c.new-next.result.items c.push_round.new.next.items) same c.in_ok-push_round.ensures.next) in
     let left : 4 - c.loop.counter ≡ suc (4 - (c.loop.counter + 1)) = (let t = c.loop-test.true in omega (arith, t)) in
     record {
       so_far = λ z. means_then (subst (λ n. ResolvesUnder net h c.args.name z ↔ (Member z c.loop.accepted.items ⊎ IsOf (Rounds net h n) c.loop.round.items z)) left (c.loop.invariant.so_far z)) (next_round net h (4 - (c.loop.counter + 1)) c.loop.accepted.items c.push_round.new.accepted.items c.loop.round.items c.push_round.new.next.items accepted sent z);

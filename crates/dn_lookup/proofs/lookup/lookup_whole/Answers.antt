@@ -14,6 +14,6 @@ returns-clause-exact g c =
 pub resolve-requires-clause-image : goal.resolve-requires-clause-image
 resolve-requires-clause-image g c = record {
   lawful = c.requires.lawful;
-  rules = c.requires.legal.nodes;
+  rules = c.requires.rules;
   is = record { shaped = c.requires.shaped; whole = c.requires.whole };
 }

@@ -8,7 +8,7 @@ use Rattle.dn_kind.specs.Tables.{Held, allowing, resolved_names_under}
 use Rattle.dn_kind.proofs.Stages.{set_is_ends}
 use Rattle.dn_tables.specs.Set.{record_kept}
 use Rattle.dn_walk.specs.Ends.{end_of}
-use Rattle.dn_view.specs.Named.{IsAlone, has_name}
+use Rattle.dn_view.specs.Named.{IsAtName, has_name}
 use Rattle.dn_view.proofs.Single.{given_names, past_under, names_are}
 use Rattle.dn_view.proofs.resolve.resolve.Goals as goal
 
@@ -21,7 +21,7 @@ returns-in_default g c =
 
 pub shown_at-requires-clause-there : goal.shown_at-requires-clause-there
 shown_at-requires-clause-there g c =
-    let alone : IsAlone c.args.name c.in-Some.seg = search rules in
+    let alone : IsAtName c.args.name c.in-Some.seg = search rules in
     subst (λ n. n < length c.args.system.net.now) (sym alone.node) c.requires.there
 
 pub returns : goal.returns
@@ -30,6 +30,6 @@ returns g c =
     let net = c.args.system.net.now in
     let x : Name = c.args.name in
     let h : Held = allowing c.args.access (record_kept kinds c.args.tables.now) in
-    let alone : IsAlone x c.in-Some.seg = search rules in
+    let alone : IsAtName x c.in-Some.seg = search rules in
     let is = given_names net h x c.in-Some.seg alone c.in_ok-shown.shown.items c.new-found.result.items c.push_given.new.found.items c.new-found.ensures.items (subst (λ l. (z : Name) → has_name c.push_given.new.found.items z ≡ (has_name c.new-found.result.items z || segs_give l x.addr (end_of z))) c.as_slice.ensures.value c.in_ok-push_given.ensures) c.in_ok-shown.ensures in
     record { names = set_is_ends c.push_given.new.found.items (resolved_names_under net h x) c.set_of.result (names_are net h x c.push_given.new.found.items is) c.set_of.ensures }
