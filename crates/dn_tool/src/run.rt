@@ -59,11 +59,10 @@ pub fn run<S: Source, K: Sink, D: Tables>(
         (answer words.now (map (λ k. meaning (k.vtable, k.value)) kinds.now.list.items) text) result
         (K.written sink.old) (K.written sink.new)
         (D.log device.old) (D.log device.new) (D.words device.new) }
-    // Where no script is run the device is as it was.
+    // Where no script is run the device is as it was, and with `check` whatever the source tells.
     ensures untouched { (text : List ℕ) → IsInput words.now (S.left source.old) text →
         is_script (answer words.now (map (λ k. meaning (k.vtable, k.value)) kinds.now.list.items) text)
         ≡ false → device.new ≡ device.old }
-    // With `check` it is as it was, whatever the source tells.
     ensures checked { task_of words.now ≡ Some Task.Check → device.new ≡ device.old }
     ensures nothing_done { result ≡ 2 →
         (K.written sink.new ≡ K.written sink.old) × (device.new ≡ device.old) }
