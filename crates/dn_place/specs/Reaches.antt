@@ -5,7 +5,7 @@ use Rattle.dn_place.specs.declared.reach.Reach.{Reach}
 use Rattle.dn_place.specs.Marks.{AreMarked, AreUnitsFrom, IsEntry}
 
 -- the marks tell in which units the hops of an agent can stand, and the entry what the address reaches
-pub record IsReach (net : List NodeDecl) (agent : ℕ) (reach : Reach) : Type 0 where
+pub record IsHopReach (net : List NodeDecl) (agent : ℕ) (reach : Reach) : Type 0 where
   pub marked : AreMarked net agent reach.first.items reach.second.items reach.third.items
   pub entry : IsEntry net agent reach.at reach.entry
   pub units : AreUnitsFrom net 0 reach.units.items

@@ -30,23 +30,23 @@ wanted_name rq [] = record { node = rq.node; base = rq.base }
 wanted_name rq (hop ∷ hops) = record { node = hop.unit; base = hop.x }
 
 -- the address of a node comes to the name: it resolves to it, or, where a hop follows, it is its stop
-abbrev pub ComesTo : List NodeDecl → List Hop → ℕ → ℕ → End → Type 0
-ComesTo net [] node a z = ResolvesFrom net node a z
-ComesTo net (hop ∷ hops) node a z = StopsFrom net node a z
+abbrev pub MeetsWanted : List NodeDecl → List Hop → ℕ → ℕ → End → Type 0
+MeetsWanted net [] node a z = ResolvesFrom net node a z
+MeetsWanted net (hop ∷ hops) node a z = StopsFrom net node a z
 
 -- the addresses of a stretch come to just the names that hops want, one after another
 abbrev pub ComesOnly : List NodeDecl → Request → List Hop → ℕ → ℕ → Type 0
 ComesOnly net rq hops node a = (i : ℕ) (z : End) → i < rq.size →
-    ComesTo net hops node (a + i) z ↔ (further_end i (wanted_name rq hops) ≡ z)
+    MeetsWanted net hops node (a + i) z ↔ (further_end i (wanted_name rq hops) ≡ z)
 
 -- The rows of a node that give what hops want: to each address names to which it comes alone; where one of them is wanted,
 -- all to which it comes; and all of a stretch that comes to just what is wanted.
 pub record AreToward (net : List NodeDecl) (rq : Request) (hops : List Hop) (node : ℕ) (rows : List Row)
     : Type 0 where
   pub apart : Apart 0 rows
-  pub given : (a : ℕ) (z : End) → a ≤ TOP → GivenBy rows a z → ComesTo net hops node a z
+  pub given : (a : ℕ) (z : End) → a ≤ TOP → GivenBy rows a z → MeetsWanted net hops node a z
   pub all : (a i : ℕ) (z : End) → a ≤ TOP → i < rq.size → GivenBy rows a (further_end i (wanted_name rq hops)) →
-      ComesTo net hops node a z → GivenBy rows a z
+      MeetsWanted net hops node a z → GivenBy rows a z
   pub whole : (a : ℕ) → a + rq.size ≤ TOP + 1 → ComesOnly net rq hops node a → (i : ℕ) → i < rq.size →
       GivenBy rows (a + i) (further_end i (wanted_name rq hops))
 

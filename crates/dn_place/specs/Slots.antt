@@ -6,6 +6,7 @@ use Rattle.dn_net.specs.declared.node.Unit.{Unit as UnitPart}
 use Rattle.dn_net.specs.Decode.{unit_at}
 use Rattle.dn_flat.specs.Crowds.{IsCrowded}
 use Rattle.dn_kind.specs.declared.unit_kind.Record.{Record}
+use Rattle.dn_kind.specs.Rights.{both_rights}
 use Rattle.dn_tables.specs.declared.placement.Hop.{Hop}
 use Rattle.dn_placement.specs.Slots.{Slots}
 use Rattle.dn_place.specs.declared.slot.Slot.{Slot}
@@ -15,7 +16,7 @@ use Rattle.dn_place.specs.Sought.{Sought}
 -- a slot that is not free: its record may be shared where it has both rights and the slot no owner
 abbrev pub shared_by : Bool → Option Record → Slot
 shared_by owned None = Barred
-shared_by owned (Some r) = if not owned && (r.rights.0 == 3) then Shared r else Barred
+shared_by owned (Some r) = if not owned && (r.rights.0 == both_rights.0) then Shared r else Barred
 
 -- what a hop meets in a slot
 abbrev pub slot_of : Slots → ℕ → ℕ → Slot

@@ -6,7 +6,7 @@ ghost use Rattle.dn_placement.specs.declared.request.Request.{Request};
 ghost use Rattle.dn_placement.specs.Terms.{IsFirst, NoneSuited};
 ghost use Rattle.dn_book.specs.Terms.{IsKept, slots_of};
 ghost use Rattle.dn_view.specs.Terms.{IsSystem};
-ghost use Rattle.dn_place.specs.Terms.{IsReach, IsRequest};
+ghost use Rattle.dn_place.specs.Terms.{IsHopReach, IsRequest};
 
 use crate::entry::entry_of;
 use crate::first::first_from;
@@ -57,7 +57,7 @@ pub fn first_in_book_from(
     requires kept { IsKept system.net.now
         (map (λ k. meaning (k.vtable, k.value)) system.kinds.now.list.items)
         book.now.grants book.now.set }
-    requires reach { IsReach system.net.now request.now.agent reach.now }
+    requires reach { IsHopReach system.net.now request.now.agent reach.now }
     requires request { IsRequest system.net.now request.now }
     ensures first { IfOk result (λ found. IfSome found (λ p. IsFirst system.entry.net.now
         (slots_of system.entry.net.now book.now.grants) request.now reach.now.at p)) }
@@ -69,8 +69,9 @@ pub fn first_in_book_from(
     first_from(alloc, system, tables, request, reach)
 }
 
-/// Whether no hop can stand where an address of an agent leads: it has no stop, or no hop may take the slot
-/// of its stop. No request of the agent has an admissible placement there. It takes no memory.
+/// Whether it is known that no hop can stand where an address of an agent leads: it has no stop, or no hop
+/// may take the slot of its stop. Where it is `true`, no request of the agent has an admissible placement
+/// there; `false` says nothing. It takes no memory.
 pub fn is_shut(book: &Book, system: System, agent: u16, at: u64) -> bool
     requires system { IsSystem (λ k. meaning (k.vtable, k.value)) system }
     requires kept { IsKept system.net.now

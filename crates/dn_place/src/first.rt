@@ -6,7 +6,7 @@ ghost use Rattle.dn_kind.specs.Terms.{IsLawful, are_rights};
 ghost use Rattle.dn_tables.specs.Terms.{FitsNet, fits_kinds, has_slot, record_kept};
 ghost use Rattle.dn_placement.specs.Terms.{IsAdmissible, IsFirst, IsPlacement, NoneSuited, slots_of_set};
 ghost use Rattle.dn_view.specs.Terms.{IsSystem};
-ghost use Rattle.dn_place.specs.Terms.{IsFirstOrNone, IsReach, IsRequest, IsSearchReady, hops_view, slot_of};
+ghost use Rattle.dn_place.specs.Terms.{IsFirstOrNone, IsHopReach, IsRequest, IsSearchReady, hops_view, slot_of};
 
 use crate::chain::{Stage, by_hops};
 use crate::hops::Hops;
@@ -61,7 +61,7 @@ pub fn first_from(
     requires system { IsSystem (λ k. meaning (k.vtable, k.value)) system }
     requires fits { FitsNet system.net.now
         (map (λ k. meaning (k.vtable, k.value)) system.kinds.now.list.items) tables.now }
-    requires reach { IsReach system.net.now request.now.agent reach.now }
+    requires reach { IsHopReach system.net.now request.now.agent reach.now }
     requires request { IsRequest system.net.now request.now }
     ensures first { IfOk result (λ found. IfSome found (λ p. IsFirst system.entry.net.now
         (slots_of_set (map (λ k. meaning (k.vtable, k.value)) system.entry.kinds.now.list.items)
@@ -94,7 +94,7 @@ fn by_tables<A: Aim>(
       at = reach.now.at;
     } }
     requires ready { IsSearchReady A.sought }
-    requires reach { IsReach system.net.now request.now.agent reach.now }
+    requires reach { IsHopReach system.net.now request.now.agent reach.now }
     ensures { IfOk result (λ found. IsFirstOrNone A.sought [] found) }
 {
     let kinds = system.kinds;
@@ -140,7 +140,8 @@ fn by_tables<A: Aim>(
 fn first_of<Q: Quest>(alloc: Global, quest: &Q, reach: &Reach) -> Found
     requires sound { Q.is_sound quest.now }
     requires ready { IsSearchReady (Q.sought quest.now) }
-    requires reach { IsReach (Q.sought quest.now).net (Q.sought quest.now).request.agent reach.now }
+    requires reach { IsHopReach (Q.sought quest.now).net (Q.sought quest.now).request.agent
+        reach.now }
     requires at { reach.now.at ≡ (Q.sought quest.now).at }
     ensures { IfOk result (λ found. IsFirstOrNone (Q.sought quest.now) [] found) }
 {

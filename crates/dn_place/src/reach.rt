@@ -3,7 +3,7 @@
 ghost use Rattle.std.specs.Prelude.{◌≡◌, ℕ, false, slice_get, Some, None, IfOk, IfSome, IsTrue};
 ghost use Rattle.dn_net.specs.Terms.{is_agent_at};
 ghost use Rattle.dn_view.specs.Terms.{IsSystem};
-ghost use Rattle.dn_place.specs.Terms.{IsReach, mark_at};
+ghost use Rattle.dn_place.specs.Terms.{IsHopReach, mark_at};
 
 use crate::entry::entry_of;
 use crate::ground::Ground;
@@ -38,7 +38,7 @@ pub fn reach_of(
 ) -> Result<Reach, OutOfMemory>
     requires system { IsSystem (λ k. meaning (k.vtable, k.value)) system }
     requires agent { IsTrue (is_agent_at (slice_get system.net.now agent)) }
-    ensures reach { IfOk result (λ r. IsReach system.entry.net.now agent r) }
+    ensures reach { IfOk result (λ r. IsHopReach system.entry.net.now agent r) }
     ensures at { IfOk result (λ r. r.at ≡ at) }
 {
     let ground = Ground {

@@ -1,7 +1,7 @@
 //! The least vector that has an admissible placement at a line.
 
 ghost use Rattle.std.specs.Prelude.{◌≡◌, ◌≤◌, ℕ, Some, None, IfOk, IfSome};
-ghost use Rattle.dn_place.specs.Terms.{IsReach};
+ghost use Rattle.dn_place.specs.Terms.{IsHopReach};
 ghost use Rattle.dn_vector.specs.Terms.{HasNoPlace, IsLeastOfSpan, IsLeastVector, IsRouteAsked, NoVector, grant_of_route, vector_request};
 
 use crate::vectors::free_vectors;
@@ -83,7 +83,7 @@ fn least_of(
     span: Span,
 ) -> Result<Option<Found>, OutOfMemory>
     requires asked { IsRouteAsked (λ k. meaning (k.vtable, k.value)) asked }
-    requires reach { IsReach asked.system.net.now asked.agent reach.now }
+    requires reach { IsHopReach asked.system.net.now asked.agent reach.now }
     requires line { reach.now.at ≡ Some asked.line }
     ensures found { IfOk result (λ found. IfSome found (λ f.
         IsLeastOfSpan asked.entry.system.net.now asked.entry.book.now.grants asked.entry.agent

@@ -7,7 +7,7 @@ use Rattle.dn_kind.specs.Kind.{Meaning}
 use Rattle.dn_placement.specs.Exposure.{IsAdmissible}
 use Rattle.dn_placement.specs.Placement.{IsPlacement}
 use Rattle.dn_place.specs.Hops.{hops_view}
-use Rattle.dn_place.specs.Reaches.{IsReach}
+use Rattle.dn_place.specs.Reaches.{IsHopReach}
 use Rattle.dn_place.specs.Slots.{slot_of}
 use Rattle.dn_place.specs.Sought.{Sought, slot_count}
 use Rattle.dn_place.proofs.Readies.{slot_in_set}
@@ -29,7 +29,7 @@ first_of-requires-clause-sound g c =
     }
 
 pub first_of-requires-clause-reach : goal.first_of-requires-clause-reach
-first_of-requires-clause-reach g c = subst (λ (s : Sought). IsReach s.net s.request.agent c.args.reach.now) (sym c.requires.aim) c.requires.reach
+first_of-requires-clause-reach g c = subst (λ (s : Sought). IsHopReach s.net s.request.agent c.args.reach.now) (sym c.requires.aim) c.requires.reach
 
 pub first_of-requires-clause-at : goal.first_of-requires-clause-at
 first_of-requires-clause-at g c = sym (ap (λ (s : Sought). s.at) c.requires.aim)
