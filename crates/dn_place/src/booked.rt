@@ -1,7 +1,7 @@
 //! The first admissible placement beside the grants of a book.
 
 ghost use Rattle.std.specs.Prelude.{◌≡◌, map, slice_get, Some, None, IfOk, IfSome, IsTrue};
-ghost use Rattle.dn_net.specs.Terms.{is_agent_at, top};
+ghost use Rattle.dn_net.specs.Terms.{is_agent_at};
 ghost use Rattle.dn_placement.specs.declared.request.Request.{Request};
 ghost use Rattle.dn_placement.specs.Terms.{IsFirst, NoneSuited};
 ghost use Rattle.dn_book.specs.Terms.{IsKept, slots_of};
