@@ -75,7 +75,7 @@ pub record IsGrantLogged (net : List NodeDecl) (kinds : List Meaning) (book : Li
 
 -- what is known of a fault that is told before a placement is sought: it says the first refusal that holds, and comes
 -- neither of the search nor of the device
-pub record IsTold (net : List NodeDecl) (book : List Grant) (id : ℕ) (rq : Request) (fault : GrantFault)
+pub record IsGrantTold (net : List NodeDecl) (book : List Grant) (id : ℕ) (rq : Request) (fault : GrantFault)
     : Type 0 where
   pub outcome : IsGrantOutcome net book id rq (grant_answer_view (Err fault)) book
   pub no_search : ◌≢◌ {A = Result ℕ GrantFault} (Err fault) (Err NoPlacement)

@@ -2,7 +2,7 @@
 
 ghost use Rattle.std.specs.Prelude.{◌≡◌, ◌<◌, length, slice_get, Some, None, IfSome, IsTrue};
 ghost use Rattle.std.specs.Option.{option_map};
-ghost use Rattle.dn_grant.specs.Terms.{IsTold, grant_fault_view, grant_refusal, is_target_at};
+ghost use Rattle.dn_grant.specs.Terms.{IsGrantTold, grant_fault_view, grant_refusal, is_target_at};
 
 use crate::accepted::refused_address;
 use crate::fault::GrantFault;
@@ -19,7 +19,8 @@ const MAX_GRANTS: usize = 4096;
 pub fn refusal(book: &Book, checked: CheckedNet, id: u32, request: &Request) -> Option<GrantFault>
     ensures same { option_map grant_fault_view result ≡ option_map (λ why. Some why)
         (grant_refusal checked.entry.net.now book.now.grants id request.now) }
-    ensures told { IfSome result (IsTold checked.entry.net.now book.now.grants id request.now) }
+    ensures told { IfSome result
+        (IsGrantTold checked.entry.net.now book.now.grants id request.now) }
     ensures none { result ≡ None →
         grant_refusal checked.entry.net.now book.now.grants id request.now ≡ None }
 {
