@@ -7,6 +7,7 @@ use Rattle.std.specs.Str.{IsAscii}
 use Rattle.std.proofs.lemmas.List.{drop-set}
 use Rattle.std.proofs.lemmas.List.Sums.{AllPass-from_list_all}
 use Rattle.std.proofs.lemmas.Str.Ascii.{IsAscii-from_all}
+use Rattle.dn_print.specs.Names.{address_text}
 use Rattle.dn_token.specs.Token.{hex_value, decimal_value, spelled_from, digits_number, number_within, is_hexadecimal, number_of, is_word_byte, is_digit}
 use Rattle.dn_token.proofs.Numbers.{some_digits}
 use Rattle.dn_base.proofs.Booleans.{and_parts, and-false}
@@ -153,6 +154,6 @@ below_ascii d h = grind (arith, tests)
 all_ascii : (s : List ℕ) → IsTrue (list_all (λ b. nat_lt b 128) s) → IsAscii s
 all_ascii s h = IsAscii-from_all s (λ k d l. ltb-true (slice_index_or s k d) 128 (AllPass-from_list_all (λ b. nat_lt b 128) s h k d l))
 
-pub hexadecimal_ascii : (n : ℕ) → IsAscii (digits 16 false n)
+pub address_ascii : (n : ℕ) → IsAscii (address_text n)
 unfolding digits
-hexadecimal_ascii n = all_ascii (digits_onto 64 16 false n []) (all_pass (λ b. nat_lt b 128) 16 (omega arith) below_ascii 64 n [] refl)
+address_ascii n = all_ascii (48 ∷ 120 ∷ digits_onto 64 16 false n []) (all_pass (λ b. nat_lt b 128) 16 (omega arith) below_ascii 64 n [] refl)

@@ -8,8 +8,8 @@ ghost use Rattle.dn_print.specs.Terms.{address_text};
 use crate::OutOfMemory;
 use std::str::from_utf8_unchecked;
 
-/// Room for the digits of a number.
-const ROOM: usize = 64;
+/// Room for the mark of a number in hexadecimal, and its digits.
+const ROOM: usize = 66;
 
 /// Appends an address, `0x` and its digits in hexadecimal, to a text that is given up for want of
 /// memory. As `write!` would, and several times as fast.
@@ -18,19 +18,31 @@ pub(crate) fn write_address(out: &mut String, addr: u64) -> Result<(), OutOfMemo
 {
     let mut room = [0; ROOM];
     let start = encode(addr, &mut room);
-    out.push_str("0x")?;
     out.push_str(unsafe { from_utf8_unchecked(&room[start..]) })
 }
 
-/// Writes the digits of a number to the end of the room, and answers where they begin.
+/// Writes a number as an address to the end of the room, and answers where it begins.
 fn encode(number: u64, room: &mut [u8; ROOM]) -> usize
-    ensures within { result ≤ 64 }
+    ensures within { result ≤ 66 }
+    ensures text { drop result room.new ≡ address_text number }
+    ensures ascii { IsAscii (address_text number) }
+{
+    let first = put_digits(number, room);
+    room[first - 1] = b'x';
+    room[first - 2] = b'0';
+    first - 2
+}
+
+/// Writes the digits of a number to the end of the room, and answers where they begin. In front of them
+/// there are two places more.
+fn put_digits(number: u64, room: &mut [u8; ROOM]) -> usize
+    ensures behind { 2 ≤ result }
+    ensures within { result ≤ 66 }
     ensures digits { drop result room.new ≡ digits 16 false number }
-    ensures ascii { IsAscii (digits 16 false number) }
 {
     let mut place = ROOM;
     let mut rest = number;
-    while place > 0 {
+    while place > 2 {
         place -= 1;
         room[place] = glyph(rest % 16);
         rest /= 16;

@@ -1,36 +1,17 @@
--- One digit more.
-use Rattle.std.proofs.Common.{◌∙◌, ◌-◌, ◌/◌, ◌%◌, false, ap, sym, arith, drop, length-set}
-use Rattle.std.proofs.lemmas.List.{drop_all}
-use Rattle.std.specs.Fmt.{digits_onto, digit_glyph}
-use Rattle.dn_print.proofs.Digits.{whole_digits, last_digit, next_digit, digit_put, hexadecimal_ascii}
+-- The mark in front of the digits.
+use Rattle.std.proofs.Common.{◌≡◌, ◌∙◌, ◌-◌, ◌∷◌, ap, sym, arith, drop, length-set, set}
+use Rattle.dn_print.proofs.Digits.{address_ascii, digit_put}
 use Rattle.dn_print.proofs.address.encode.Goals as goal
 
-pub loop-place-init : goal.loop-place-init
-loop-place-init c = record {
-  within = omega arith;
-  long = omega arith;
-  so_far = ap (digits_onto 64 16 false c.args.number) (drop_all 64 c.args.room.now (omega arith)) ∙ whole_digits c.args.number;
-}
+pub returns-clause-text : goal.returns-clause-text
+returns-clause-text c =
+    let w = c.put_digits-first in
+    let room = w.new.room in
+    let i = w.result in
+    let marked = digit_put room i 120 120 (omega arith) (omega arith) (omega arith) in
+    let more : (i - 1) - 1 ≡ i - 2 = omega arith in
+    let zero = digit_put (set room (i - 1) 120) (i - 1) 48 48 (omega arith) (omega (arith, length-set room (i - 1) 120)) (omega arith) in
+    ap (λ k. drop k (set (set room (i - 1) 120) k 48)) (sym more) ∙ zero ∙ ap (λ l. 48 ∷ l) (marked ∙ ap (λ l. 120 ∷ l) w.ensures.digits)
 
-pub loop-place-preserved : goal.loop-place-preserved
-loop-place-preserved c =
-    let l = c.loop-place in
-    let put = digit_put l.room l.place c.glyph.result (digit_glyph false (l.rest % 16)) c.loop-place-test.true (omega arith) c.glyph.ensures in
-    record {
-      within = omega arith;
-      long = length-set l.room (l.place - 1) c.glyph.result ∙ l.invariant.long;
-      so_far = ap (digits_onto (l.place - 1) 16 false (l.rest / 16)) put ∙ sym (next_digit l.rest (drop l.place l.room) l.place c.loop-place-test.true c.if-rest-eq0.false) ∙ l.invariant.so_far;
-    }
-
-pub returns-then-rest-eq0 : goal.returns-then-rest-eq0
-returns-then-rest-eq0 c =
-    let l = c.loop-place in
-    let put = digit_put l.room l.place c.glyph.result (digit_glyph false (l.rest % 16)) c.loop-place-test.true (omega arith) c.glyph.ensures in
-    record {
-      within = omega arith;
-      digits = put ∙ sym (last_digit l.rest (drop l.place l.room) l.place c.loop-place-test.true c.if-rest-eq0.true) ∙ l.invariant.so_far;
-      ascii = hexadecimal_ascii c.args.number;
-    }
-
-pub returns-after-loop-place-clause-ascii : goal.returns-after-loop-place-clause-ascii
-returns-after-loop-place-clause-ascii c = hexadecimal_ascii c.args.number
+pub returns-clause-ascii : goal.returns-clause-ascii
+returns-clause-ascii c = address_ascii c.args.number
