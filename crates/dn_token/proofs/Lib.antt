@@ -1,4 +1,6 @@
 pub mod Lexed
+pub mod Classes
+pub mod Marks
 pub mod Numbers
 pub mod Words
 pub mod Going

@@ -8,7 +8,7 @@ use Rattle.dn_token.specs.declared.token.Lexeme.TheVariants.{Word as WordCase, K
 use Rattle.dn_token.specs.declared.token.Token.{Token as CodeToken}
 use Rattle.dn_token.specs.declared.number.Radix.{Radix}
 use Rattle.dn_token.specs.declared.number.Radix.TheVariants.{Decimal, Hexadecimal}
-use Rattle.dn_token.specs.Token.{Lexeme, Token, Front, word, keyword, number, sign, bad, front, reserved_words, decimal_value, hex_value, dots_or_sign, is_slash, begins_with}
+use Rattle.dn_token.specs.Token.{Lexeme, Token, Front, is_word_byte, word, keyword, number, sign, bad, front, reserved_words, decimal_value, hex_value, dots_or_sign, is_slash, begins_with}
 
 -- the lexeme of the subject that a lexeme of the code is
 abbrev pub lexeme_view : CodeLexeme → Lexeme
@@ -36,6 +36,11 @@ abbrev pub begins_comment : List ℕ → Bool
 begins_comment [] = false
 begins_comment (b ∷ s) = is_slash b && begins_with is_slash s
 
+-- a number in hexadecimal digits begins here
+abbrev pub begins_hexadecimal : List ℕ → Bool
+begins_hexadecimal [] = false
+begins_hexadecimal (b ∷ s) = (b == 48) && begins_with (λ c. c == 120) s
+
 -- the reserved word that a word is
 abbrev pub keyword_among : List (List ℕ × Keyword) → List ℕ → Option Keyword
 keyword_among [] w = None
@@ -48,6 +53,15 @@ reserved_word w = keyword_among reserved_words w
 -- the reserved words of one length
 abbrev pub of_length : ℕ → List (List ℕ × Keyword) → List (List ℕ × Keyword)
 of_length n rs = filter (λ r. length r.0 == n) rs
+
+-- the class of a byte of no hexadecimal digit
+abbrev pub class_or : Option ℕ → Bool → ℕ
+class_or (Some d) is_word = d
+class_or None is_word = if is_word then 16 else 17
+
+-- the class of a byte: the value of a hexadecimal digit, 16 for another byte of a word, and 17 for a byte of none
+unfoldable pub class_of : ℕ → ℕ
+class_of b = class_or (hex_value b) (is_word_byte b)
 
 -- how many digits a way to write numbers has
 abbrev pub base_of : Radix → ℕ

@@ -6,9 +6,10 @@ ghost use Rattle.dn_token.specs.Terms.{after_comment, after_run, bad, begins_com
 ghost use Rattle.dn_base.specs.Terms.{Answers};
 ghost use Rattle.dn_token.specs.declared.lexer.TokenFault.TheVariants.{OutOfMemory as no_memory};
 
+use crate::class::is_word_byte;
 use crate::cursor::Cursor;
 use crate::keyword::keyword_of;
-use crate::number::number_of;
+use crate::number::number_front;
 use crate::token::{Lexeme, Sign, Token};
 use std::alloc::{AllocFailed, Global};
 use thiserror::Error;
@@ -141,7 +142,7 @@ fn split_run(text: &[u8]) -> (&[u8], &[u8])
     ensures rest { result.1.now ≡ after_run text.now }
 {
     let mut length = 0;
-    while length < text.len() && (is_letter(text[length]) || is_digit(text[length])) {
+    while length < text.len() && is_word_byte(text[length]) {
         length += 1;
     }
     text.split_at(length)
@@ -159,8 +160,8 @@ fn front<'a>(text: &'a [u8]) -> Option<(Lexeme<'a>, &'a [u8])>
         let (run, rest) = split_run(text);
         Some((word_lexeme(run), rest))
     } else if is_digit(byte) {
-        let (run, rest) = split_run(text);
-        Some((Lexeme::Number(number_of(run)?), rest))
+        let (number, rest) = number_front(text)?;
+        Some((Lexeme::Number(number), rest))
     } else {
         sign_front(text)
     }

@@ -1,19 +1,33 @@
 //! Numbers by their spellings.
 
-ghost use Rattle.std.specs.Prelude.{◌≡◌};
-ghost use Rattle.dn_token.specs.Terms.{base_of, decimal_value, digits_number, hex_value, number_of, number_within, value_of};
+ghost use Rattle.std.specs.Prelude.{◌≡◌, ◌<◌, length, None, Some, IfSome, MatchOption};
+ghost use Rattle.dn_token.specs.Terms.{after_run, base_of, begins_hexadecimal, digits_number, number_of, number_within, value_of, word_run};
 
-/// The number that a run spells: decimal digits, or `0x` and hexadecimal digits of either case.
-/// None where it spells none, or one past 2^64 - 1.
-#[tactic(auto, unfolding(crate::specs::Token::number_of))]
+use crate::class::{class_of, is_word_byte};
+
+/// The number that the run of letters, digits and `_` at the front of a text spells, and what follows the run:
+/// decimal digits, or `0x` and hexadecimal digits of either case. None where the run spells none, or one past
+/// 2^64 - 1.
 #[inline(always)]
-pub fn number_of(run: &[u8]) -> Option<u64>
-    ensures { result ≡ number_of run.now }
+pub fn number_front(text: &[u8]) -> Option<(u64, &[u8])>
+    ensures seen { MatchOption result (number_of (word_run text.now) ≡ None)
+        (λ found. number_of (word_run text.now) ≡ Some found.0) }
+    ensures rest { IfSome result (λ found. found.1.now ≡ after_run text.now) }
+    ensures shorter { IfSome result (λ found. length found.1.now < length text.now) }
 {
-    match run.strip_prefix(b"0x") {
-        Some(digits) => spelled_number(Radix::Hexadecimal, digits),
-        None => spelled_number(Radix::Decimal, run),
+    if begins_hexadecimal(text) {
+        spelled_front(Radix::Hexadecimal, &text[2..])
+    } else {
+        spelled_front(Radix::Decimal, text)
     }
+}
+
+/// Whether a number in hexadecimal digits begins here.
+#[inline(always)]
+fn begins_hexadecimal(text: &[u8]) -> bool
+    ensures { result ≡ begins_hexadecimal text.now }
+{
+    matches!(text, [b'0', b'x', ..])
 }
 
 /// The two ways to write numbers by digits.
@@ -36,52 +50,29 @@ fn base_of(radix: Radix) -> u64
     }
 }
 
-/// What a byte stands for. None where it is no digit.
+/// The number that the run of letters, digits and `_` at the front of a text spells with these digits alone,
+/// and what follows the run. None where there is none, one is no digit, or the number is past 2^64 - 1.
 #[inline(always)]
-fn value_of(radix: Radix, byte: u8) -> Option<u64>
-    ensures { result ≡ value_of radix byte }
+fn spelled_front(radix: Radix, text: &[u8]) -> Option<(u64, &[u8])>
+    ensures seen { MatchOption result
+        (number_within (digits_number (base_of radix) (value_of radix) (word_run text.now)) ≡ None)
+        (λ found. number_within (digits_number (base_of radix) (value_of radix) (word_run text.now))
+        ≡ Some found.0) }
+    ensures rest { IfSome result (λ found. found.1.now ≡ after_run text.now) }
+    ensures shorter { IfSome result (λ found. length found.1.now < length text.now) }
 {
-    match radix {
-        Radix::Decimal => decimal_value(byte),
-        Radix::Hexadecimal => hexadecimal_value(byte),
+    let mut number: u64 = 0;
+    let mut length = 0;
+    while length < text.len() && is_word_byte(text[length]) {
+        let digit = u64::from(class_of(text[length]));
+        if base_of(radix) <= digit {
+            return None;
+        }
+        number = number.checked_mul(base_of(radix))?.checked_add(digit)?;
+        length += 1;
     }
-}
-
-/// The number that digits spell. None where there is none, one is no digit, or the number is past 2^64 - 1.
-#[inline(always)]
-fn spelled_number(radix: Radix, digits: &[u8]) -> Option<u64>
-    ensures { result ≡ number_within (digits_number (base_of radix) (value_of radix) digits.now) }
-{
-    if digits.is_empty() {
+    if length == 0 {
         return None;
     }
-    let mut number: u64 = 0;
-    for digit in digits {
-        number = number
-            .checked_mul(base_of(radix))?
-            .checked_add(value_of(radix, *digit)?)?;
-    }
-    Some(number)
-}
-
-#[inline(always)]
-fn decimal_value(digit: u8) -> Option<u64>
-    ensures { result ≡ decimal_value digit }
-{
-    match digit {
-        b'0'..=b'9' => Some(u64::from(digit - b'0')),
-        _ => None,
-    }
-}
-
-#[inline(always)]
-fn hexadecimal_value(digit: u8) -> Option<u64>
-    ensures { result ≡ hex_value digit }
-{
-    match digit {
-        b'0'..=b'9' => Some(u64::from(digit - b'0')),
-        b'a'..=b'f' => Some(u64::from(digit - b'a' + 10)),
-        b'A'..=b'F' => Some(u64::from(digit - b'A' + 10)),
-        _ => None,
-    }
+    Some((number, &text[length..]))
 }
