@@ -168,9 +168,9 @@ reading_judged : (last : ℕ) (ts : List Token) → reading last ts ≡ judge la
 unfolding reading judge
 reading_judged last ts = refl
 
-pub text_reads : (text : List ℕ) (ts : List Token) (last : ℕ) (r : Result CodeTree ParseFault) → length text ≤ 4194304 → tokens text ≡ Ok ts → last ≡ last_line text → Answers tree_view parse_fault_view r (judge last ts no_blocks_yet ts) → Answers tree_view parse_fault_view r (text_reading text)
-text_reads text ts last r short e l h =
-    let same : text_reading text ≡ judge last ts no_blocks_yet ts = short_enough text short ∙ ap (of_token_list (last_line text)) e ∙ ap (λ (n : ℕ). reading n ts) (sym l) ∙ reading_judged last ts in
+pub text_reads : (text : List ℕ) (ts : List Token) (r : Result CodeTree ParseFault) → length text ≤ 4194304 → tokens text ≡ Ok ts → Answers tree_view parse_fault_view r (judge (last_line text) ts no_blocks_yet ts) → Answers tree_view parse_fault_view r (text_reading text)
+text_reads text ts r short e h =
+    let same : text_reading text ≡ judge (last_line text) ts no_blocks_yet ts = short_enough text short ∙ ap (of_token_list (last_line text)) e ∙ reading_judged (last_line text) ts in
     subst (Answers tree_view parse_fault_view r) (sym same) h
 
 pub text_bad : (text : List ℕ) (line : ℕ) → length text ≤ 4194304 → tokens text ≡ Err line → text_reading text ≡ Err (bad_token line)

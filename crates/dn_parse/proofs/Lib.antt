@@ -13,6 +13,7 @@ pub mod Shallow
 pub mod Series
 pub mod Members
 pub mod Nested
+pub mod Opening
 pub mod Firsts
 pub mod Does
 pub mod Readers

@@ -505,6 +505,18 @@ statement_by (keyword k) ts rest = keyword_statement_at k ts rest
 statement_by (number n) ts rest = refuses_at ts
 statement_by (sign s) ts rest = refuses_at ts
 
+-- a word that is not reserved
+abbrev pub is_free : Lexeme → Bool
+is_free (word w) = true
+is_free (keyword k) = false
+is_free (number n) = false
+is_free (sign s) = false
+
+-- a word that is not reserved is the first token
+abbrev pub begins_word : List Token → Bool
+begins_word [] = false
+begins_word (t ∷ ts) = is_free t.lexeme
+
 -- a statement without its `;`
 unfoldable pub statement_at : Reader Statement
 statement_at [] = refuses_at []

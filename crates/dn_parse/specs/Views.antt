@@ -135,7 +135,7 @@ order_view (Absorb n) = absorb (name_view n)
 abbrev pub statement_view : CodeStatement → Statement
 statement_view (DeclCase d) = declares (declaration_view d)
 statement_view (ModuleCase w ps) = heads_module w.now (map param_view ps)
-statement_view (InstanceCase w xs n) = uses w.now (map arg_view xs) (name_view n)
+statement_view (InstanceCase w xs n) = uses w.now (map arg_view xs) (name_view n.value)
 statement_view (LoopCase w from upto) = heads_loop w.now (expr_view from) (expr_view upto)
 statement_view EndCase = ends
 statement_view BeginCase = begins
@@ -145,7 +145,7 @@ statement_view (OrderCase o) = orders (order_view o)
 abbrev pub stmt_step : Stmt-F Item → Item
 stmt_step (StmtDecl line d) = declared line (declaration_view d)
 stmt_step (StmtModule line w ps body) = module_of line w.now (map param_view ps) (items body.items)
-stmt_step (StmtInstance line w xs n) = instance line w.now (map arg_view xs) (name_view n)
+stmt_step (StmtInstance line w xs n) = instance line w.now (map arg_view xs) (name_view n.value)
 stmt_step (StmtLoop line w from upto body) = loop line w.now (expr_view from.value) (expr_view upto.value) (items body.items)
 
 -- a statement of the tree

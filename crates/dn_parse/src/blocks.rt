@@ -1,13 +1,13 @@
 //! The blocks of a text while it is read: what is open, what stands where, and what is forbidden.
 
 ghost use Rattle.std.specs.Prelude.{◌≡◌, List, map, IfOk};
-ghost use Rattle.dn_parse.specs.Terms.{Item, before_begin, blocks_view, closed_block, item_view, misplaced_view, no_blocks_yet, opener_view, opens_module, outside_blocks, param_view, statement_view, with_begin, with_frame, with_item, without_frame};
+ghost use Rattle.dn_parse.specs.Terms.{Item, before_begin, blocks_view, closed_block, declaration_view, declares, item_view, misplaced_view, no_blocks_yet, opener_view, opens_module, outside_blocks, param_view, statement_view, with_begin, with_frame, with_item, without_frame};
 ghost use Rattle.dn_base.specs.Terms.{Answers};
 ghost use Rattle.dn_parse.specs.declared.blocks.Misplaced.TheVariants.{OutOfMemory as no_memory};
 
 use crate::cursor::Halt;
 use crate::statements::Statement;
-use crate::syntax::{Body, Expr, Param, Stmt};
+use crate::syntax::{Body, Decl, Expr, Param, Stmt};
 use dn_base::items::Items;
 use std::alloc::{AllocFailed, Global};
 use std::mem;
@@ -126,6 +126,14 @@ impl<'a> Blocks<'a> {
     {
         self.body.push(item)?;
         Ok(())
+    }
+
+    /// Puts the node that a statement declares, which begins in this line and stands before the commands.
+    pub fn put_node(&mut self, line: u32, decl: Decl<'a>) -> Result<(), Misplaced>
+        ensures { Answers (λ _. blocks_view self.new) misplaced_view result
+            (before_begin (blocks_view self.old) line (declares (declaration_view decl.entry))) }
+    {
+        self.put_item(Stmt::Decl { line, decl })
     }
 
     /// Opens one more block.

@@ -3,7 +3,7 @@
 ghost use Rattle.std.specs.Prelude.{◌≡◌, ◌<◌, length, true, Ok, Err, IfOk};
 ghost use Rattle.dn_token.specs.Terms.{cursor_view};
 ghost use Rattle.dn_parse.specs.declared.cursor.Halt.TheVariants.{Refused};
-ghost use Rattle.dn_parse.specs.Terms.{GoesOn, IsShorter, Reads, after_keyword, after_sign, after_word, first_line, halt_view, keyword_at, sign_at, the_word_at, word_at};
+ghost use Rattle.dn_parse.specs.Terms.{GoesOn, IsShorter, Reads, after_keyword, after_sign, after_word, begins_word, first_line, halt_view, keyword_at, sign_at, the_word_at, word_at};
 ghost use Rattle.dn_base.specs.Terms.{Answers};
 
 use dn_token::cursor::Cursor;
@@ -50,6 +50,16 @@ pub fn first_line<'a>(tokens: &Cursor<'a>) -> Option<u32>
 {
     let token = tokens.peek()?;
     Some(token.line)
+}
+
+/// Whether a word that is not reserved is the next token.
+pub fn at_word<'a>(tokens: &Cursor<'a>) -> bool
+    ensures { result ≡ begins_word (cursor_view tokens.now) }
+{
+    let Some(token) = tokens.peek() else {
+        return false;
+    };
+    matches!(token.lexeme, Lexeme::Word(_))
 }
 
 /// Whether this sign is the next token; it goes on behind it where it is.

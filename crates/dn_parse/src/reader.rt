@@ -1,15 +1,15 @@
 //! The reading of a whole text: its tree, or the first fault with its line.
 
-ghost use Rattle.std.specs.Prelude.{◌≡◌, ◌∷◌, [], ◌+◌, ◌^◌, ◌<◌, List, ℕ, length, false, Some, Err, IfSome, IfOk, IfErr, MatchOption};
+ghost use Rattle.std.specs.Prelude.{◌≡◌, ◌∷◌, [], ◌+◌, ◌^◌, ◌<◌, List, ℕ, length, true, false, Some, Err, IfSome, IfOk, IfErr, MatchOption};
 ghost use Rattle.dn_token.specs.Terms.{cursor_view};
 ghost use Rattle.dn_token.specs.Token.{Token as SpecToken};
-ghost use Rattle.dn_parse.specs.Terms.{IsShorter, at_stop, blocks_view, first_line, halt_fault, judge, last_line, line_at, misplaced_fault, no_blocks_yet, parse_fault_view, script_view, text_reading, tree_view, trouble_view, whole, with_commands};
+ghost use Rattle.dn_parse.specs.Terms.{IsShorter, at_stop, begins_word, blocks_view, first_line, halt_fault, judge, last_line, line_at, misplaced_fault, no_blocks_yet, parse_fault_view, script_view, text_reading, tree_view, trouble_view, whole, with_commands};
 ghost use Rattle.dn_base.specs.Terms.{Answers};
 
 use crate::blocks::{Blocks, Misplaced, Trouble};
-use crate::cursor::{Halt, first_line};
+use crate::cursor::{Halt, at_word, first_line};
 use crate::script::Script;
-use crate::statements::whole_statement;
+use crate::statements::{whole_node, whole_statement};
 use crate::syntax::Tree;
 use dn_token::cursor::Cursor;
 use std::alloc::Global;
@@ -48,9 +48,8 @@ pub fn read<'a>(alloc: Global, text: &'a [u8]) -> Result<Tree<'a>, ParseFault>
     if text.len() > MAX_TEXT {
         return Err(ParseFault::Length);
     }
-    let last = last_line(text);
     match Cursor::new(text) {
-        Ok(tokens) => statements(alloc, tokens, last),
+        Ok(tokens) => statements(alloc, tokens, text),
         Err(line) => Err(ParseFault::Token { line }),
     }
 }
@@ -82,9 +81,10 @@ fn last_line(text: &[u8]) -> u32
     line
 }
 
-/// The line of the token with so many left from it on.
-fn line_at<'a>(tokens: Cursor<'a>, last: u32, left: u32) -> u32
-    ensures { result ≡ line_at last (cursor_view tokens.entry) left }
+/// The line of the token with so many left from it on, or that of the end of the text.
+fn line_at<'a>(tokens: Cursor<'a>, text: &[u8], left: u32) -> u32
+    requires { length text.now + 1 < 2 ^ 32 }
+    ensures { result ≡ line_at (last_line text.now) (cursor_view tokens.entry) left }
 {
     let mut rest = tokens;
     'tokens: while let Some(token) = rest.peek() {
@@ -93,19 +93,21 @@ fn line_at<'a>(tokens: Cursor<'a>, last: u32, left: u32) -> u32
         }
         rest = rest.advance();
     }
-    last
+    last_line(text)
 }
 
-/// The fault of a reading that stops.
-fn fault_of<'a>(halt: Halt, tokens: Cursor<'a>, last: u32) -> ParseFault
-    ensures { parse_fault_view result ≡ halt_fault halt last (cursor_view tokens.entry) }
+/// The fault of a reading of a text that stops.
+fn fault_of<'a>(halt: Halt, tokens: Cursor<'a>, text: &[u8]) -> ParseFault
+    requires { length text.now + 1 < 2 ^ 32 }
+    ensures { parse_fault_view result
+        ≡ halt_fault halt (last_line text.now) (cursor_view tokens.entry) }
 {
     match halt {
         Halt::Refused(left) => ParseFault::Statement {
-            line: line_at(tokens, last, left),
+            line: line_at(tokens, text, left),
         },
         Halt::Deep(left) => ParseFault::Nesting {
-            line: line_at(tokens, last, left),
+            line: line_at(tokens, text, left),
         },
         Halt::OutOfMemory => ParseFault::OutOfMemory,
     }
@@ -119,6 +121,34 @@ fn misplaced_fault(misplaced: Misplaced, line: u32) -> ParseFault
         Misplaced::Forbidden => ParseFault::Block { line },
         Misplaced::Crowded => ParseFault::Nesting { line },
         Misplaced::OutOfMemory => ParseFault::OutOfMemory,
+    }
+}
+
+/// Puts the node that the next statement declares into the blocks, which begins with the node's name in this
+/// line and stands before the commands.
+fn put_node<'a>(
+    alloc: Global,
+    blocks: &mut Blocks<'a>,
+    tokens: &mut Cursor<'a>,
+    line: u32,
+) -> Result<(), Trouble>
+    requires begins { first_line (cursor_view tokens.old) ≡ Some line }
+    requires word { begins_word (cursor_view tokens.old) ≡ true }
+    requires before { blocks.old.begun ≡ false }
+    ensures ok { IfOk result (λ _. (last : ℕ) (all : List SpecToken) →
+        judge last all (blocks_view blocks.old) (cursor_view tokens.old)
+        ≡ judge last all (blocks_view blocks.new) (cursor_view tokens.new)) }
+    ensures shorter { IfOk result (λ _. IsShorter tokens.new tokens.old) }
+    ensures err { IfErr result (λ e. (last : ℕ) (all : List SpecToken) →
+        IfSome (trouble_view e last all)
+        (λ f. judge last all (blocks_view blocks.old) (cursor_view tokens.old) ≡ Err f)) }
+{
+    match whole_node(alloc, tokens) {
+        Err(stop) => Err(Trouble::Halted(stop)),
+        Ok(decl) => match blocks.put_node(line, decl) {
+            Ok(()) => Ok(()),
+            Err(misplaced) => Err(Trouble::Misplaced(misplaced, line)),
+        },
     }
 }
 
@@ -139,6 +169,9 @@ fn put_next<'a>(
         IfSome (trouble_view e last all)
         (λ f. judge last all (blocks_view blocks.old) (cursor_view tokens.old) ≡ Err f)) }
 {
+    if at_word(tokens) {
+        return put_node(alloc, blocks, tokens, line);
+    }
     match whole_statement(alloc, tokens) {
         Err(halt) => Err(Trouble::Halted(halt)),
         Ok(statement) => match blocks.put(alloc, line, statement) {
@@ -186,18 +219,20 @@ fn all_placed<'a>(alloc: Global, tokens: Cursor<'a>) -> Result<(Blocks<'a>, Scri
     Ok((blocks, commands))
 }
 
-/// The tree, where no block is open at the end.
+/// The tree, where no block is open at the end of the text.
 fn finished_tree<'a>(
     blocks: Blocks<'a>,
     commands: Script<'a>,
-    last: u32,
+    text: &[u8],
 ) -> Result<Tree<'a>, ParseFault>
+    requires { length text.now + 1 < 2 ^ 32 }
     ensures { (all : List SpecToken) → Answers tree_view parse_fault_view result
-        (at_stop whole last all
+        (at_stop whole (last_line text.now) all
         (with_commands (blocks_view blocks.entry) (script_view commands.entry))) }
 {
     if !blocks.frames.is_empty() {
-        return Err(ParseFault::Block { line: last });
+        let line = last_line(text);
+        return Err(ParseFault::Block { line });
     }
     Ok(Tree {
         body: blocks.body,
@@ -205,14 +240,15 @@ fn finished_tree<'a>(
     })
 }
 
-/// The tree of a list of tokens, or its first fault; the last line is that of the end of the text.
-fn statements<'a>(alloc: Global, tokens: Cursor<'a>, last: u32) -> Result<Tree<'a>, ParseFault>
-    ensures { Answers tree_view parse_fault_view result
-        (judge last (cursor_view tokens.entry) no_blocks_yet (cursor_view tokens.entry)) }
+/// The tree of a text's tokens, or its first fault.
+fn statements<'a>(alloc: Global, tokens: Cursor<'a>, text: &[u8]) -> Result<Tree<'a>, ParseFault>
+    requires { length text.now + 1 < 2 ^ 32 }
+    ensures { Answers tree_view parse_fault_view result (judge (last_line text.now)
+        (cursor_view tokens.entry) no_blocks_yet (cursor_view tokens.entry)) }
 {
     match all_placed(alloc, tokens) {
-        Ok((blocks, commands)) => finished_tree(blocks, commands, last),
-        Err(Trouble::Halted(halt)) => Err(fault_of(halt, tokens, last)),
+        Ok((blocks, commands)) => finished_tree(blocks, commands, text),
+        Err(Trouble::Halted(halt)) => Err(fault_of(halt, tokens, text)),
         Err(Trouble::Misplaced(misplaced, line)) => Err(misplaced_fault(misplaced, line)),
     }
 }

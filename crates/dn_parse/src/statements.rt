@@ -1,8 +1,8 @@
 //! Statements, each up to its `;`.
 
-ghost use Rattle.std.specs.Prelude.{◌≡◌, ◌<◌, length, map, IfOk, IfSome};
+ghost use Rattle.std.specs.Prelude.{◌≡◌, ◌<◌, true, length, map, IfOk, IfSome};
 ghost use Rattle.dn_token.specs.Terms.{cursor_view};
-ghost use Rattle.dn_parse.specs.Terms.{IsShorter, Reads, ReadsNext, Shortens, access_at, any_word_at, arg_at, arg_view, args_at, as_declared, closed_args_at, closed_params_at, command_at, command_view, declaration_view, expr_view, grant_at, keyword_statement_at, lookup_at, loop_at, measure_at, mode_at, module_at, name_view, next_arg_at, next_param_at, next_port_at, node_at, order_at, order_view, param_at, param_view, params_at, ports_at, resolve_at, role_view, route_at, statement_at, statement_view, unit_declaration_at, use_at, view_at, whole_statement_at};
+ghost use Rattle.dn_parse.specs.Terms.{IsShorter, Reads, ReadsNext, Shortens, access_at, any_word_at, arg_at, arg_view, args_at, as_declared, begins_word, closed_args_at, closed_params_at, command_at, command_view, declaration_view, declares, expr_view, grant_at, keyword_statement_at, lookup_at, loop_at, measure_at, mode_at, module_at, name_view, next_arg_at, next_param_at, next_port_at, node_at, order_at, order_view, param_at, param_view, params_at, ports_at, resolve_at, role_view, route_at, statement_at, statement_view, unit_declaration_at, use_at, view_at, whole_statement_at};
 ghost use Rattle.dn_parse.specs.declared.cursor.Halt.TheVariants.{Refused};
 
 use crate::cursor::{
@@ -37,7 +37,7 @@ pub enum Statement<'a> {
     Instance {
         title: &'a str,
         args: Items<Arg<'a>>,
-        prefix: NameExpr<'a>,
+        prefix: Box<NameExpr<'a>>,
     },
     Loop {
         variable: &'a str,
@@ -338,12 +338,11 @@ fn instance<'a>(alloc: Global, tokens: &mut Cursor<'a>) -> Result<Statement<'a>,
     let args = args(alloc, tokens)?;
     keyword(tokens, Keyword::As)?;
     let prefix = name(alloc, tokens, MOST_OPEN)?;
-    let instance = Statement::Instance {
+    Ok(Statement::Instance {
         title,
         args,
-        prefix,
-    };
-    Ok(instance)
+        prefix: Box::new(alloc, prefix)?,
+    })
 }
 
 /// `word "in" expr ".." expr`
@@ -560,6 +559,22 @@ pub fn whole_statement<'a>(alloc: Global, tokens: &mut Cursor<'a>) -> Result<Sta
         return Err(refuse_unclosed(statement, tokens));
     }
     Ok(statement)
+}
+
+/// The declaration of a node that begins with its name, and its `;`: the statement that a text has the most,
+/// so that it takes the short way.
+#[tactic(auto, unfolding(crate::specs::Descent::whole_statement_at, crate::specs::Descent::sign_at), using(crate::proofs::Opening::node_begins))]
+pub fn whole_node<'a>(alloc: Global, tokens: &mut Cursor<'a>) -> Result<Decl<'a>, Halt>
+    requires { begins_word (cursor_view tokens.old) ≡ true }
+    ensures gives { Reads (λ d. declares (declaration_view d)) result tokens.new
+        (whole_statement_at (cursor_view tokens.old)) }
+    ensures shorter { IfOk result (λ _. IsShorter tokens.new tokens.old) }
+{
+    let decl = node(alloc, tokens, DeclRole::Plain)?;
+    if !after_sign(tokens, Sign::Semicolon) {
+        return Err(refuse_unclosed(Statement::Decl(decl), tokens));
+    }
+    Ok(decl)
 }
 
 /// A command with its `;`, which begins in this line; or nothing, where the statement there is none.

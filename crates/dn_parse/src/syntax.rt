@@ -31,7 +31,7 @@ pub enum Stmt<'a> {
         line: u32,
         title: &'a str,
         args: Items<Arg<'a>>,
-        prefix: NameExpr<'a>,
+        prefix: Box<NameExpr<'a>>,
     },
     Loop {
         line: u32,
