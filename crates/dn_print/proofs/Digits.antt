@@ -4,7 +4,7 @@ use Rattle.std.proofs.Math.Nat.{pow-zero}
 use Rattle.std.specs.Fmt.{digits, digits_onto, digit_glyph, decimal}
 use Rattle.std.specs.List.{list_all}
 use Rattle.std.specs.Str.{IsAscii}
-use Rattle.std.proofs.lemmas.List.{drop-set}
+use Rattle.std.proofs.lemmas.List.{drop-set, drop_all, append_assoc, append-nil}
 use Rattle.std.proofs.lemmas.List.Sums.{AllPass-from_list_all}
 use Rattle.std.proofs.lemmas.Str.Ascii.{IsAscii-from_all}
 use Rattle.dn_print.specs.Names.{address_text}
@@ -125,10 +125,6 @@ decimal_some n = some_digit 10 63 n []
 
 -- digits that are written from the last on, each in front of those behind it
 
-pub whole_digits : (n : ℕ) → digits_onto 64 16 false n [] ≡ digits 16 false n
-unfolding digits
-whole_digits n = refl
-
 module _ (n : ℕ) (acc : List ℕ) where
   by_test : (k : ℕ) (t : Bool) → eqb (n / 16) 0 ≡ t → digits_onto (suc k) 16 false n acc ≡ cond t (digit_glyph false (n % 16) ∷ acc) (digits_onto k 16 false (n / 16) (digit_glyph false (n % 16) ∷ acc))
   by_test k t e = ap (λ (b : Bool). cond b (digit_glyph false (n % 16) ∷ acc) (digits_onto k 16 false (n / 16) (digit_glyph false (n % 16) ∷ acc))) e
@@ -143,6 +139,22 @@ module _ (n : ℕ) (acc : List ℕ) where
       let less : k ≡ suc k - 1 = omega arith in
       by_test k false (ne_eqb (n / 16) 0 e) ∙ ap (λ (j : ℕ). digits_onto j 16 false (n / 16) (digit_glyph false (n % 16) ∷ acc)) less
 
+-- digits in front of what stands behind them
+digits_before : (k n : ℕ) (acc : List ℕ) → digits_onto k 16 false n acc ≡ digits_onto k 16 false n [] ++ acc
+digits_before zero n acc = refl
+digits_before (suc k) n acc = go (eqb (n / 16) 0) (digits_before k (n / 16) (d ∷ acc) ∙ sym (append_assoc (digits_onto k 16 false (n / 16) []) (d ∷ []) acc) ∙ ap (λ (l : List ℕ). l ++ acc) (sym (digits_before k (n / 16) (d ∷ []))))
+  where
+    d : ℕ
+    d = digit_glyph false (n % 16)
+
+    go : (b : Bool) → digits_onto k 16 false (n / 16) (d ∷ acc) ≡ digits_onto k 16 false (n / 16) (d ∷ []) ++ acc → cond b (d ∷ acc) (digits_onto k 16 false (n / 16) (d ∷ acc)) ≡ cond b (d ∷ []) (digits_onto k 16 false (n / 16) (d ∷ [])) ++ acc
+    go true more = refl
+    go false more = more
+
+pub address_before : (n : ℕ) (acc : List ℕ) → 48 ∷ 120 ∷ digits_onto 64 16 false n acc ≡ address_text n ++ acc
+unfolding digits
+address_before n acc = ap (λ (l : List ℕ). 48 ∷ 120 ∷ l) (digits_before 64 n acc)
+
 pub digit_put : (room : List ℕ) (i x g : ℕ) → 0 < i → i ≤ length room → x ≡ g → drop (i - 1) (set room (i - 1) x) ≡ g ∷ drop i room
 digit_put room i x g some l e =
     let back : i - 1 + 1 ≡ i = omega arith in
@@ -154,6 +166,22 @@ below_ascii d h = grind (arith, tests)
 all_ascii : (s : List ℕ) → IsTrue (list_all (λ b. nat_lt b 128) s) → IsAscii s
 all_ascii s h = IsAscii-from_all s (λ k d l. ltb-true (slice_index_or s k d) 128 (AllPass-from_list_all (λ b. nat_lt b 128) s h k d l))
 
-pub address_ascii : (n : ℕ) → IsAscii (address_text n)
+address_passes : (n : ℕ) (acc : List ℕ) → IsTrue (list_all (λ b. nat_lt b 128) acc) → IsTrue (list_all (λ b. nat_lt b 128) (address_text n ++ acc))
+address_passes n acc h = subst (λ (l : List ℕ). IsTrue (list_all (λ b. nat_lt b 128) l)) (address_before n acc) (all_pass (λ b. nat_lt b 128) 16 (omega arith) below_ascii 64 n acc h)
+
+pub span_ascii : (lo hi : ℕ) → IsAscii (address_text lo ++ (codes "-" ++ (address_text hi ++ codes " ")))
+span_ascii lo hi = all_ascii (address_text lo ++ (codes "-" ++ (address_text hi ++ codes " "))) (address_passes lo (codes "-" ++ (address_text hi ++ codes " ")) (address_passes hi (codes " ") refl))
+
+pub at_ascii : (n : ℕ) → IsAscii (codes "@" ++ address_text n)
 unfolding digits
-address_ascii n = all_ascii (48 ∷ 120 ∷ digits_onto 64 16 false n []) (all_pass (λ b. nat_lt b 128) 16 (omega arith) below_ascii 64 n [] refl)
+at_ascii n = all_ascii (64 ∷ 48 ∷ 120 ∷ digits_onto 64 16 false n []) (all_pass (λ b. nat_lt b 128) 16 (omega arith) below_ascii 64 n [] refl)
+
+pub at_text : (before room : List ℕ) (first n : ℕ) → drop first room ≡ address_text n ++ drop 134 before → 0 < first → first ≤ length room → length before ≤ 134 → drop (first - 1) (set room (first - 1) 64) ≡ codes "@" ++ address_text n
+at_text before room first n e some within short =
+    digit_put room first 64 64 some within refl ∙ ap (λ (l : List ℕ). 64 ∷ l) (e ∙ ap (λ (l : List ℕ). address_text n ++ l) (drop_all 134 before short) ∙ append-nil (address_text n))
+
+pub span_text : (zeros between room : List ℕ) (second start lo hi : ℕ) → drop second between ≡ address_text hi ++ drop 133 (set zeros 133 32) → drop start room ≡ address_text lo ++ drop (second - 1) (set between (second - 1) 45) → length zeros ≡ 134 → length between ≡ 134 → 0 < second → second ≤ 134 → drop start room ≡ address_text lo ++ (codes "-" ++ (address_text hi ++ codes " "))
+span_text zeros between room second start lo hi e f long same some within =
+    let space : drop 133 (set zeros 133 32) ≡ 32 ∷ [] = digit_put zeros 134 32 32 (omega arith) (omega (arith, long)) refl ∙ ap (λ (l : List ℕ). 32 ∷ l) (drop_all 134 zeros (omega (arith, long))) in
+    let dash = digit_put between second 45 45 some (omega (arith, same, within)) refl in
+    f ∙ ap (λ (l : List ℕ). address_text lo ++ l) (dash ∙ ap (λ (l : List ℕ). 45 ∷ l) (e ∙ ap (λ (l : List ℕ). address_text hi ++ l) space))

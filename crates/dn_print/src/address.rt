@@ -1,48 +1,71 @@
-//! The text of an address.
+//! The text of addresses.
 
-ghost use Rattle.std.specs.Prelude.{◌≡◌, ◌≤◌, ◌<◌, ◌++◌, drop, false, OnOk, IsAscii};
-ghost use Rattle.std.specs.Fmt.{digits, digit_glyph};
+ghost use Rattle.std.specs.Prelude.{◌≡◌, ◌≤◌, ◌<◌, ◌+◌, ◌++◌, codes, drop, false, OnOk, IsAscii};
+ghost use Rattle.std.specs.Fmt.{digits_onto, digit_glyph};
 ghost use Rattle.std.specs.String.{string_bytes};
 ghost use Rattle.dn_print.specs.Terms.{address_text};
 
 use crate::OutOfMemory;
 use std::str::from_utf8_unchecked;
 
-/// Room for the mark of a number in hexadecimal, and its digits.
-const ROOM: usize = 66;
+/// The most digits that a number is given room for.
+const DIGITS: usize = 64;
 
-/// Appends an address, `0x` and its digits in hexadecimal, to a text that is given up for want of
+/// Room for two addresses with a sign each.
+const ROOM: usize = 134;
+
+/// Appends the first and the last address of a row and a space, to a text that is given up for want of
 /// memory. As `write!` would, and several times as fast.
-pub(crate) fn write_address(out: &mut String, addr: u64) -> Result<(), OutOfMemory>
-    ensures { OnOk result (string_bytes out.new ≡ string_bytes out.old ++ address_text addr) }
+pub(crate) fn write_span(out: &mut String, lo: u64, hi: u64) -> Result<(), OutOfMemory>
+    ensures { OnOk result (string_bytes out.new ≡ string_bytes out.old
+        ++ (address_text lo ++ (codes "-" ++ (address_text hi ++ codes " ")))) }
 {
     let mut room = [0; ROOM];
-    let start = encode(addr, &mut room);
+    room[ROOM - 1] = b' ';
+    let second = encode(hi, &mut room, ROOM - 1);
+    room[second - 1] = b'-';
+    let start = encode(lo, &mut room, second - 1);
     out.push_str(unsafe { from_utf8_unchecked(&room[start..]) })
 }
 
-/// Writes a number as an address to the end of the room, and answers where it begins.
-fn encode(number: u64, room: &mut [u8; ROOM]) -> usize
-    ensures within { result ≤ 66 }
-    ensures text { drop result room.new ≡ address_text number }
-    ensures ascii { IsAscii (address_text number) }
+/// Appends `@` and an address, to a text that is given up for want of memory.
+pub(crate) fn write_at(out: &mut String, addr: u64) -> Result<(), OutOfMemory>
+    ensures { OnOk result (string_bytes out.new ≡ string_bytes out.old
+        ++ (codes "@" ++ address_text addr)) }
 {
-    let first = put_digits(number, room);
+    let mut room = [0; ROOM];
+    let first = encode(addr, &mut room, ROOM);
+    room[first - 1] = b'@';
+    out.push_str(unsafe { from_utf8_unchecked(&room[first - 1..]) })
+}
+
+/// Writes a number as an address in front of this place of the room, `0x` and its digits in hexadecimal, and
+/// answers where it begins.
+fn encode(number: u64, room: &mut [u8; ROOM], end: usize) -> usize
+    requires some { 66 ≤ end }
+    requires within { end ≤ 134 }
+    ensures before { result ≤ end }
+    ensures behind { end ≤ result + 66 }
+    ensures text { drop result room.new ≡ address_text number ++ drop end room.old }
+{
+    let first = put_digits(number, room, end);
     room[first - 1] = b'x';
     room[first - 2] = b'0';
     first - 2
 }
 
-/// Writes the digits of a number to the end of the room, and answers where they begin. In front of them
-/// there are two places more.
-fn put_digits(number: u64, room: &mut [u8; ROOM]) -> usize
-    ensures behind { 2 ≤ result }
-    ensures within { result ≤ 66 }
-    ensures digits { drop result room.new ≡ digits 16 false number }
+/// Writes the digits of a number in front of this place of the room, and answers where they begin.
+fn put_digits(number: u64, room: &mut [u8; ROOM], end: usize) -> usize
+    requires some { 66 ≤ end }
+    requires within { end ≤ 134 }
+    ensures before { result ≤ end }
+    ensures behind { end ≤ result + 64 }
+    ensures digits { drop result room.new ≡ digits_onto 64 16 false number (drop end room.old) }
 {
-    let mut place = ROOM;
+    let last = end - DIGITS;
+    let mut place = end;
     let mut rest = number;
-    while place > 2 {
+    while place > last {
         place -= 1;
         room[place] = glyph(rest % 16);
         rest /= 16;

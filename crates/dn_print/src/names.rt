@@ -6,7 +6,7 @@ ghost use Rattle.dn_kind.specs.Terms.{are_there};
 ghost use Rattle.dn_print.specs.Terms.{Appended, name_text, names_text};
 
 use crate::OutOfMemory;
-use crate::address::write_address;
+use crate::address::write_at;
 use crate::joined::Item;
 use dn_net::names::Names;
 use dn_net::net::Net;
@@ -81,7 +81,6 @@ impl Item for Name {
 
     fn write(&self, out: &mut String, net: &Net) -> Result<(), OutOfMemory> {
         out.push_str(net.text(self.node))?;
-        out.push('@')?;
-        write_address(out, self.addr)
+        write_at(out, self.addr)
     }
 }

@@ -7,12 +7,15 @@ ghost use Rattle.dn_interval.specs.Terms.{seen_view};
 ghost use Rattle.dn_print.specs.Terms.{Appended, end_text, ends_exist, row_text, rows_text};
 
 use crate::OutOfMemory;
-use crate::address::write_address;
+use crate::address::write_span;
 use crate::joined::{Item, write_joined};
 use dn_interval::{End, Row, Rows, Span};
 use dn_net::net::Net;
 use dn_net::node::Name;
 use std::alloc::Global;
+
+/// About how many bytes a line has.
+const LINE: usize = 40;
 
 /// A line for each row: its first and its last address in hexadecimal, a space, and the names of
 /// its first address joined by `, `. `Err` is want of memory.
@@ -48,7 +51,7 @@ pub fn lines_of(alloc: Global, net: &Net, rows: &[Row]) -> Result<String, OutOfM
     requires { IsTrue (ends_exist (length net.now) rows.now) }
     ensures { IfOk result (λ text. string_bytes text ≡ rows_text net.now (map seen_view rows.now)) }
 {
-    let mut out = String::new(alloc);
+    let mut out = String::with_capacity(alloc, rows.len().saturating_mul(LINE))?;
     write_rows(&mut out, net, rows)?;
     Ok(out)
 }
@@ -72,10 +75,7 @@ fn write_row(out: &mut String, net: &Net, row: &Row) -> Result<(), OutOfMemory>
         string_bytes out.old ++ row_text net.now (seen_view row.now)) }
 {
     let Span { lo, hi } = row.span();
-    write_address(out, lo)?;
-    out.push('-')?;
-    write_address(out, hi)?;
-    out.push(' ')?;
+    write_span(out, lo, hi)?;
     write_joined(out, net, ", ", row.ends())?;
     out.push('\n')
 }
