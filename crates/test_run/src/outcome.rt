@@ -1,9 +1,8 @@
 //! What words over a text come to, with a source, a sink and a device in memory.
 
-ghost use Rattle.std.specs.Prelude.{◌≡◌, ◌≢◌, ◌<◌, ◌≤◌, [], Some, length, map, IfOk};
-ghost use Rattle.std.specs.List.{All};
+ghost use Rattle.std.specs.Prelude.{◌≡◌, ◌≢◌, ◌<◌, [], Some, map, IfOk};
 ghost use Rattle.dn_base.specs.Terms.{log_told};
-ghost use Rattle.dn_kind.specs.Terms.{IsLawful};
+ghost use Rattle.test_run.specs.Handed.{AreHandedIn};
 ghost use Rattle.dn_tool.specs.Answer.{IsAnswered, answer as answer_of, demo_answer};
 
 use dn_base::memory::{MemSink, MemSource};
@@ -71,8 +70,7 @@ fn answer_with(
     failing: Failing<'_>,
 ) -> Result<Outcome, AllocError>
     requires some { 0 < most }
-    requires few_kinds { length kinds.now.list.items ≤ 255 }
-    requires lawful { All (λ k. IsLawful (meaning (k.vtable, k.value))) kinds.now.list.items }
+    requires handed { AreHandedIn (λ k. meaning (k.vtable, k.value)) kinds.now.list.items }
     // What was written, the device's log and its words are those of the answer, as far as the run came.
     ensures answered { IfOk result (λ o. IsAnswered
         (map (λ k. meaning (k.vtable, k.value)) kinds.now.list.items)
@@ -132,8 +130,7 @@ fn show_with(
     calls: &[u32],
 ) -> Result<Shown, AllocError>
     requires some { 0 < agents }
-    requires few_kinds { length kinds.now.list.items ≤ 255 }
-    requires lawful { All (λ k. IsLawful (meaning (k.vtable, k.value))) kinds.now.list.items }
+    requires handed { AreHandedIn (λ k. meaning (k.vtable, k.value)) kinds.now.list.items }
     // What was written, the device's log and its words are those of the demonstration, as far as
     // the run came.
     ensures answered { IfOk result (λ o. IsAnswered

@@ -59,6 +59,11 @@ fn written(unit: u16, word: u32, value: u64) -> TableEvent {
     TableEvent::Write { unit, word, value }
 }
 
+/// The event of a write that leaves a word free.
+fn freed(unit: u16, word: u32) -> TableEvent {
+    written(unit, word, 0)
+}
+
 /// What events leave in a word: the last value that is written there, and else 0.
 fn word_in(events: &[TableEvent], unit: u16, word: u32) -> u64 {
     let mut last = 0;
@@ -205,13 +210,13 @@ fn stops_in_grants_and_revokes(rt: HostRuntime) -> Result<(), Fail> {
         written(2, 0, 1),
         written(4, 1, 0x901),
         written(4, 2, 0xa01),
-        written(4, 0, 0),
+        freed(4, 0),
         TableEvent::Fence,
         written(4, 0, 0x201),
-        written(4, 1, 0),
-        written(4, 2, 0),
-        written(2, 0, 0),
-        written(4, 0, 0),
+        freed(4, 1),
+        freed(4, 2),
+        freed(2, 0),
+        freed(4, 0),
     ];
     let script = script_of(Platform::Card, CARD, GRANTED, &events);
     // With both buffers the first pages lead to them, and no other page leads anywhere.
@@ -262,8 +267,8 @@ fn stops_in_routes(rt: HostRuntime) -> Result<(), Fail> {
         made(2, 8),
         written(2, 4, 0x20),
         written(2, 5, 1),
-        written(2, 5, 0),
-        written(2, 4, 0),
+        freed(2, 5),
+        freed(2, 4),
         TableEvent::Fence,
         written(2, 6, 0x20),
         written(2, 7, 1),
