@@ -7,7 +7,7 @@ use Rattle.dn_base.specs.declared.device.TableEvent.{TableEvent}
 use Rattle.dn_base.specs.declared.device.UnitWords.{UnitWords}
 use Rattle.dn_base.specs.declared.device.MakeFault.{MakeFault}
 use Rattle.dn_base.specs.declared.device.MakeFault.TheVariants.{Device, OutOfMemory}
-use Rattle.dn_base.specs.Device.{UnitSize, is_make_fault}
+use Rattle.dn_base.specs.Device.{Logged, UnitSize, is_make_fault}
 use Rattle.dn_base.specs.Outside.{IsWritten}
 use Rattle.dn_base.proofs.Logs.{Logged-none}
 use Rattle.dn_base.proofs.Told.{if_some_then}
@@ -28,7 +28,7 @@ use Rattle.dn_tool.specs.declared.halt.Halt.TheVariants.{WriteFault, DeviceFault
 use Rattle.dn_tool.specs.Books.{GivesOwed}
 use Rattle.dn_tool.specs.Demo.{IsShown, IsSummedUp, has_granted, has_revoked, passing_turns, sum_below, summary_of, summary_with}
 use Rattle.dn_tool.specs.Halt.{ending_status, is_device_halt, is_write_halt, make_halt}
-use Rattle.dn_tool.specs.Played.{IsPlayed, device_tables}
+use Rattle.dn_tool.specs.Played.{IsPlayed, device_tables, make_turn}
 use Rattle.dn_tool.specs.State.{CameThrough, IsChanged, IsTurned}
 use Rattle.dn_tool.specs.Turn.{IsTurn, State, Turn, is_change, reply, reply_turn, start, state_after}
 use Rattle.dn_tool.proofs.Played.{IsGone, device_told, gone_more, gone_start, halted_by, halted_unmade, more_turns, played_whole, turns_count, unmade_by, whole_turns}
@@ -90,13 +90,20 @@ pub record IsTallied (kinds : List Meaning) (net : List NodeDecl) (commands : Li
   pub granted_are : granted ≡ passing_turns has_granted start (take count commands) gone.turns
   pub revoked_are : revoked ≡ passing_turns has_revoked start (take count commands) gone.turns
 
--- the units were made
-pub tallied_start : (kinds : List Meaning) (net : List NodeDecl) (commands : List Command) (log log' : Option (List TableEvent)) (sizes : List UnitSize) (told told' : Option (List UnitWords)) → GivesOwed kinds net [] → AreUnitsMade (tables_of_set (fresh_set kinds net)) true false log log' sizes told told' → IsTallied kinds net commands 0 start log log' 0 0
-tallied_start kinds net commands log log' sizes told told' empty made = record {
-  gone = gone_start kinds net commands None None log log' sizes told told' empty refl made;
-  granted_are = refl;
-  revoked_are = refl;
-}
+-- the same where the units are made already, with this log: whatever the log was before they were made
+abbrev pub IsTalliedOn : List Meaning → List NodeDecl → List Command → ℕ → State → Option (List TableEvent) → Option (List TableEvent) → ℕ → ℕ → Type 0
+IsTalliedOn kinds net commands count s made log' granted revoked = (log : Option (List TableEvent)) → Logged log made (make_turn kinds net).events → IsTallied kinds net commands count s log log' granted revoked
+
+-- the units were made, and no command was gone through
+pub tallied_start : (kinds : List Meaning) (net : List NodeDecl) (commands : List Command) (i : ℕ) (s : State) (log log' : Option (List TableEvent)) → i ≡ 0 → s ≡ start → GivesOwed kinds net s.book → Logged log log' (make_turn kinds net).events → IsTallied kinds net commands i s log log' 0 0
+tallied_start kinds net commands i s log log' first is owed made =
+    let empty : GivesOwed kinds net [] = subst (λ (z : State). GivesOwed kinds net z.book) is owed in
+    let begun : IsTallied kinds net commands 0 start log log' 0 0 = record {
+      gone = gone_start kinds net commands 0 start None None log log' refl refl empty refl made;
+      granted_are = refl;
+      revoked_are = refl;
+    } in
+    subst (λ (n : ℕ). IsTallied kinds net commands n s log log' 0 0) (sym first) (subst (λ (z : State). IsTallied kinds net commands 0 z log log' 0 0) (sym is) begun)
 
 -- one command more was gone through
 pub tallied_more : (kinds : List Meaning) (net : List NodeDecl) (commands : List Command) (i : ℕ) (s : State) (c : Command) (log log' log'' : Option (List TableEvent)) (granted revoked granted' revoked' : ℕ) (next : State) → IsTallied kinds net commands i s log log' granted revoked → i < length commands → c ≡ get_or commands i c → IsTurned (IsTurn kinds net s c) next None None log' log'' → GivesOwed kinds net next.book

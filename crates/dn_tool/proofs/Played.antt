@@ -28,7 +28,7 @@ use Rattle.dn_tool.specs.declared.halt.Halt.TheVariants.{WriteFault, DeviceFault
 use Rattle.dn_tool.specs.Books.{GivesOwed}
 use Rattle.dn_tool.specs.Halt.{ending_status, is_free_status, make_halt}
 use Rattle.dn_tool.specs.Played.{CameIn, CameTo, IsPlayed, device_tables, make_turn, turn_at}
-use Rattle.dn_tool.specs.State.{CameThrough, IsHalted}
+use Rattle.dn_tool.specs.State.{CameThrough, IsHalted, IsTurned}
 use Rattle.dn_tool.specs.Turn.{AreTurns, IsTurn, State, Turn, events_of, replies_of, reply_turn, start, state_after}
 use Rattle.dn_tool.proofs.Empty.{fresh_tables}
 
@@ -102,20 +102,30 @@ pub record IsGone (kinds : List Meaning) (net : List NodeDecl) (commands : List 
   pub written : Added before after (replies_of (make_turn kinds net ∷ turns))
   pub logged : Logged log log' (events_of (make_turn kinds net ∷ turns))
 
--- the units were made
-pub gone_start : (kinds : List Meaning) (net : List NodeDecl) (commands : List Command) (a b : Option (List ℕ)) (log log' : Option (List TableEvent)) (sizes : List UnitSize) (told told' : Option (List UnitWords)) → GivesOwed kinds net [] → b ≡ a → AreUnitsMade (tables_of_set (fresh_set kinds net)) true false log log' sizes told told' → IsGone kinds net commands 0 start a b log log'
-gone_start kinds net commands a b log log' sizes told told' empty same made =
+-- the same where the units are made already, with this log: whatever the log was before they were made
+abbrev pub IsGoneOn : List Meaning → List NodeDecl → List Command → ℕ → State → Option (List ℕ) → Option (List ℕ) → Option (List TableEvent) → Option (List TableEvent) → Type 0
+IsGoneOn kinds net commands count s before after made log' = (log : Option (List TableEvent)) → Logged log made (make_turn kinds net).events → IsGone kinds net commands count s before after log log'
+
+-- its events were added, where each unit was made
+pub making_told : (kinds : List Meaning) (net : List NodeDecl) (log log' : Option (List TableEvent)) (sizes : List UnitSize) (told told' : Option (List UnitWords)) → AreUnitsMade (tables_of_set (fresh_set kinds net)) true false log log' sizes told told' → Logged log log' (make_turn kinds net).events
+making_told kinds net log log' sizes told told' made =
     let tables : List UnitWords = tables_of_set (fresh_set kinds net) in
     let whole : take made.made tables ≡ tables = ap (λ n. take n tables) (made.all refl) ∙ take-length tables in
-    let events : map make_event (take made.made tables) ≡ (make_turn kinds net).events ++ [] = ap (map make_event) whole ∙ making_events kinds net ∙ sym (append-nil (make_turn kinds net).events) in
-    record {
+    subst (λ es. Logged log log' es) (ap (map make_event) whole ∙ making_events kinds net) made.logged
+
+-- the units were made, and no command was answered
+pub gone_start : (kinds : List Meaning) (net : List NodeDecl) (commands : List Command) (i : ℕ) (s : State) (a b : Option (List ℕ)) (log log' : Option (List TableEvent)) → i ≡ 0 → s ≡ start → GivesOwed kinds net s.book → b ≡ a → Logged log log' (make_turn kinds net).events → IsGone kinds net commands i s a b log log'
+gone_start kinds net commands i s a b log log' first is owed same made =
+    let empty : GivesOwed kinds net [] = subst (λ (z : State). GivesOwed kinds net z.book) is owed in
+    let begun : IsGone kinds net commands 0 start a b log log' = record {
       turns = [];
       happened = refl;
       left = refl;
       books = λ count l. (let none : count ≡ 0 = omega (arith, l) in subst (λ n. GivesOwed kinds net (state_after start (take n [])).book) (sym none) empty);
       written = Added-none a b same;
-      logged = subst (λ es. Logged log log' es) events made.logged;
-    }
+      logged = subst (λ es. Logged log log' es) (sym (append-nil (make_turn kinds net).events)) made;
+    } in
+    subst (λ (n : ℕ). IsGone kinds net commands n s a b log log') (sym first) (subst (λ (z : State). IsGone kinds net commands 0 z a b log log') (sym is) begun)
 
 -- one more command was answered
 pub gone_more : (kinds : List Meaning) (net : List NodeDecl) (commands : List Command) (i : ℕ) (s : State) (c : Command) (t : Turn) (a b d : Option (List ℕ)) (log log' log'' : Option (List TableEvent)) → IsGone kinds net commands i s a b log log' → i < length commands → c ≡ get_or commands i c → IsTurn kinds net s c t → GivesOwed kinds net t.next.book → Added b d t.reply → Logged log' log'' t.events → IsGone kinds net commands (i + 1) t.next a d log log''
@@ -129,6 +139,12 @@ gone_more kinds net commands i s c t a b d log log' log'' g within at is owed w 
       written = subst (λ r. Added a d r) (sym (replies_more (make_turn kinds net ∷ g.turns) t)) (Added-then a b d _ _ g.written w);
       logged = subst (λ es. Logged log log'' es) (sym (events_more (make_turn kinds net ∷ g.turns) t)) (Logged-then log log' log'' _ _ g.logged l);
     }
+
+-- the same where the state behind the turn has another form
+pub gone_turned : (kinds : List Meaning) (net : List NodeDecl) (commands : List Command) (i : ℕ) (s next : State) (c : Command) (a b d : Option (List ℕ)) (log log' log'' : Option (List TableEvent)) → IsGone kinds net commands i s a b log log' → i < length commands → c ≡ get_or commands i c → IsTurned (IsTurn kinds net s c) next b d log' log'' → GivesOwed kinds net next.book → IsGone kinds net commands (i + 1) next a d log log''
+gone_turned kinds net commands i s next c a b d log log' log'' g within at turned owed =
+    let there : GivesOwed kinds net turned.turn.next.book = subst (λ (z : State). GivesOwed kinds net z.book) (sym turned.left) owed in
+    subst (λ (z : State). IsGone kinds net commands (i + 1) z a d log log'') turned.left (gone_more kinds net commands i s c turned.turn a b d log log' log'' g within at turned.is_turn there turned.written turned.logged)
 
 -- places of turns
 

@@ -3,6 +3,7 @@
 use Rattle.std.specs.Prelude.{◌≡◌, ◌⊎◌, ℕ, zero, suc, ◌+◌, ◌==◌, ◌&&◌, Bool, true, false, if◌then◌else◌, nat_lt, List, ◌∷◌, length, slice_get, Option, Some, None, is_some}
 use Rattle.dn_base.specs.declared.device.TableEvent.{TableEvent}
 use Rattle.dn_base.specs.declared.device.UnitWords.{UnitWords}
+use Rattle.dn_base.specs.Device.{Logged}
 use Rattle.dn_base.specs.Outside.{IsWritten}
 use Rattle.dn_net.specs.declared.node.NodeDecl.{NodeDecl}
 use Rattle.dn_net.specs.declared.node.Unit.{Unit as UnitPart}
@@ -18,7 +19,7 @@ use Rattle.dn_book.specs.declared.grant.Grant.{Grant as GrantPart}
 use Rattle.dn_book.specs.Tables.{tables_of}
 use Rattle.dn_demo.specs.declared.summary.Summary.{Summary}
 use Rattle.dn_demo.specs.Summary.{summary_text}
-use Rattle.dn_tool.specs.Played.{IsPlayed}
+use Rattle.dn_tool.specs.Played.{IsPlayed, make_turn}
 use Rattle.dn_tool.specs.Turn.{State, Turn, start, state_after}
 use Rattle.dn_tool.specs.Viewed.{owed_rows}
 
@@ -109,3 +110,11 @@ abbrev pub IsShown : List Meaning → List NodeDecl → ℕ → List Command →
 IsShown kinds net agents commands status before after log log' told' =
     IsSummedUp kinds net agents commands status before after log log' told'
     ⊎ IsBrokenOff kinds net commands status before after log log' told'
+
+-- the same where the units are made already, with this log: whatever the log was before they were made
+abbrev pub IsShownOn : List Meaning → List NodeDecl → ℕ → List Command → ℕ → Option (List ℕ) →
+    Option (List ℕ) → Option (List TableEvent) → Option (List TableEvent) →
+    Option (List UnitWords) → Type 0
+IsShownOn kinds net agents commands status before after made log' told' =
+    (log : Option (List TableEvent)) → Logged log made (make_turn kinds net).events →
+    IsShown kinds net agents commands status before after log log' told'

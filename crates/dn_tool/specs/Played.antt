@@ -85,3 +85,12 @@ pub record IsPlayed (kinds : List Meaning) (net : List NodeDecl) (commands : Lis
       tables ≡ device_tables 0 net (tables_of net kinds (state_after start turns).book))
   pub books : (count : ℕ) → count < came.whole →
       GivesOwed kinds net (state_after start (take count turns)).book
+
+-- A run with this status over a script whose units are made already, with this log: whatever the log
+-- was before they were made, it is a run from there
+abbrev pub IsPlayedOn : List Meaning → List NodeDecl → List Command → ℕ → Option (List ℕ) →
+    Option (List ℕ) → Option (List TableEvent) → Option (List TableEvent) →
+    Option (List UnitWords) → Type 0
+IsPlayedOn kinds net commands status before after made log' told' = (log : Option (List TableEvent)) →
+    Logged log made (make_turn kinds net).events →
+    IsPlayed kinds net commands status before after log log' told'

@@ -3,13 +3,13 @@ pub use Rattle.dn_tool.specs.Answer.{IsAnswered, IsInput, IsSaid, answer, demo_a
 pub use Rattle.dn_tool.specs.Books.{BooksStayFaithful, FaithfulImageGivesOwed}
 pub use Rattle.dn_tool.specs.Changed.{grant_refused_text, granted_text, refused_text, revoked_text, route_refused_text, routed_text}
 pub use Rattle.dn_tool.specs.Compiled.{IsLegal, compilation, compile_fault_view, expansion_compilation, fault, platform_view, with_refusal}
-pub use Rattle.dn_tool.specs.Demo.{IsShown, agent_rows, has_granted, has_revoked, held_records, held_slots, sum_below, summary_with}
+pub use Rattle.dn_tool.specs.Demo.{IsShown, IsShownOn, agent_rows, has_granted, has_revoked, held_records, held_slots, sum_below, summary_with}
 pub use Rattle.dn_tool.specs.Found.{access_of, access_text, asked_text, lookup_text, names_under, resolve_text}
 pub use Rattle.dn_tool.specs.Halt.{HaltsByDevice, HaltsByEither, HaltsBySink, Writes, ending_status, is_free_status, make_halt}
 pub use Rattle.dn_tool.specs.Ids.{id_number, with_id}
 pub use Rattle.dn_tool.specs.Machine.{IsMachine, kinds_of}
 pub use Rattle.dn_tool.specs.Platform.{IsPlatform}
-pub use Rattle.dn_tool.specs.Played.{IsPlayed}
+pub use Rattle.dn_tool.specs.Played.{IsPlayed, IsPlayedOn}
 pub use Rattle.dn_tool.specs.Refused.{AreNodesWithin, IsNodeWithin, Refused, by_limit, by_line, by_shown, by_text, chain_text, expand_refusal, fork_text, node_refusal, refusal_of, rule_name, text_refusal, unit_refusal, units_text, walk_refusal}
 pub use Rattle.dn_tool.specs.Reread.{AbsorbIsReadBack, CompiledIsReadBack, SplitIsReadBack}
 pub use Rattle.dn_tool.specs.Reshape.{absorb_text, absorbed_text, limit_text, made_text, no_node_text, reason_text, refusal_text, split_text, unfit_text}

@@ -6,7 +6,7 @@ ghost use Rattle.dn_kind.specs.Terms.{record_held};
 ghost use Rattle.dn_flat.specs.Terms.{AreFlats};
 ghost use Rattle.dn_tables.specs.Terms.{FitsNet, words_of};
 ghost use Rattle.dn_demo.specs.Terms.{summary_text};
-ghost use Rattle.dn_tool.specs.Terms.{CameThrough, HaltsByDevice, HaltsByEither, HaltsBySink, IsMachine, IsReady, IsReadyOn, IsShown, IsTurn, Writes, agent_rows, ending_status, has_granted, has_revoked, held_records, held_slots, is_change, kinds_of, state_view, sum_below, summary_with};
+ghost use Rattle.dn_tool.specs.Terms.{CameThrough, HaltsByDevice, HaltsByEither, HaltsBySink, IsMachine, IsReady, IsReadyOn, IsShown, IsShownOn, IsTurn, Writes, agent_rows, ending_status, has_granted, has_revoked, held_records, held_slots, is_change, kinds_of, start, state_view, sum_below, summary_with};
 
 use crate::change::change;
 use crate::halt::Halt;
@@ -56,6 +56,30 @@ pub(crate) fn run_demo<K: Sink, D: Tables>(
         (D.faults device.old) (D.faults device.new) }
 {
     let mut state = State::make(alloc, machine, device)?;
+    play_all(alloc, machine, agents, &mut state, commands, sink, device)
+}
+
+/// Does each command in order, over units that were made, and then writes the line that sums up what
+/// came of them. The status is `DONE`.
+fn play_all<K: Sink, D: Tables>(
+    alloc: Global,
+    machine: Machine,
+    agents: u8,
+    state: &mut State,
+    commands: &Commands,
+    sink: &mut K,
+    device: &mut D,
+) -> Result<u8, Halt>
+    requires ready { IsReadyOn meaning machine state.old (D.units device.old) (D.words device.old) }
+    requires start { state_view state.old ≡ start }
+    ensures shown { IsShownOn
+        (kinds_of meaning machine.entry) machine.entry.net.now
+        agents commands.now (ending_status result) (K.written sink.old) (K.written sink.new)
+        (D.log device.old) (D.log device.new) (D.words device.new) }
+    ensures done { IfOk result (λ status. status ≡ 0) }
+    ensures halted { HaltsByEither result (K.faults sink.old) (K.faults sink.new)
+        (D.faults device.old) (D.faults device.new) }
+{
     let mut granted = 0;
     let mut revoked = 0;
     // No count passes the number of commands.
@@ -63,7 +87,7 @@ pub(crate) fn run_demo<K: Sink, D: Tables>(
     let mut rest = commands.cursor();
     'commands: while let Some(command) = rest.next(alloc)? {
         let before = state.book.grants().len();
-        let ended = play(alloc, machine, &mut state, &command, device);
+        let ended = play(alloc, machine, state, &command, device);
         let after = state.book.grants().len();
         let grants = has_granted(&command, before, after);
         let revokes = has_revoked(&command, before, after);
@@ -73,7 +97,7 @@ pub(crate) fn run_demo<K: Sink, D: Tables>(
         revoked = count_if(revoked, revokes);
     }
     let tally = Tally { granted, revoked };
-    write_summary(alloc, machine, agents, tally, &mut state, sink)?;
+    write_summary(alloc, machine, agents, tally, state, sink)?;
     Ok(DONE)
 }
 

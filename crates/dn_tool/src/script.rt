@@ -6,7 +6,7 @@ ghost use Rattle.dn_image.specs.Terms.{image};
 ghost use Rattle.dn_book.specs.Terms.{tables_of};
 ghost use Rattle.dn_print.specs.Terms.{dump_text};
 ghost use Rattle.dn_module.specs.Terms.{names_within};
-ghost use Rattle.dn_tool.specs.Terms.{CameThrough, HaltsByEither, HaltsBySink, IsMachine, IsPlayed, IsReady, IsReadyOn, IsStill, IsTurn, Writes, ending_status, is_change, is_dump, is_view, kinds_of, reply, state_view};
+ghost use Rattle.dn_tool.specs.Terms.{CameThrough, HaltsByEither, HaltsBySink, IsMachine, IsPlayed, IsPlayedOn, IsReady, IsReadyOn, IsStill, IsTurn, Writes, ending_status, is_change, is_dump, is_view, kinds_of, reply, start, state_view};
 
 use crate::change::change;
 use crate::halt::Halt;
@@ -44,9 +44,33 @@ pub(crate) fn run_script<K: Sink, D: Tables>(
         (D.faults device.old) (D.faults device.new) }
 {
     let mut state = State::make(alloc, machine, device)?;
+    answer_all(alloc, machine, &mut state, commands, sink, device)
+}
+
+/// Answers each command in order, over units that were made; each reply is written before the next
+/// command begins. The status is `DONE`.
+fn answer_all<K: Sink, D: Tables>(
+    alloc: Global,
+    machine: Machine,
+    state: &mut State,
+    commands: &Commands,
+    sink: &mut K,
+    device: &mut D,
+) -> Result<u8, Halt>
+    requires known { IsTrue (list_all (names_within (length machine.net.now)) commands.now) }
+    requires ready { IsReadyOn meaning machine state.old (D.units device.old) (D.words device.old) }
+    requires start { state_view state.old ≡ start }
+    ensures played { IsPlayedOn (kinds_of meaning machine.entry)
+        machine.entry.net.now commands.now (ending_status result)
+        (K.written sink.old) (K.written sink.new)
+        (D.log device.old) (D.log device.new) (D.words device.new) }
+    ensures done { IfOk result (λ status. status ≡ 0) }
+    ensures halted { HaltsByEither result (K.faults sink.old) (K.faults sink.new)
+        (D.faults device.old) (D.faults device.new) }
+{
     let mut rest = commands.cursor();
     'commands: while let Some(command) = rest.next(alloc)? {
-        let ended = answer(alloc, machine, &mut state, &command, sink, device);
+        let ended = answer(alloc, machine, state, &command, sink, device);
         drop(command);
         ended?;
     }
