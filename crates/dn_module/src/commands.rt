@@ -1,8 +1,8 @@
 //! The commands of a text, of which none is kept: each is made when it is walked.
 
-ghost use Rattle.std.specs.Prelude.{◌≡◌, [], ◌∷◌, length, true, Ok, IfOk, OnErr, MatchOption, is_ok};
+ghost use Rattle.std.specs.Prelude.{◌≡◌, [], ◌∷◌, length, true, Ok, None, IfOk, IfErr, OnErr, MatchOption, is_ok};
 ghost use Rattle.dn_parse.specs.Terms.{script_view};
-ghost use Rattle.dn_module.specs.Terms.{commands_of};
+ghost use Rattle.dn_module.specs.Terms.{commands_of, name_fault_view};
 
 use crate::command::Command;
 use crate::names::NameTable;
@@ -94,13 +94,22 @@ impl<'c, 'a> CommandCursor<'c, 'a> {
         let Some((asked, behind)) = self.rest.next(alloc)? else {
             return Ok(None);
         };
-        match command(alloc, self.names, &asked.order) {
-            Ok(command) => {
-                self.rest = behind;
-                Ok(Some(command))
-            }
-            Err(NameFault::OutOfMemory) => Err(AllocError),
-            Err(NameFault::Flawed(_)) => unreachable!(),
-        }
+        let made = command(alloc, self.names, &asked.order);
+        drop(asked);
+        let command = whole(made)?;
+        self.rest = behind;
+        Ok(Some(command))
+    }
+}
+
+/// A command without a fault. `Err` is want of memory.
+fn whole(made: Result<Command, NameFault>) -> Result<Command, AllocError>
+    requires { IfErr made (λ fault. name_fault_view fault ≡ None) }
+    ensures { IfOk result (λ command. made ≡ Ok command) }
+{
+    match made {
+        Ok(command) => Ok(command),
+        Err(NameFault::OutOfMemory) => Err(AllocError),
+        Err(NameFault::Flawed(_)) => unreachable!(),
     }
 }

@@ -1,11 +1,12 @@
 //! From a command of a text to that of a script. It stands outside of modules and loops.
 
-ghost use Rattle.std.specs.Prelude.{◌≡◌, ℕ, length, Ok, Err, IfOk, IfErr, IfSome, OnOk, IsTrue};
+ghost use Rattle.std.specs.Prelude.{◌≡◌, ℕ, length, Result, Ok, Err, IfOk, IfErr, IfSome, OnOk, IsTrue};
 ghost use Rattle.std.specs.List.{list_all};
 ghost use Rattle.dn_parse.specs.Tree.{view as asks_view, absorb as asks_absorb};
 ghost use Rattle.dn_parse.specs.Terms.{expr_view, grant_view, name_view, order_view, route_view, script_view};
 ghost use Rattle.dn_module.specs.declared.command.Command.{Command};
 ghost use Rattle.dn_module.specs.declared.command.Target.{Target};
+ghost use Rattle.dn_module.specs.Values.{Flaw as SpecFlaw};
 ghost use Rattle.dn_module.specs.Terms.{asked_of, at_line, command_of, commands_of, commands_or_none, expand_fault_view, flaw_fault_view, full_name, makes_within, name_fault_view, names_within, node_within, target_of, value};
 ghost use Rattle.dn_base.specs.Terms.{Answers};
 
@@ -50,9 +51,25 @@ fn check_command<'a>(alloc: Global, names: &NameTable, asked: Cmd<'a>) -> Result
     ensures fault { IfErr result (λ e. IfSome (expand_fault_view e) (λ f.
         at_line asked.entry.line (command_of names.now (order_view asked.entry.order)) ≡ Err f)) }
 {
-    match command(alloc, names, &asked.order) {
+    let made = command(alloc, names, &asked.order);
+    let line = asked.line;
+    drop(asked);
+    told(made, line)
+}
+
+/// Lets a command go that was made, or puts the line of its statement on why it was not.
+fn told(made: Result<Command, NameFault>, line: u32) -> Result<(), ExpandFault>
+    ensures made { (count : ℕ) (asked : Result Command SpecFlaw) →
+        Answers (λ c. c) name_fault_view made asked →
+        IfOk made (λ c. IsTrue (names_within count c)) →
+        OnOk result (IsTrue (makes_within count (at_line line asked))) }
+    ensures fault { (asked : Result Command SpecFlaw) →
+        Answers (λ c. c) name_fault_view made asked →
+        IfErr result (λ e. IfSome (expand_fault_view e) (λ f. at_line line asked ≡ Err f)) }
+{
+    match made {
         Ok(_) => Ok(()),
-        Err(fault) => Err(fault.at(asked.line)),
+        Err(fault) => Err(fault.at(line)),
     }
 }
 
