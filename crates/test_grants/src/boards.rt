@@ -10,6 +10,11 @@ use test_plans::{PAGES, Plan, REMAP, Unmade, VECTORS, to};
 /// has the last page alone, and an address that goes to both memories.
 pub fn port_plan(alloc: Global) -> Result<Plan, Unmade> {
     let mut plan = Plan::new(alloc);
+    fill_port(&mut plan)?;
+    Ok(plan)
+}
+
+fn fill_port(plan: &mut Plan) -> Result<(), Unmade> {
     plan.accepting("ram", Role::Plain, 0, 7)?;
     plan.accepting("rom", Role::Plain, 0, 3)?;
     plan.unit("u", REMAP, 1, 4, 3, &[0, 1])?;
@@ -17,7 +22,7 @@ pub fn port_plan(alloc: Global) -> Result<Plan, Unmade> {
     plan.maps(8, 9, &[to(0, 2)])?;
     plan.agent("b", 1, to(2, 6))?;
     plan.maps(2, 2, &[to(0, 0), to(1, 0)])?;
-    Ok(plan)
+    Ok(())
 }
 
 /// A memory, node 0, and two units in a row: `outer`, node 1, of 3 pages of two addresses, and `inner`,
@@ -25,6 +30,11 @@ pub fn port_plan(alloc: Global) -> Result<Plan, Unmade> {
 /// node 4, goes through both; another, node 5, has the last page of the inner one.
 pub fn row_plan(alloc: Global) -> Result<Plan, Unmade> {
     let mut plan = Plan::new(alloc);
+    fill_row(&mut plan)?;
+    Ok(plan)
+}
+
+fn fill_row(plan: &mut Plan) -> Result<(), Unmade> {
     plan.accepting("ram", Role::Plain, 0, 5)?;
     plan.unit("outer", REMAP, 1, 3, 3, &[2])?;
     plan.mapping("between", Role::Plain, 0, 3, to(3, 0))?;
@@ -32,7 +42,7 @@ pub fn row_plan(alloc: Global) -> Result<Plan, Unmade> {
     plan.unit("inner", PAGES, 0, 4, 2, &[0])?;
     plan.agent("a", 5, to(1, 0))?;
     plan.agent("b", 0, to(3, 3))?;
-    Ok(plan)
+    Ok(())
 }
 
 /// A memory, node 0, and three units in a row: `first`, node 1, of two pages of two addresses, and behind a
@@ -40,6 +50,11 @@ pub fn row_plan(alloc: Global) -> Result<Plan, Unmade> {
 /// of them; others, nodes 5 and 6, have the last page of the second and of the third one.
 pub fn chain_plan(alloc: Global) -> Result<Plan, Unmade> {
     let mut plan = Plan::new(alloc);
+    fill_chain(&mut plan)?;
+    Ok(plan)
+}
+
+fn fill_chain(plan: &mut Plan) -> Result<(), Unmade> {
     plan.accepting("ram", Role::Plain, 0, 3)?;
     plan.unit("first", PAGES, 1, 2, 2, &[7])?;
     plan.unit("second", PAGES, 0, 3, 2, &[8])?;
@@ -49,7 +64,7 @@ pub fn chain_plan(alloc: Global) -> Result<Plan, Unmade> {
     plan.agent("c", 0, to(3, 2))?;
     plan.mapping("before_second", Role::Plain, 0, 2, to(2, 0))?;
     plan.mapping("before_third", Role::Plain, 0, 2, to(3, 0))?;
-    Ok(plan)
+    Ok(())
 }
 
 /// The vectors of two cores, nodes 0 and 1, and two remappers of interrupts: `near`, node 2, leads to the
@@ -57,6 +72,11 @@ pub fn chain_plan(alloc: Global) -> Result<Plan, Unmade> {
 /// agent, node 5, come in at `far`, and those of another, node 6, at `near`.
 pub fn vector_plan(alloc: Global) -> Result<Plan, Unmade> {
     let mut plan = Plan::new(alloc);
+    fill_vector(&mut plan)?;
+    Ok(plan)
+}
+
+fn fill_vector(plan: &mut Plan) -> Result<(), Unmade> {
     plan.accepting("core0", Role::Vectors, 1, 3)?;
     plan.accepting("core1", Role::Vectors, 2, 3)?;
     plan.unit("near", VECTORS, 0, 3, 2, &[0])?;
@@ -64,5 +84,5 @@ pub fn vector_plan(alloc: Global) -> Result<Plan, Unmade> {
     plan.unit("far", VECTORS, 0, 3, 2, &[3, 1])?;
     plan.agent("nic", 2, to(4, 0))?;
     plan.agent("disk", 1, to(2, 0))?;
-    Ok(plan)
+    Ok(())
 }

@@ -12,20 +12,16 @@ use crate::own::is_hop_free;
 use bitflags::Flags;
 use dn_base::device::MakeFault;
 use dn_base::memory_tables::MemTables;
-use dn_book::book::{Book, CommitFault, RevokeFault};
-use dn_book::grant::Grant;
+use dn_book::book::{Book, RevokeFault};
 use dn_flat::flats::{Flats, flatten_all};
 use dn_grant::fault::GrantFault;
 use dn_grant::grant::grant;
-use dn_grant::refusal::refusal;
 use dn_interval::Rows;
 use dn_kind::kinds::Kinds;
 use dn_kind::rights::{Access, Rights};
-use dn_net::checked::CheckedNet;
 use dn_net::names::Names;
 use dn_net::net::Net;
 use dn_net::node::{Name, TOP};
-use dn_place::booked::first_in_book;
 use dn_place::first::first;
 use dn_placement::request::Request;
 use dn_placement::roles::is_agent;
@@ -165,39 +161,6 @@ impl<'a> Desk<'a> {
         }
         let System { net, kinds, .. } = self.system;
         Some(self.book.revoke(net, kinds, id, &mut self.device))
-    }
-
-    /// Commits the grant of a request at its first admissible placement. `None`, and nothing is done, where the book
-    /// is not sound, or the request is refused or has no placement.
-    pub fn commit(
-        &mut self,
-        alloc: Global,
-        id: u32,
-        request: &Request,
-    ) -> Result<Option<Result<(), CommitFault>>, Unmade>
-        requires { IsDesk (λ k. meaning (k.vtable, k.value)) self.old }
-        ensures { IsDesk (λ k. meaning (k.vtable, k.value)) self.new }
-    {
-        if !self.book.is_sound() || !are_rights(request.rights) {
-            return Ok(None);
-        }
-        let system = self.system;
-        let checked = CheckedNet { net: system.net };
-        if let Some(_why) = refusal(&self.book, checked, id, request) {
-            return Ok(None);
-        }
-        let Some(placement) = first_in_book(alloc, &self.book, system, request, None)? else {
-            return Ok(None);
-        };
-        let grant = Grant {
-            id,
-            request: *request,
-            placement,
-        };
-        Ok(Some(
-            self.book
-                .commit(alloc, system.net, system.kinds, grant, &mut self.device),
-        ))
     }
 
     /// Whether a placement of a request is admissible for its first so many addresses alone, with

@@ -5,6 +5,7 @@ use dn_module::expand::expand;
 use dn_module::fault::ExpandFault;
 use dn_net::net::Net;
 use dn_parse::reader::read;
+use dn_parse::syntax::Tree;
 use std::alloc::{AllocError, Global};
 use std::process::Abort;
 use std::test::Fail;
@@ -12,9 +13,14 @@ use std::test::Fail;
 /// The names of the nodes to which a text expands, each behind a space, or the first fault.
 fn names(alloc: Global, text: &str) -> Result<String, Fail> {
     let tree = read(alloc, text.as_bytes())?;
-    match expand(alloc, &tree, &Kinds::none(alloc)) {
-        Ok(expanded) => Ok(names_of(alloc, &expanded.net)?),
-        Err(fault) => Ok(format!(in alloc; "{fault:?}")?),
+    Ok(told(alloc, &tree)?)
+}
+
+/// The same of a tree.
+fn told(alloc: Global, tree: &Tree<'_>) -> Result<String, AllocError> {
+    match expand(alloc, tree, &Kinds::none(alloc)) {
+        Ok(expanded) => names_of(alloc, &expanded.net),
+        Err(fault) => format!(in alloc; "{fault:?}"),
     }
 }
 
@@ -129,57 +135,38 @@ begin;
 
 #[test]
 fn expands_a_board(rt: HostRuntime) -> Result<(), Fail> {
-    let alloc = rt.alloc();
-    let names = names(alloc, BOARD)?;
-    assert_eq!(rt;
-        names.as_str(),
-        " sys c[0].local c[0].core c[1].local c[1].core"
-    );
-    let tree = read(alloc, BOARD.as_bytes())?;
-    let Ok(expanded) = expand(alloc, &tree, &Kinds::none(alloc)) else {
-        return Err(Fail::from(AllocError));
-    };
-    assert_eq!(rt; expanded.net.nodes(), 5);
-    assert_eq!(rt; expanded.net.find("c[1].core"), Some(4));
-    Ok(())
+    compare_each(
+        &rt,
+        &[(BOARD, " sys c[0].local c[0].core c[1].local c[1].core")],
+    )
 }
 
 #[test]
 fn takes_commands_before_references(rt: HostRuntime) -> Result<(), Fail> {
-    let alloc = rt.alloc();
-    let rows = [
-        (
-            "a is over b; begin;\nview a[i];",
-            ExpandFault::Unknown { line: 2 },
-        ),
-        (
-            "a is over b; begin;\nview a[(0-1)];",
-            ExpandFault::Value { line: 2 },
-        ),
-        (
-            "\na is over b; begin; view c;",
-            ExpandFault::Unknown { line: 2 },
-        ),
-    ];
-    for (text, wanted) in rows {
-        let tree = read(alloc, text.as_bytes())?;
-        let fault = expand(alloc, &tree, &Kinds::none(alloc)).err();
-        assert_eq!(rt; fault, Some(wanted));
-    }
-    Ok(())
+    compare_each(
+        &rt,
+        &[
+            ("a is over b; begin;\nview a[i];", "Unknown { line: 2 }"),
+            ("a is over b; begin;\nview a[(0-1)];", "Value { line: 2 }"),
+            ("\na is over b; begin; view c;", "Unknown { line: 2 }"),
+        ],
+    )
 }
 
 #[test]
 fn names_each_fault(rt: HostRuntime) -> Result<(), Fail> {
-    use ExpandFault::{Arguments, Duplicate, OutOfMemory, TooMany, Unknown, Value};
     let alloc = rt.alloc();
     let line = 1;
-    let (twice, unknown, other) = (Duplicate { line }, Unknown { line }, Arguments { line });
-    let (value, many) = (Value { line }, TooMany { line, limit: 256 });
-    let words = format!(in alloc; "{twice} {unknown} {other} {value} {many} {OutOfMemory}")?;
-    assert_eq!(rt;
-        words.as_str(),
-        "Duplicate Unknown Arguments Value TooMany OutOfMemory"
-    );
+    for (fault, word) in [
+        (ExpandFault::Duplicate { line }, "Duplicate"),
+        (ExpandFault::Unknown { line }, "Unknown"),
+        (ExpandFault::Arguments { line }, "Arguments"),
+        (ExpandFault::Value { line }, "Value"),
+        (ExpandFault::TooMany { line, limit: 256 }, "TooMany"),
+        (ExpandFault::OutOfMemory, "OutOfMemory"),
+    ] {
+        let words = format!(in alloc; "{fault}")?;
+        assert_eq!(rt; words.as_str(), word);
+    }
     Ok(())
 }

@@ -4,6 +4,7 @@ use crate::seg_of;
 use dn_base::OutOfMemory;
 use dn_interval::{Row, Rows, TOP};
 use std::alloc::Global;
+use std::process::Abort;
 use std::test::Fail;
 
 /// The normal rows of these segments, each of them its first and last address, its node and its base.
@@ -35,22 +36,33 @@ fn tell(text: &mut String, row: &Row) -> Result<(), OutOfMemory> {
     text.push_str(";")
 }
 
+/// Compares the rows of segments with what is wanted.
+fn compare(
+    rt: &impl Abort,
+    alloc: Global,
+    parts: &[(u64, u64, u16, u64)],
+    wanted: &str,
+) -> Result<(), Fail> {
+    let rows = rows_of(alloc, parts)?;
+    let told = told(alloc, &rows)?;
+    assert_eq!(rt; told.as_str(), wanted);
+    Ok(())
+}
+
 #[test]
 fn rows_go_on_and_break(rt: HostRuntime) -> Result<(), Fail> {
     let alloc = rt.alloc();
-    let goes_on = rows_of(alloc, &[(0, 0xff, 0, 0), (0x100, 0x1ff, 0, 0x100)])?;
-    assert_eq!(rt; told(alloc, &goes_on)?.as_str(), "0-1ff 0@0;");
+    let goes_on = [(0, 0xff, 0, 0), (0x100, 0x1ff, 0, 0x100)];
+    compare(&rt, alloc, &goes_on, "0-1ff 0@0;")?;
     // The names do not go on.
-    let breaks = rows_of(alloc, &[(0, 0xff, 0, 0), (0x100, 0x1ff, 0, 0x200)])?;
-    assert_eq!(rt; told(alloc, &breaks)?.as_str(), "0-ff 0@0;100-1ff 0@200;");
+    let breaks = [(0, 0xff, 0, 0), (0x100, 0x1ff, 0, 0x200)];
+    compare(&rt, alloc, &breaks, "0-ff 0@0;100-1ff 0@200;")?;
     // A name comes and goes.
-    let comes = rows_of(alloc, &[(0, 0xff, 0, 0), (0x80, 0x8f, 1, 0)])?;
-    assert_eq!(rt;
-        told(alloc, &comes)?.as_str(),
-        "0-7f 0@0;80-8f 0@80 1@0;90-ff 0@90;"
-    );
-    assert!(rt; comes.at(0x8f).is_some());
-    assert!(rt; comes.at(0x100).is_none());
+    let comes = [(0, 0xff, 0, 0), (0x80, 0x8f, 1, 0)];
+    compare(&rt, alloc, &comes, "0-7f 0@0;80-8f 0@80 1@0;90-ff 0@90;")?;
+    let rows = rows_of(alloc, &comes)?;
+    assert!(rt; rows.at(0x8f).is_some());
+    assert!(rt; rows.at(0x100).is_none());
     Ok(())
 }
 

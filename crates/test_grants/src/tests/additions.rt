@@ -2,10 +2,11 @@
 
 ghost use Rattle.dn_net.specs.Terms.{IsLegalNet};
 
-use crate::tests::records::{Held, ends_of, port_of, power};
+use crate::tests::records::{Asked, Held, ends_of, port_of, power};
 use crate::tests::search::{Site, Taken, held_of, is_free};
 use dn_kind::rights::{Access, Rights};
 use dn_kind::unit_kind::Record;
+use dn_net::names::Names;
 use dn_net::net::Net;
 use dn_net::node::{Name, Unit};
 use std::alloc::Global;
@@ -146,33 +147,81 @@ fn given_by(
 {
     let mut held = held_of(alloc, site.taken.as_slice())?;
     held.extend_from_slice(added)?;
-    let mut given = None;
-    let mut accesses = 0u32;
-    for (asked, before) in site.asked.iter().zip(site.before.iter()) {
-        let after = ends_of(alloc, net, held.as_slice(), asked.access, asked.name)?;
-        if after.accepted.list() == before.list() {
-            continue;
-        }
-        let Some(to) = one_more(before.list(), after.accepted.list()) else {
-            return Ok(None);
-        };
-        let one = Given {
-            from: asked.name,
-            to,
-        };
-        if !rights.allows(asked.access) || given.is_some_and(|first| first != one) {
-            return Ok(None);
-        }
-        given = Some(one);
-        accesses = accesses.saturating_add(1);
-    }
-    let Some(one) = given else {
+    let Some(one) = shown_by(alloc, net, site, rights, held.as_slice())? else {
         return Ok(None);
     };
-    if accesses == accesses_of(rights) && passes_no_owned(alloc, net, site, added, one)? {
+    if passes_no_owned(alloc, net, site, added, one)? {
         Ok(Some(one))
     } else {
         Ok(None)
+    }
+}
+
+/// The one name that records add, where they add no other and each access that the rights allow has it.
+fn shown_by(
+    alloc: Global,
+    net: &Net,
+    site: &Site,
+    rights: Rights,
+    held: &[Held],
+) -> Result<Option<Given>, Fail>
+    requires { IsLegalNet net.now }
+{
+    let mut given = None;
+    let mut accesses = 0u32;
+    for (asked, before) in site.asked.iter().zip(site.before.iter()) {
+        match gain_of(alloc, net, held, *asked, before)? {
+            Gain::Nothing => {}
+            Gain::Other => return Ok(None),
+            Gain::One(one) => {
+                if !rights.allows(asked.access) || given.is_some_and(|first| first != one) {
+                    return Ok(None);
+                }
+                given = Some(one);
+                accesses = accesses.saturating_add(1);
+            }
+        }
+    }
+    if accesses == accesses_of(rights) {
+        Ok(given)
+    } else {
+        Ok(None)
+    }
+}
+
+/// What an agent's name comes to beside what it came to before.
+#[derive(Clone, Copy)]
+enum Gain {
+    Nothing,
+    One(Given),
+    Other,
+}
+
+/// What records add to a name.
+fn gain_of(
+    alloc: Global,
+    net: &Net,
+    held: &[Held],
+    asked: Asked,
+    before: &Names,
+) -> Result<Gain, Fail>
+    requires { IsLegalNet net.now }
+{
+    let after = ends_of(alloc, net, held, asked.access, asked.name)?;
+    Ok(gained(asked, before.list(), after.accepted.list()))
+}
+
+/// The same of two lists of names.
+fn gained(asked: Asked, before: &[Name], after: &[Name]) -> Gain {
+    if after == before {
+        return Gain::Nothing;
+    }
+    match one_more(before, after) {
+        Some(to) => Gain::One(Given {
+            from: asked.name,
+            to,
+        }),
+        None => Gain::Other,
     }
 }
 

@@ -8,7 +8,7 @@ ghost use Rattle.test_grants.specs.Terms.{IsDesk};
 use crate::desk::{Desk, board_of, desk_of, system_of};
 use crate::tests::commands::{Choice, Command, Dice, Outcome, Small, made};
 use crate::tests::records::Asked;
-use crate::tests::search::site_of;
+use crate::tests::search::{Site, site_of};
 use dn_base::device::{MakeFault, TableEvent};
 use dn_kind::kinds::Kinds;
 use dn_net::names::Names;
@@ -41,24 +41,46 @@ fn script_of(alloc: Global, system: System<'_>, choice: Choice) -> Result<Script
     requires { IsSystem (λ k. meaning (k.vtable, k.value)) system }
 {
     let mut desk = desk_of(alloc, system, 1000, &[])??;
-    let first = site_of(alloc, system.net, &desk.book, choice.most)?;
+    script_on(alloc, &mut desk, choice)
+}
+
+/// The same on a desk.
+fn script_on(alloc: Global, desk: &mut Desk<'_>, choice: Choice) -> Result<Script, Fail>
+    requires { IsDesk (λ k. meaning (k.vtable, k.value)) desk.old }
+{
+    let Site { asked, before, .. } = site_of(alloc, desk.system.net, &desk.book, choice.most)?;
+    let turns = turns_of(alloc, desk, choice)?;
+    Ok(Script {
+        asked,
+        views: before,
+        turns,
+        events: desk.device.log().to_vec(alloc)?,
+    })
+}
+
+/// The commands one after the other, each with what comes of it.
+fn turns_of(alloc: Global, desk: &mut Desk<'_>, choice: Choice) -> Result<Vec<Turn>, Fail>
+    requires { IsDesk (λ k. meaning (k.vtable, k.value)) desk.old }
+{
     let mut dice = Dice::new(choice.seed);
     let mut turns = Vec::new(alloc);
     for _ in 0..30 {
-        let command = dice.command(choice);
-        let outcome = made(alloc, &mut desk, command);
-        let site = site_of(alloc, system.net, &desk.book, choice.most)?;
-        turns.push(Turn {
-            command,
-            outcome,
-            views: site.before,
-        })?;
+        turns.push(make_turn(alloc, desk, dice.command(choice), choice.most)?)?;
     }
-    Ok(Script {
-        asked: first.asked,
-        views: first.before,
-        turns,
-        events: desk.device.log().to_vec(alloc)?,
+    Ok(turns)
+}
+
+/// A command with what comes of it.
+fn make_turn(alloc: Global, desk: &mut Desk<'_>, command: Command, most: u64) -> Result<Turn, Fail>
+    requires { IsDesk (λ k. meaning (k.vtable, k.value)) desk.old }
+    ensures { IsDesk (λ k. meaning (k.vtable, k.value)) desk.new }
+{
+    let outcome = made(alloc, desk, command);
+    let views = site_of(alloc, desk.system.net, &desk.book, most)?.before;
+    Ok(Turn {
+        command,
+        outcome,
+        views,
     })
 }
 
@@ -128,15 +150,38 @@ fn stops(
     }
 }
 
-/// Fails each call that the commands of a script make, the first, the second and so on, until none is left.
+/// Fails each call that commands of a choice make, the first, the second and so on, until none is left.
 fn fail_each(rt: &impl Abort, alloc: Global, kinds: &Kinds, small: Small) -> Result<(), Fail>
     requires { All (λ k. IsLawful (meaning (k.vtable, k.value))) kinds.now.list.items }
 {
     let board = board_of(alloc, kinds, small.plan(alloc)?)?;
-    let system = system_of(&board, kinds);
-    let script = script_of(alloc, system, small.choice())?;
+    fail_on(rt, alloc, system_of(&board, kinds), small.choice())
+}
+
+/// The same on a system.
+fn fail_on(
+    rt: &impl Abort,
+    alloc: Global,
+    system: System<'_>,
+    choice: Choice,
+) -> Result<(), Fail>
+    requires { IsSystem (λ k. meaning (k.vtable, k.value)) system }
+{
+    let script = script_of(alloc, system, choice)?;
+    fail_calls(rt, alloc, system, &script)
+}
+
+/// Fails each call of a script.
+fn fail_calls(
+    rt: &impl Abort,
+    alloc: Global,
+    system: System<'_>,
+    script: &Script,
+) -> Result<(), Fail>
+    requires { IsSystem (λ k. meaning (k.vtable, k.value)) system }
+{
     for call in 0..1000u32 {
-        if !stops(rt, alloc, system, &script, call)? {
+        if !stops(rt, alloc, system, script, call)? {
             assert!(rt; call as usize == script.events.len());
             assert!(rt; call >= 10);
             return Ok(());

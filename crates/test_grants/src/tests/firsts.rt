@@ -3,10 +3,11 @@
 
 ghost use Rattle.std.specs.List.{All};
 ghost use Rattle.dn_kind.specs.Terms.{IsLawful};
+ghost use Rattle.dn_view.specs.Terms.{IsSystem};
 ghost use Rattle.test_grants.specs.Terms.{IsDesk, IsPlaced};
 
 use crate::desk::{Desk, board_of, desk_of, system_of};
-use crate::tests::commands::{Dice, Small, make_many};
+use crate::tests::commands::{Choice, Dice, Small, make_many};
 use crate::tests::search::{Found, Site, admissible_placements, first_of, shows_exactly, site_of};
 use dn_kind::kinds::Kinds;
 use dn_kind::rights::Rights;
@@ -14,6 +15,7 @@ use dn_net::net::Net;
 use dn_placement::request::Request;
 use dn_placement::roles::is_agent;
 use dn_tables::placement::Placement;
+use dn_view::system::System;
 use std::alloc::Global;
 use std::process::Abort;
 use std::test::Fail;
@@ -202,12 +204,35 @@ fn push_requests(
 fn follow(rt: &impl Abort, alloc: Global, kinds: &Kinds, small: Small) -> Result<Counts, Fail>
     requires { All (λ k. IsLawful (meaning (k.vtable, k.value))) kinds.now.list.items }
 {
-    let choice = small.choice();
     let board = board_of(alloc, kinds, small.plan(alloc)?)?;
-    let mut desk = desk_of(alloc, system_of(&board, kinds), 0, &[])??;
-    let none = compare(rt, alloc, &desk, choice.most)?;
-    make_many(alloc, &mut desk, &mut Dice::new(choice.seed), choice, 8);
-    let some = compare(rt, alloc, &desk, choice.most)?;
+    follow_on(rt, alloc, system_of(&board, kinds), small.choice())
+}
+
+/// The same on a system.
+fn follow_on(
+    rt: &impl Abort,
+    alloc: Global,
+    system: System<'_>,
+    choice: Choice,
+) -> Result<Counts, Fail>
+    requires { IsSystem (λ k. meaning (k.vtable, k.value)) system }
+{
+    let mut desk = desk_of(alloc, system, 0, &[])??;
+    compare_twice(rt, alloc, &mut desk, choice)
+}
+
+/// The same on a desk.
+fn compare_twice(
+    rt: &impl Abort,
+    alloc: Global,
+    desk: &mut Desk<'_>,
+    choice: Choice,
+) -> Result<Counts, Fail>
+    requires { IsDesk (λ k. meaning (k.vtable, k.value)) desk.old }
+{
+    let none = compare(rt, alloc, desk, choice.most)?;
+    make_many(alloc, desk, &mut Dice::new(choice.seed), choice, 8);
+    let some = compare(rt, alloc, desk, choice.most)?;
     Ok(none.with(some))
 }
 

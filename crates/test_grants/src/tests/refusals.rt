@@ -2,6 +2,7 @@
 
 ghost use Rattle.std.specs.List.{All};
 ghost use Rattle.dn_kind.specs.Terms.{IsLawful};
+ghost use Rattle.dn_view.specs.Terms.{IsSystem};
 ghost use Rattle.test_grants.specs.Terms.{IsDesk};
 
 use crate::desk::{Desk, board_of, desk_of, system_of};
@@ -19,6 +20,7 @@ use dn_net::node::Name;
 use dn_placement::request::Request;
 use dn_placement::roles::is_agent;
 use dn_vector::fault::RouteFault;
+use dn_view::system::System;
 use std::alloc::Global;
 use std::process::Abort;
 use std::test::Fail;
@@ -198,9 +200,20 @@ fn compare_all(
 fn follow(rt: &impl Abort, alloc: Global, kinds: &Kinds, small: Small) -> Result<(), Fail>
     requires { All (λ k. IsLawful (meaning (k.vtable, k.value))) kinds.now.list.items }
 {
-    let choice = small.choice();
     let board = board_of(alloc, kinds, small.plan(alloc)?)?;
-    let mut desk = desk_of(alloc, system_of(&board, kinds), 0, &[])??;
+    follow_on(rt, alloc, system_of(&board, kinds), small.choice())
+}
+
+/// The same on a system.
+fn follow_on(
+    rt: &impl Abort,
+    alloc: Global,
+    system: System<'_>,
+    choice: Choice,
+) -> Result<(), Fail>
+    requires { IsSystem (λ k. meaning (k.vtable, k.value)) system }
+{
+    let mut desk = desk_of(alloc, system, 0, &[])??;
     make_many(alloc, &mut desk, &mut Dice::new(choice.seed), choice, 4);
     let refused = compare_all(rt, alloc, &mut desk, choice)?;
     assert!(rt; refused >= 5);

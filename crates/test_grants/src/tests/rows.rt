@@ -6,7 +6,7 @@ ghost use Rattle.test_grants.specs.Terms.{IsDesk};
 use crate::boards::vector_plan;
 use crate::desk::{Desk, board_of, desk_of, system_of};
 use dn_base::device::TableEvent;
-use dn_book::book::{CommitFault, RevokeFault};
+use dn_book::book::RevokeFault;
 use dn_grant::fault::GrantFault;
 use dn_kind::rights::{Access, Rights};
 use dn_net::node::Name;
@@ -17,7 +17,7 @@ use dn_view::system::System;
 use std::alloc::Global;
 use std::process::Abort;
 use std::test::Fail;
-use test_plans::{Plan, program_kinds};
+use test_plans::{Plan, Unmade, program_kinds};
 
 /// The agent of the board with pages.
 const DMA: u16 = 4;
@@ -46,12 +46,31 @@ fn place_pages(rt: &impl Abort, alloc: Global, system: System<'_>) -> Result<(),
     requires { IsSystem (λ k. meaning (k.vtable, k.value)) system }
 {
     let desk = desk_of(alloc, system, 0, &[])??;
+    place_on(rt, alloc, &desk)
+}
+
+/// Where a desk places a request at an address, or at any.
+fn placed(
+    alloc: Global,
+    desk: &Desk<'_>,
+    request: &Request,
+    at: Option<u64>,
+) -> Result<Option<u64>, Unmade>
+    requires { IsDesk (λ k. meaning (k.vtable, k.value)) desk.now }
+{
+    Ok(desk.first(alloc, request, at)?.map(|placement| placement.v()))
+}
+
+/// The same on a desk.
+fn place_on(rt: &impl Abort, alloc: Global, desk: &Desk<'_>) -> Result<(), Fail>
+    requires { IsDesk (λ k. meaning (k.vtable, k.value)) desk.now }
+{
     let page = buffer(0x4000, 0x1000);
-    let third = desk.first(alloc, &page, Some(0x3000))?;
-    assert!(rt; third.is_some_and(|placement| placement.v() == 0x3000));
-    let between = desk.first(alloc, &page, Some(0x10))?;
+    let third = placed(alloc, desk, &page, Some(0x3000))?;
+    assert!(rt; third == Some(0x3000));
+    let between = placed(alloc, desk, &page, Some(0x10))?;
     assert!(rt; between.is_none());
-    let half = desk.first(alloc, &buffer(0x4000, 0x800), None)?;
+    let half = placed(alloc, desk, &buffer(0x4000, 0x800), None)?;
     assert!(rt; half.is_none());
     let first = desk.first(alloc, &page, None)?;
     match first {
@@ -74,12 +93,19 @@ fn place_pages(rt: &impl Abort, alloc: Global, system: System<'_>) -> Result<(),
 fn commit_page(rt: &impl Abort, alloc: Global, system: System<'_>) -> Result<(), Fail>
     requires { IsSystem (λ k. meaning (k.vtable, k.value)) system }
 {
-    let page = buffer(0x4000, 0x1000);
     let mut desk = desk_of(alloc, system, 8, &[])??;
+    commit_on(rt, alloc, &mut desk)
+}
+
+/// The same on a desk.
+fn commit_on(rt: &impl Abort, alloc: Global, desk: &mut Desk<'_>) -> Result<(), Fail>
+    requires { IsDesk (λ k. meaning (k.vtable, k.value)) desk.old }
+{
+    let page = buffer(0x4000, 0x1000);
     let rows = desk.seen(alloc, DMA, Access::Read)?;
     assert!(rt; rows.rows().is_empty());
-    let given = desk.commit(alloc, 0, &page)?;
-    assert!(rt; given == Some(Ok(())));
+    let given = desk.grant(alloc, 0, &page);
+    assert!(rt; given == Some(Ok(0)));
     assert!(rt; desk.book.is_sound() && desk.book.has_id(0) && !desk.book.has_cleared());
     let rows = desk.seen(alloc, DMA, Access::Read)?;
     assert!(rt; rows.rows().len() == 1);
@@ -105,8 +131,8 @@ fn stop_page(rt: &impl Abort, alloc: Global, system: System<'_>) -> Result<(), F
     requires { IsSystem (λ k. meaning (k.vtable, k.value)) system }
 {
     let mut desk = desk_of(alloc, system, 8, &[1])??;
-    let given = desk.commit(alloc, 0, &buffer(0x4000, 0x1000))?;
-    assert!(rt; given == Some(Err(CommitFault::Device)));
+    let given = desk.grant(alloc, 0, &buffer(0x4000, 0x1000));
+    assert!(rt; given == Some(Err(GrantFault::Device)));
     assert!(rt; !desk.book.is_sound() && !desk.book.has_id(0));
     Ok(())
 }

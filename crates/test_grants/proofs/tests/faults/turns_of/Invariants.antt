@@ -1,6 +1,6 @@
 -- The book keeps its grants from one call to the next.
 use Rattle.test_grants.specs.Desk.{IsDesk}
-use Rattle.test_grants.proofs.tests.faults.script_of.Given as goal
+use Rattle.test_grants.proofs.tests.faults.turns_of.Given as goal
 
 abbrev pub invariant-loop : goal.invariant-loop
 invariant-loop g l = IsDesk (λ k. (goal.UnitKind-dyn g (k.vtable, k.value)).meaning k.value) l.desk
