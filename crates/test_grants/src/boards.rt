@@ -3,86 +3,90 @@
 
 use dn_net::node::Role;
 use std::alloc::Global;
-use test_plans::{PAGES, Plan, REMAP, Unmade, VECTORS, to};
+use std::process::Abort;
+use test_plans::{PAGES, Plan, REMAP, VECTORS, to};
+
+/// A bus with a memory, node 0, and a serial port, node 1, and behind it an agent, node 4, whose addresses go
+/// through a unit, node 5, of 16 pages of 4 KiB.
+pub fn page_plan(rt: &impl Abort, alloc: Global) -> Plan {
+    Plan::pages(alloc).expect(rt, "a plan")
+}
 
 /// Two memories, nodes 0 and 1, and a unit, node 2, of 4 pages of two addresses with a port to each. One
 /// agent, node 3, has all its pages, and two addresses of the first memory beside them; another, node 4,
 /// has the last page alone, and an address that goes to both memories.
-pub fn port_plan(alloc: Global) -> Result<Plan, Unmade> {
+pub fn port_plan(rt: &impl Abort, alloc: Global) -> Plan {
     let mut plan = Plan::new(alloc);
-    fill_port(&mut plan)?;
-    Ok(plan)
-}
-
-fn fill_port(plan: &mut Plan) -> Result<(), Unmade> {
-    plan.accepting("ram", Role::Plain, 0, 7)?;
-    plan.accepting("rom", Role::Plain, 0, 3)?;
-    plan.unit("u", REMAP, 1, 4, 3, &[0, 1])?;
-    plan.agent("a", 7, to(2, 0))?;
-    plan.maps(8, 9, &[to(0, 2)])?;
-    plan.agent("b", 1, to(2, 6))?;
-    plan.maps(2, 2, &[to(0, 0), to(1, 0)])?;
-    Ok(())
+    plan.accepting("ram", Role::Plain, 0, 7)
+        .expect(rt, "a plan");
+    plan.accepting("rom", Role::Plain, 0, 3)
+        .expect(rt, "a plan");
+    plan.unit("u", REMAP, 1, 4, 3, &[0, 1]).expect(rt, "a plan");
+    plan.agent("a", 7, to(2, 0)).expect(rt, "a plan");
+    plan.maps(8, 9, &[to(0, 2)]).expect(rt, "a plan");
+    plan.agent("b", 1, to(2, 6)).expect(rt, "a plan");
+    plan.maps(2, 2, &[to(0, 0), to(1, 0)]).expect(rt, "a plan");
+    plan
 }
 
 /// A memory, node 0, and two units in a row: `outer`, node 1, of 3 pages of two addresses, and `inner`,
 /// node 3, of 4 pages of one, behind a node 2 which also has the last two addresses of the memory. One agent,
 /// node 4, goes through both; another, node 5, has the last page of the inner one.
-pub fn row_plan(alloc: Global) -> Result<Plan, Unmade> {
+pub fn row_plan(rt: &impl Abort, alloc: Global) -> Plan {
     let mut plan = Plan::new(alloc);
-    fill_row(&mut plan)?;
-    Ok(plan)
-}
-
-fn fill_row(plan: &mut Plan) -> Result<(), Unmade> {
-    plan.accepting("ram", Role::Plain, 0, 5)?;
-    plan.unit("outer", REMAP, 1, 3, 3, &[2])?;
-    plan.mapping("between", Role::Plain, 0, 3, to(3, 0))?;
-    plan.maps(4, 5, &[to(0, 4)])?;
-    plan.unit("inner", PAGES, 0, 4, 2, &[0])?;
-    plan.agent("a", 5, to(1, 0))?;
-    plan.agent("b", 0, to(3, 3))?;
-    Ok(())
+    plan.accepting("ram", Role::Plain, 0, 5)
+        .expect(rt, "a plan");
+    plan.unit("outer", REMAP, 1, 3, 3, &[2])
+        .expect(rt, "a plan");
+    plan.mapping("between", Role::Plain, 0, 3, to(3, 0))
+        .expect(rt, "a plan");
+    plan.maps(4, 5, &[to(0, 4)]).expect(rt, "a plan");
+    plan.unit("inner", PAGES, 0, 4, 2, &[0])
+        .expect(rt, "a plan");
+    plan.agent("a", 5, to(1, 0)).expect(rt, "a plan");
+    plan.agent("b", 0, to(3, 3)).expect(rt, "a plan");
+    plan
 }
 
 /// A memory, node 0, and three units in a row: `first`, node 1, of two pages of two addresses, and behind a
 /// node each `second`, node 2, and `third`, node 3, of three pages of one. One agent, node 4, goes through all
 /// of them; others, nodes 5 and 6, have the last page of the second and of the third one.
-pub fn chain_plan(alloc: Global) -> Result<Plan, Unmade> {
+pub fn chain_plan(rt: &impl Abort, alloc: Global) -> Plan {
     let mut plan = Plan::new(alloc);
-    fill_chain(&mut plan)?;
-    Ok(plan)
-}
-
-fn fill_chain(plan: &mut Plan) -> Result<(), Unmade> {
-    plan.accepting("ram", Role::Plain, 0, 3)?;
-    plan.unit("first", PAGES, 1, 2, 2, &[7])?;
-    plan.unit("second", PAGES, 0, 3, 2, &[8])?;
-    plan.unit("third", PAGES, 0, 3, 2, &[0])?;
-    plan.agent("a", 3, to(1, 0))?;
-    plan.agent("b", 0, to(2, 2))?;
-    plan.agent("c", 0, to(3, 2))?;
-    plan.mapping("before_second", Role::Plain, 0, 2, to(2, 0))?;
-    plan.mapping("before_third", Role::Plain, 0, 2, to(3, 0))?;
-    Ok(())
+    plan.accepting("ram", Role::Plain, 0, 3)
+        .expect(rt, "a plan");
+    plan.unit("first", PAGES, 1, 2, 2, &[7])
+        .expect(rt, "a plan");
+    plan.unit("second", PAGES, 0, 3, 2, &[8])
+        .expect(rt, "a plan");
+    plan.unit("third", PAGES, 0, 3, 2, &[0])
+        .expect(rt, "a plan");
+    plan.agent("a", 3, to(1, 0)).expect(rt, "a plan");
+    plan.agent("b", 0, to(2, 2)).expect(rt, "a plan");
+    plan.agent("c", 0, to(3, 2)).expect(rt, "a plan");
+    plan.mapping("before_second", Role::Plain, 0, 2, to(2, 0))
+        .expect(rt, "a plan");
+    plan.mapping("before_third", Role::Plain, 0, 2, to(3, 0))
+        .expect(rt, "a plan");
+    plan
 }
 
 /// The vectors of two cores, nodes 0 and 1, and two remappers of interrupts: `near`, node 2, leads to the
 /// first core, and `far`, node 4, to the node 3 before `near` and to the second core. The lines of one
 /// agent, node 5, come in at `far`, and those of another, node 6, at `near`.
-pub fn vector_plan(alloc: Global) -> Result<Plan, Unmade> {
+pub fn vector_plan(rt: &impl Abort, alloc: Global) -> Plan {
     let mut plan = Plan::new(alloc);
-    fill_vector(&mut plan)?;
-    Ok(plan)
-}
-
-fn fill_vector(plan: &mut Plan) -> Result<(), Unmade> {
-    plan.accepting("core0", Role::Vectors, 1, 3)?;
-    plan.accepting("core1", Role::Vectors, 2, 3)?;
-    plan.unit("near", VECTORS, 0, 3, 2, &[0])?;
-    plan.mapping("before_near", Role::Plain, 0, 1, to(2, 1))?;
-    plan.unit("far", VECTORS, 0, 3, 2, &[3, 1])?;
-    plan.agent("nic", 2, to(4, 0))?;
-    plan.agent("disk", 1, to(2, 0))?;
-    Ok(())
+    plan.accepting("core0", Role::Vectors, 1, 3)
+        .expect(rt, "a plan");
+    plan.accepting("core1", Role::Vectors, 2, 3)
+        .expect(rt, "a plan");
+    plan.unit("near", VECTORS, 0, 3, 2, &[0])
+        .expect(rt, "a plan");
+    plan.mapping("before_near", Role::Plain, 0, 1, to(2, 1))
+        .expect(rt, "a plan");
+    plan.unit("far", VECTORS, 0, 3, 2, &[3, 1])
+        .expect(rt, "a plan");
+    plan.agent("nic", 2, to(4, 0)).expect(rt, "a plan");
+    plan.agent("disk", 1, to(2, 0)).expect(rt, "a plan");
+    plan
 }

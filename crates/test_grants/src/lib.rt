@@ -1,13 +1,17 @@
-//! Tests of placements, books of grants and routes to vectors, on small nets.
+//! Tests of placements, of books of grants and of routes to vectors, on small nets.
 //!
-//! What the calls answer is compared with what a plain slow search finds, which shares no code with them but
-//! one step of decoding: `records` follows names under records one step at a time, `search` tries every
-//! placement, and `additions` every few records in free slots. A call asks much of its arguments: [`desk`]
-//! tests this first.
+//! Here is what needs a call: placements at an address that is given, whether a placement is
+//! admissible for a part of its buffer and with another of its hops for its own, and a device of
+//! which each call fails in turn. What a text shows is compared with a plain slow search by the
+//! judge of `answers/`. A call asks much of its arguments: `calls` tests this first.
 #![tactic(auto)]
 
-pub mod boards;
+#[cfg(test)]
+mod boards;
+#[cfg(test)]
+mod calls;
 pub mod desk;
+#[cfg(test)]
 mod own;
 #[cfg(test)]
 mod tests;

@@ -2,7 +2,7 @@
 
 ghost use Rattle.test_grants.specs.Terms.{IsDesk};
 
-use crate::boards::{chain_plan, port_plan, row_plan, vector_plan};
+use crate::boards::{chain_plan, row_plan, vector_plan};
 use crate::desk::Desk;
 use dn_book::book::RevokeFault;
 use dn_grant::fault::GrantFault;
@@ -11,7 +11,8 @@ use dn_net::node::Name;
 use dn_placement::request::Request;
 use dn_vector::fault::RouteFault;
 use std::alloc::Global;
-use test_plans::{Plan, Unmade};
+use std::process::Abort;
+use test_plans::Plan;
 
 /// A command on a book.
 #[derive(Clone, Copy)]
@@ -56,16 +57,6 @@ pub fn made(alloc: Global, desk: &mut Desk<'_>, command: Command) -> Option<Outc
     }
 }
 
-/// Makes so many commands of a choice on a book.
-pub fn make_many(alloc: Global, desk: &mut Desk<'_>, dice: &mut Dice, choice: Choice, count: u32)
-    requires { IsDesk (λ k. meaning (k.vtable, k.value)) desk.old }
-    ensures { IsDesk (λ k. meaning (k.vtable, k.value)) desk.new }
-{
-    for _ in 0..count {
-        let _outcome = made(alloc, desk, dice.command(choice));
-    }
-}
-
 /// What came of a grant.
 fn granted(given: Result<u64, GrantFault>) -> Outcome {
     match given {
@@ -102,7 +93,6 @@ pub struct Dice {
 /// The small nets, over which commands are chosen.
 #[derive(Clone, Copy, PartialEq, Eq)]
 pub enum Small {
-    Ports,
     Row,
     Chain,
     Vectors,
@@ -110,19 +100,17 @@ pub enum Small {
 
 impl Small {
     /// The plan of the net.
-    pub fn plan(self, alloc: Global) -> Result<Plan, Unmade> {
+    pub fn plan(self, rt: &impl Abort, alloc: Global) -> Plan {
         match self {
-            Small::Ports => port_plan(alloc),
-            Small::Row => row_plan(alloc),
-            Small::Chain => chain_plan(alloc),
-            Small::Vectors => vector_plan(alloc),
+            Small::Row => row_plan(rt, alloc),
+            Small::Chain => chain_plan(rt, alloc),
+            Small::Vectors => vector_plan(rt, alloc),
         }
     }
 
     /// From what the commands are chosen.
     pub fn choice(self) -> Choice {
         let (seed, agents, nodes, most, step) = match self {
-            Small::Ports => (1, [3, 3, 3, 4], [0, 1], 10, 2),
             Small::Row => (3, [4, 4, 4, 5], [0, 0], 6, 1),
             Small::Chain => (3, [4, 4, 5, 6], [0, 0], 4, 1),
             Small::Vectors => (1, [5, 5, 6, 6], [0, 1], 3, 1),

@@ -5,20 +5,28 @@ ghost use Rattle.dn_kind.specs.Terms.{IsLawful};
 ghost use Rattle.dn_view.specs.Terms.{IsSystem};
 ghost use Rattle.test_grants.specs.Terms.{IsDesk};
 
-use crate::desk::{Desk, board_of, desk_of, system_of};
+use crate::calls::{board_of, desk_of, system_of};
+use crate::desk::Desk;
 use crate::tests::commands::{Choice, Command, Dice, Outcome, Small, made};
-use crate::tests::records::Asked;
-use crate::tests::search::{Site, site_of};
 use dn_base::device::{MakeFault, TableEvent};
 use dn_kind::kinds::Kinds;
+use dn_kind::rights::Access;
 use dn_net::names::Names;
+use dn_net::net::Net;
+use dn_net::node::Name;
+use dn_placement::roles::is_agent;
 use dn_view::system::System;
 use std::alloc::Global;
 use std::process::Abort;
-use std::test::Fail;
-use test_plans::program_kinds;
 
-/// A command with what comes of it where no call fails, and to what the agents' names resolve behind it.
+/// A name of an agent that is asked for an access.
+#[derive(Clone, Copy)]
+struct Asked {
+    name: Name,
+    access: Access,
+}
+
+/// A command with what comes of it where no call fails, and to what the agents' names resolve after it.
 #[derive(Drop)]
 struct Turn {
     command: Command,
@@ -30,61 +38,84 @@ struct Turn {
 #[derive(Drop)]
 struct Script {
     asked: Vec<Asked>,
-    /// To what the agents' names resolve in the net alone.
+    /// To what the agents' names resolve before the first.
     views: Vec<Names>,
     turns: Vec<Turn>,
     events: Vec<TableEvent>,
 }
 
-/// So many commands that look random, over a device that does not fail.
-fn script_of(alloc: Global, system: System<'_>, choice: Choice) -> Result<Script, Fail>
-    requires { IsSystem (λ k. meaning (k.vtable, k.value)) system }
-{
-    let mut desk = desk_of(alloc, system, 1000, &[])??;
-    script_on(alloc, &mut desk, choice)
+/// The first so many addresses of all agents, each with both accesses.
+fn asked_of(rt: &impl Abort, alloc: Global, net: &Net, most: u64) -> Vec<Asked> {
+    let mut asked = Vec::new(alloc);
+    for node in 0..net.nodes() {
+        for addr in 0..most {
+            for access in [Access::Read, Access::Write] {
+                if is_agent(net, node) {
+                    let name = Name { node, addr };
+                    asked.push(Asked { name, access }).expect(rt, "memory");
+                }
+            }
+        }
+    }
+    asked
 }
 
-/// The same on a desk.
-fn script_on(alloc: Global, desk: &mut Desk<'_>, choice: Choice) -> Result<Script, Fail>
-    requires { IsDesk (λ k. meaning (k.vtable, k.value)) desk.old }
+/// To what names resolve.
+fn views_of(rt: &impl Abort, alloc: Global, desk: &Desk<'_>, asked: &[Asked]) -> Vec<Names>
+    requires { IsDesk (λ k. meaning (k.vtable, k.value)) desk.now }
 {
-    let Site { asked, before, .. } = site_of(alloc, desk.system.net, &desk.book, choice.most)?;
-    let turns = turns_of(alloc, desk, choice)?;
-    Ok(Script {
+    let mut views = Vec::new(alloc);
+    for each in asked {
+        let names = desk.resolved(alloc, each.name, each.access);
+        views.push(names.expect(rt, "names")).expect(rt, "memory");
+    }
+    views
+}
+
+/// So many commands that look random, over a device that does not fail.
+fn script_of(rt: &impl Abort, alloc: Global, system: System<'_>, choice: Choice) -> Script
+    requires { IsSystem (λ k. meaning (k.vtable, k.value)) system }
+{
+    let asked = asked_of(rt, alloc, system.net, choice.most);
+    let mut desk = desk_of(rt, alloc, system, 1000, &[]).expect(rt, "a desk");
+    let views = views_of(rt, alloc, &desk, asked.as_slice());
+    let turns = turns_of(rt, alloc, &mut desk, asked.as_slice(), choice);
+    let events = desk.device.log().to_vec(alloc).expect(rt, "memory");
+    Script {
         asked,
-        views: before,
+        views,
         turns,
-        events: desk.device.log().to_vec(alloc)?,
-    })
+        events,
+    }
 }
 
 /// The commands one after the other, each with what comes of it.
-fn turns_of(alloc: Global, desk: &mut Desk<'_>, choice: Choice) -> Result<Vec<Turn>, Fail>
+fn turns_of(
+    rt: &impl Abort,
+    alloc: Global,
+    desk: &mut Desk<'_>,
+    asked: &[Asked],
+    choice: Choice,
+) -> Vec<Turn>
     requires { IsDesk (λ k. meaning (k.vtable, k.value)) desk.old }
 {
     let mut dice = Dice::new(choice.seed);
     let mut turns = Vec::new(alloc);
     for _ in 0..30 {
-        turns.push(make_turn(alloc, desk, dice.command(choice), choice.most)?)?;
+        let command = dice.command(choice);
+        let outcome = made(alloc, desk, command);
+        let views = views_of(rt, alloc, desk, asked);
+        let turn = Turn {
+            command,
+            outcome,
+            views,
+        };
+        turns.push(turn).expect(rt, "memory");
     }
-    Ok(turns)
+    turns
 }
 
-/// A command with what comes of it.
-fn make_turn(alloc: Global, desk: &mut Desk<'_>, command: Command, most: u64) -> Result<Turn, Fail>
-    requires { IsDesk (λ k. meaning (k.vtable, k.value)) desk.old }
-    ensures { IsDesk (λ k. meaning (k.vtable, k.value)) desk.new }
-{
-    let outcome = made(alloc, desk, command);
-    let views = site_of(alloc, desk.system.net, &desk.book, most)?.before;
-    Ok(Turn {
-        command,
-        outcome,
-        views,
-    })
-}
-
-/// Compares what the tables give with what stood before a command and behind it: each name of an agent resolves
+/// Compares what the tables give with what stood before a command and after it: each name of an agent resolves
 /// for each access as at one of the two.
 fn compare_tables(
     rt: &impl Abort,
@@ -93,19 +124,20 @@ fn compare_tables(
     asked: &[Asked],
     before: &[Names],
     after: &[Names],
-) -> Result<(), Fail>
+)
     requires { IsDesk (λ k. meaning (k.vtable, k.value)) desk.now }
 {
     for ((each, before), after) in asked.iter().zip(before.iter()).zip(after.iter()) {
-        let given = desk.resolved(alloc, each.name, each.access)?;
+        let given = desk
+            .resolved(alloc, each.name, each.access)
+            .expect(rt, "names");
         let names = given.list();
         assert!(rt; names == before.list() || names == after.list());
     }
-    Ok(())
 }
 
 /// Makes the commands of a script on a book until the device fails one. Answers whether it failed one.
-fn play(rt: &impl Abort, alloc: Global, desk: &mut Desk<'_>, script: &Script) -> Result<bool, Fail>
+fn play(rt: &impl Abort, alloc: Global, desk: &mut Desk<'_>, script: &Script) -> bool
     requires { IsDesk (λ k. meaning (k.vtable, k.value)) desk.old }
 {
     let asked = script.asked.as_slice();
@@ -115,88 +147,64 @@ fn play(rt: &impl Abort, alloc: Global, desk: &mut Desk<'_>, script: &Script) ->
         let outcome = made(alloc, desk, turn.command);
         if outcome == Some(Outcome::Failed) {
             assert!(rt; !desk.book.is_sound());
-            compare_tables(rt, alloc, desk, asked, before, after)?;
-            return Ok(true);
+            compare_tables(rt, alloc, desk, asked, before, after);
+            return true;
         }
         assert!(rt; outcome == turn.outcome);
         before = after;
     }
-    Ok(false)
+    false
 }
 
 /// Makes the commands of a script over a device that fails at one call: what it was told before is what it is told
 /// where no call fails. Answers whether a call failed.
-fn stops(
-    rt: &impl Abort,
-    alloc: Global,
-    system: System<'_>,
-    script: &Script,
-    call: u32,
-) -> Result<bool, Fail>
+fn stops(rt: &impl Abort, alloc: Global, system: System<'_>, script: &Script, call: u32) -> bool
     requires { IsSystem (λ k. meaning (k.vtable, k.value)) system }
 {
-    match desk_of(alloc, system, 1000, &[call])? {
+    match desk_of(rt, alloc, system, 1000, &[call]) {
         Err(fault) => {
             assert!(rt; fault == MakeFault::Device);
-            Ok(true)
+            true
         }
         Ok(mut desk) => {
-            let is_stopped = play(rt, alloc, &mut desk, script)?;
+            let is_stopped = play(rt, alloc, &mut desk, script);
             let events = script.events.as_slice();
             let done = (call as usize).min(events.len());
             assert!(rt; desk.device.log() == &events[..done]);
-            Ok(is_stopped)
+            is_stopped
         }
     }
 }
 
-/// Fails each call that commands of a choice make, the first, the second and so on, until none is left.
-fn fail_each(rt: &impl Abort, alloc: Global, kinds: &Kinds, small: Small) -> Result<(), Fail>
+/// Fails each call that the commands of a net make, the first, the second and so on, until none is left.
+fn fail_each(rt: &impl Abort, alloc: Global, kinds: &Kinds, small: Small)
     requires { All (λ k. IsLawful (meaning (k.vtable, k.value))) kinds.now.list.items }
 {
-    let board = board_of(alloc, kinds, small.plan(alloc)?)?;
-    fail_on(rt, alloc, system_of(&board, kinds), small.choice())
-}
-
-/// The same on a system.
-fn fail_on(
-    rt: &impl Abort,
-    alloc: Global,
-    system: System<'_>,
-    choice: Choice,
-) -> Result<(), Fail>
-    requires { IsSystem (λ k. meaning (k.vtable, k.value)) system }
-{
-    let script = script_of(alloc, system, choice)?;
-    fail_calls(rt, alloc, system, &script)
+    let board = board_of(rt, alloc, kinds, small.plan(rt, alloc));
+    let system = system_of(&board, kinds);
+    let script = script_of(rt, alloc, system, small.choice());
+    fail_calls(rt, alloc, system, &script);
 }
 
 /// Fails each call of a script.
-fn fail_calls(
-    rt: &impl Abort,
-    alloc: Global,
-    system: System<'_>,
-    script: &Script,
-) -> Result<(), Fail>
+fn fail_calls(rt: &impl Abort, alloc: Global, system: System<'_>, script: &Script)
     requires { IsSystem (λ k. meaning (k.vtable, k.value)) system }
 {
     for call in 0..1000u32 {
-        if !stops(rt, alloc, system, script, call)? {
+        if !stops(rt, alloc, system, script, call) {
             assert!(rt; call as usize == script.events.len());
             assert!(rt; call >= 10);
-            return Ok(());
+            return;
         }
     }
     assert!(rt; false, "a call that is not reached fails");
-    Ok(())
 }
 
-#[test]
-fn leaves_each_address_as_before_a_command_or_after_it(rt: HostRuntime) -> Result<(), Fail> {
-    let alloc = rt.alloc();
-    let kinds = program_kinds!(alloc);
+/// Leaves each address as before a command or after it, on three nets.
+pub fn fail_each_call(rt: &impl Abort, alloc: Global, kinds: &Kinds)
+    requires { All (λ k. IsLawful (meaning (k.vtable, k.value))) kinds.now.list.items }
+{
     for small in [Small::Row, Small::Chain, Small::Vectors] {
-        fail_each(&rt, alloc, &kinds, small)?;
+        fail_each(rt, alloc, kinds, small);
     }
-    Ok(())
 }
