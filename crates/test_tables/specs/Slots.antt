@@ -13,7 +13,7 @@ use Rattle.dn_kind.specs.Rights.{are_rights}
 use Rattle.dn_kind.specs.Units.{IsLegalWith, unit_shape}
 use Rattle.dn_tables.specs.declared.table.NodeTable.{NodeTable}
 use Rattle.dn_tables.specs.Set.{FitsNet, IsOnDevice, unit_in}
-use Rattle.test_tables.specs.declared.slots.Bench.{Bench}
+use Rattle.test_tables.specs.declared.bench.Bench.{Bench}
 
 -- a unit of this shape, whatever its kind, can hold the record
 pub record CanHold (shape : Shape) (r : Record) : Type 0 where

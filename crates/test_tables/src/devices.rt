@@ -3,17 +3,15 @@
 use crate::slots::are_words;
 use dn_base::device::{TableEvent, Tables};
 use dn_base::memory_tables::MemTables;
-use std::test::Fail;
 
 #[test]
-fn keeps_as_many_events_as_there_is_room_for(rt: HostRuntime) -> Result<(), Fail> {
+fn keeps_as_many_events_as_there_is_room_for(rt: HostRuntime) {
     let alloc = rt.alloc();
-    let mut device = MemTables::new(alloc, 1, Vec::new(alloc))?;
-    device.make(0, 1)?;
-    device.write(0, 0, 7)?;
-    device.fence()?;
+    let mut device = MemTables::new(alloc, 1, Vec::new(alloc)).expect(&rt, "a device");
+    device.make(0, 1).expect(&rt, "a unit");
+    device.write(0, 0, 7).expect(&rt, "a write");
+    device.fence().expect(&rt, "a fence");
     assert!(rt; are_words(Some(device.words(0)), &[7]));
     let made = [TableEvent::Make { unit: 0, words: 1 }];
     assert_eq!(rt; device.log(), made.as_slice());
-    Ok(())
 }

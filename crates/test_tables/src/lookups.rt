@@ -2,14 +2,12 @@
 
 ghost use Rattle.std.specs.List.{All};
 ghost use Rattle.dn_kind.specs.Terms.{IsLawful};
-ghost use Rattle.test_tables.specs.Terms.{IsBench, IsBoard};
+ghost use Rattle.test_tables.specs.Terms.{IsBoard};
 
-use crate::boards::{port_plan, row_plan};
-use crate::images::{put_pages, said};
-use crate::slots::{Bench, bench_of};
+use crate::boards::{page_plan, port_plan};
+use crate::images::is_read;
 use dn_image::check::check;
 use dn_image::fault::ImageFault;
-use dn_image::write::write;
 use dn_kind::kinds::Kinds;
 use dn_kind::rights::Access;
 use dn_lookup::lookup::{LookupFault, lookup};
@@ -17,16 +15,22 @@ use dn_net::net::Net;
 use dn_net::node::Name;
 use std::alloc::Global;
 use std::process::Abort;
-use std::test::Fail;
-use test_plans::{Plan, run_with_kinds};
 
-/// The image of the board with pages whose first word is this.
-fn page_image(version: u8, word: u64) -> [u8; 144] {
+/// The image of the board with pages whose first word is this: a header, the head of the one unit, node 5, whose
+/// records have a word each, and 16 words.
+pub fn page_image(version: u8, word: u64) -> [u8; 144] {
     let mut image = [0; 144];
     image[..16].copy_from_slice(b"DNIM\x02\0\x01\0\x05\0\x01\0\x10\0\0\0");
     image[4] = version;
     image[16..24].copy_from_slice(&word.to_le_bytes());
     image
+}
+
+/// The words of its unit.
+pub fn page_words(word: u64) -> [u64; 16] {
+    let mut words = [0; 16];
+    words[0] = word;
+    words
 }
 
 /// The image of the board with two ports whose first word is this.
@@ -58,11 +62,11 @@ fn compare_both(
     image: &[u8],
     reading: Option<Name>,
     writing: Option<Name>,
-) -> Result<(), Fail>
+)
     requires { IsBoard (λ k. meaning (k.vtable, k.value)) kinds.now.list.items net.now }
 {
-    compare(rt, alloc, net, kinds, image, ASKED, Access::Read, reading)?;
-    compare(rt, alloc, net, kinds, image, ASKED, Access::Write, writing)
+    compare(rt, alloc, net, kinds, image, ASKED, Access::Read, reading);
+    compare(rt, alloc, net, kinds, image, ASKED, Access::Write, writing);
 }
 
 /// Compares the one name, or none, to which an address of an agent comes.
@@ -75,54 +79,45 @@ fn compare(
     from: Name,
     access: Access,
     wanted: Option<Name>,
-) -> Result<(), Fail>
+)
     requires { IsBoard (λ k. meaning (k.vtable, k.value)) kinds.now.list.items net.now }
 {
-    let names = lookup(alloc, net, kinds, image, from.node, from.addr, access)?;
+    let names = lookup(alloc, net, kinds, image, from.node, from.addr, access);
+    let names = names.expect(rt, "names");
     assert_eq!(rt; names.list(), wanted.as_slice(), "{from:?} {access:?}");
-    Ok(())
 }
 
-/// Compares what is read of an image of version 2, whatever its words spell: the first word of a
-/// unit.
-fn compare_word(
+/// Compares what is read of an image of version 2, whatever its words spell.
+fn compare_words(
     rt: &impl Abort,
     alloc: Global,
     net: &Net,
     kinds: &Kinds,
     image: &[u8],
     unit: u16,
-    word: u64,
-) -> Result<(), Fail>
+    words: &[u64],
+)
     requires { IsBoard (λ k. meaning (k.vtable, k.value)) kinds.now.list.items net.now }
 {
     assert_eq!(rt; check(net, kinds, image), Ok(2));
-    let first = first_word(alloc, net, kinds, image, unit)?;
-    assert_eq!(rt; first, Some(word));
-    Ok(())
+    let given = is_read(alloc, net, kinds, image, unit, 2, words);
+    assert_eq!(rt; given, Ok(true));
 }
 
-/// The first word of a unit, as it is read. `None` where there is none.
-fn first_word(
-    alloc: Global,
-    net: &Net,
-    kinds: &Kinds,
-    image: &[u8],
-    unit: u16,
-) -> Result<Option<u64>, ImageFault>
-    requires { IsBoard (λ k. meaning (k.vtable, k.value)) kinds.now.list.items net.now }
+/// What is looked up in images of the board with pages.
+pub fn look_up_pages(rt: &impl Abort, alloc: Global, kinds: &Kinds)
+    requires { All (λ k. IsLawful (meaning (k.vtable, k.value))) kinds.now.list.items }
 {
-    match said(alloc, net, kinds, image, unit)? {
-        Some((_version, words)) => Ok(words.first().copied()),
-        None => Ok(None),
-    }
+    let net = page_plan(rt, alloc).net(alloc, kinds).expect(rt, "a net");
+    follow_records(rt, alloc, &net, kinds);
+    ask_rights(rt, alloc, &net, kinds);
+    ask_without(rt, alloc, &net, kinds);
 }
 
 /// An address goes by the record of its slot, and nowhere where the words spell none.
-fn follow_records(rt: &impl Abort, alloc: Global, kinds: &Kinds) -> Result<(), Fail>
-    requires { All (λ k. IsLawful (meaning (k.vtable, k.value))) kinds.now.list.items }
+fn follow_records(rt: &impl Abort, alloc: Global, net: &Net, kinds: &Kinds)
+    requires { IsBoard (λ k. meaning (k.vtable, k.value)) kinds.now.list.items net.now }
 {
-    let net = Plan::pages(alloc)?.net(alloc, kinds)?;
     let there = Some(PAGED);
     for (word, wanted) in [
         (0x8000401, there),
@@ -135,17 +130,15 @@ fn follow_records(rt: &impl Abort, alloc: Global, kinds: &Kinds) -> Result<(), F
         (0, None),
     ] {
         let image = page_image(2, word);
-        compare_word(rt, alloc, &net, kinds, &image, 5, word)?;
-        compare_both(rt, alloc, &net, kinds, &image, wanted, wanted)?;
+        compare_words(rt, alloc, net, kinds, &image, 5, &page_words(word));
+        compare_both(rt, alloc, net, kinds, &image, wanted, wanted);
     }
-    Ok(())
 }
 
 /// A record lets through what its rights allow.
-fn ask_rights(rt: &impl Abort, alloc: Global, kinds: &Kinds) -> Result<(), Fail>
-    requires { All (λ k. IsLawful (meaning (k.vtable, k.value))) kinds.now.list.items }
+fn ask_rights(rt: &impl Abort, alloc: Global, net: &Net, kinds: &Kinds)
+    requires { IsBoard (λ k. meaning (k.vtable, k.value)) kinds.now.list.items net.now }
 {
-    let net = Plan::pages(alloc)?.net(alloc, kinds)?;
     let there = Some(PAGED);
     for (version, word, reading, writing) in [
         // Writing is denied, then reading, then both.
@@ -158,17 +151,16 @@ fn ask_rights(rt: &impl Abort, alloc: Global, kinds: &Kinds) -> Result<(), Fail>
         (1, 0x8000401, there, there),
     ] {
         let image = page_image(version, word);
-        compare_both(rt, alloc, &net, kinds, &image, reading, writing)?;
+        compare_both(rt, alloc, net, kinds, &image, reading, writing);
     }
-    Ok(())
 }
 
 /// A record sends to its port, and nowhere where the unit lacks the port or the page is past its
 /// reach.
-fn ask_ports(rt: &impl Abort, alloc: Global, kinds: &Kinds) -> Result<(), Fail>
+pub fn ask_ports(rt: &impl Abort, alloc: Global, kinds: &Kinds)
     requires { All (λ k. IsLawful (meaning (k.vtable, k.value))) kinds.now.list.items }
 {
-    let net = port_plan(alloc)?.net(alloc, kinds)?;
+    let net = port_plan(rt, alloc).net(alloc, kinds).expect(rt, "a net");
     let from = Name {
         node: 2,
         addr: 0x10,
@@ -185,53 +177,15 @@ fn ask_ports(rt: &impl Abort, alloc: Global, kinds: &Kinds) -> Result<(), Fail>
     ] {
         let wanted = wanted.map(|(node, addr)| Name { node, addr });
         let image = port_image(word);
-        compare_word(rt, alloc, &net, kinds, &image, 3, word)?;
-        compare(rt, alloc, &net, kinds, &image, from, Access::Read, wanted)?;
+        compare_words(rt, alloc, &net, kinds, &image, 3, &[word, 0, 0, 0]);
+        compare(rt, alloc, &net, kinds, &image, from, Access::Read, wanted);
     }
-    Ok(())
-}
-
-/// An address goes through two units, of which the first has a record for its first page, and the second for its
-/// first two.
-fn go_through_two(rt: &impl Abort, alloc: Global, kinds: &Kinds) -> Result<(), Fail>
-    requires { All (λ k. IsLawful (meaning (k.vtable, k.value))) kinds.now.list.items }
-{
-    let mut bench = bench_of(alloc, kinds, row_plan(alloc)?, 0, &[])??;
-    put_pages(
-        rt,
-        kinds,
-        &mut bench,
-        &[(5, 0, 0), (7, 0, 0x80004), (7, 1, 0x80006)],
-    );
-    compare_row(rt, alloc, kinds, &bench)
-}
-
-/// Compares where addresses come to in the image of these tables.
-fn compare_row(rt: &impl Abort, alloc: Global, kinds: &Kinds, bench: &Bench) -> Result<(), Fail>
-    requires { IsBench (λ k. meaning (k.vtable, k.value)) kinds.now.list.items bench.now }
-{
-    let net = &bench.net;
-    let written = write(alloc, net, kinds, &bench.set)?;
-    let image = written.as_slice();
-    assert_eq!(rt; image.len(), 2104);
-    for (addr, wanted) in [
-        (0x234, Some(0x4234)),
-        (0x1234, Some(0x6234)),
-        (0x2000, None),
-        (0x10_0000, None),
-    ] {
-        let from = Name { node: 4, addr };
-        let wanted = wanted.map(|addr| Name { node: 0, addr });
-        compare(rt, alloc, net, kinds, image, from, Access::Write, wanted)?;
-    }
-    Ok(())
 }
 
 /// Without an agent or an image there is no answer.
-fn ask_without(rt: &impl Abort, alloc: Global, kinds: &Kinds) -> Result<(), Fail>
-    requires { All (λ k. IsLawful (meaning (k.vtable, k.value))) kinds.now.list.items }
+fn ask_without(rt: &impl Abort, alloc: Global, net: &Net, kinds: &Kinds)
+    requires { IsBoard (λ k. meaning (k.vtable, k.value)) kinds.now.list.items net.now }
 {
-    let net = Plan::pages(alloc)?.net(alloc, kinds)?;
     let image = page_image(2, 0);
     // The core reaches the memory through no unit.
     let from = Name {
@@ -239,23 +193,17 @@ fn ask_without(rt: &impl Abort, alloc: Global, kinds: &Kinds) -> Result<(), Fail
         addr: 0x8000_0000,
     };
     let wanted = Some(Name { node: 0, addr: 0 });
-    compare(rt, alloc, &net, kinds, &image, from, Access::Read, wanted)?;
+    compare(rt, alloc, net, kinds, &image, from, Access::Read, wanted);
     // The bus is no agent, and there is no node 6. That is said whatever the bytes are.
     for (node, length) in [(2, 144), (2, 0), (6, 144), (6, 3)] {
         assert!(rt; length <= 144);
-        let given = lookup(alloc, &net, kinds, &image[..length], node, 0, Access::Read);
+        let given = lookup(alloc, net, kinds, &image[..length], node, 0, Access::Read);
         assert_eq!(rt; given.err(), Some(LookupFault::NoAgent), "{node}");
     }
     for length in [143] {
         assert!(rt; length <= 144);
-        let given = lookup(alloc, &net, kinds, &image[..length], 4, 0, Access::Read);
+        let given = lookup(alloc, net, kinds, &image[..length], 4, 0, Access::Read);
         let short = ImageFault::Short { at: 143 };
         assert_eq!(rt; given.err(), Some(LookupFault::Image(short)));
     }
-    Ok(())
-}
-
-#[test]
-fn looks_up_in_the_bytes_of_an_image(rt: HostRuntime) -> Result<(), Fail> {
-    run_with_kinds!(rt; follow_records, ask_rights, ask_ports, go_through_two, ask_without)
 }

@@ -4,10 +4,11 @@ ghost use Rattle.std.specs.List.{All};
 ghost use Rattle.dn_kind.specs.Terms.{IsLawful};
 ghost use Rattle.test_tables.specs.Terms.{IsBench};
 
-use crate::boards::{two_units, vector_plan};
+use crate::bench::Bench;
+use crate::boards::{page_plan, two_units, vector_plan};
 use crate::slots::{
-    Bench, Place, add_use, are_words, bench_of, clear, device_words, end_use, put, record_of,
-    to_page, use_of, words,
+    Place, add_use, are_words, bench_of, clear, device_words, end_use, put, record_of, to_page,
+    use_of, words,
 };
 use dn_base::device::{DeviceFault, MakeFault, TableEvent};
 use dn_base::memory_tables::MemTables;
@@ -16,14 +17,12 @@ use dn_kind::unit_kind::Record;
 use dn_tables::set::TableSet;
 use std::alloc::Global;
 use std::process::Abort;
-use std::test::Fail;
-use test_plans::{Plan, run_with_kinds};
 
 /// Each unit is made with words 0.
-fn make_two_units(rt: &impl Abort, alloc: Global, kinds: &Kinds) -> Result<(), Fail>
+pub fn make_two_units(rt: &impl Abort, alloc: Global, kinds: &Kinds)
     requires { All (λ k. IsLawful (meaning (k.vtable, k.value))) kinds.now.list.items }
 {
-    let bench = bench_of(alloc, kinds, two_units(alloc)?, 8, &[])??;
+    let bench = bench_of(rt, alloc, kinds, two_units(rt, alloc), 8, &[]);
     let (net, set) = (&bench.net, &bench.set);
     assert!(rt; are_words(words(net, set, 0), &[]));
     assert!(rt; are_words(words(net, set, 1), &[0, 0]));
@@ -37,29 +36,33 @@ fn make_two_units(rt: &impl Abort, alloc: Global, kinds: &Kinds) -> Result<(), F
     assert_eq!(rt; record_of(kinds, &bench, first), None);
     assert_eq!(rt; use_of(net, set, first), Some((0, None)));
     assert_eq!(rt; use_of(net, set, Place { unit: 1, slot: 2 }), None);
-    Ok(())
 }
 
 /// Makes the two units over a device that fails at a call, and answers the fault, if there is one,
 /// and how many units were made.
-fn made_with(alloc: Global, kinds: &Kinds, failing: u32) -> Result<(Option<MakeFault>, usize), Fail>
+fn made_with(
+    rt: &impl Abort,
+    alloc: Global,
+    kinds: &Kinds,
+    failing: u32,
+) -> (Option<MakeFault>, usize)
     requires { All (λ k. IsLawful (meaning (k.vtable, k.value))) kinds.now.list.items }
 {
-    let net = two_units(alloc)?.net(alloc, kinds)?;
-    let mut device = MemTables::new(alloc, 8, vec![in alloc; failing]?)?;
+    let net = two_units(rt, alloc).net(alloc, kinds).expect(rt, "a net");
+    let failing = [failing].to_vec(alloc).expect(rt, "memory");
+    let mut device = MemTables::new(alloc, 8, failing).expect(rt, "a device");
     let fault = TableSet::make(alloc, &net, kinds, &mut device).err();
-    Ok((fault, device.log().len()))
+    (fault, device.log().len())
 }
 
 /// A make that fails stops at its unit.
-fn stop_at_makes(rt: &impl Abort, alloc: Global, kinds: &Kinds) -> Result<(), Fail>
+pub fn stop_at_makes(rt: &impl Abort, alloc: Global, kinds: &Kinds)
     requires { All (λ k. IsLawful (meaning (k.vtable, k.value))) kinds.now.list.items }
 {
     let device = Some(MakeFault::Device);
     for (failing, wanted) in [(0, (device, 0)), (1, (device, 1)), (2, (None, 2))] {
-        assert_eq!(rt; made_with(alloc, kinds, failing)?, wanted, "{failing}");
+        assert_eq!(rt; made_with(rt, alloc, kinds, failing), wanted, "{failing}");
     }
-    Ok(())
 }
 
 /// Compares the words of a unit, which are the same in the set and on its device, and the record of
@@ -81,10 +84,10 @@ fn compare(
 }
 
 /// A record is put and cleared.
-fn put_and_clear(rt: &impl Abort, alloc: Global, kinds: &Kinds) -> Result<(), Fail>
+pub fn put_and_clear(rt: &impl Abort, alloc: Global, kinds: &Kinds)
     requires { All (λ k. IsLawful (meaning (k.vtable, k.value))) kinds.now.list.items }
 {
-    let mut bench = bench_of(alloc, kinds, Plan::pages(alloc)?, 0, &[])??;
+    let mut bench = bench_of(rt, alloc, kinds, page_plan(rt, alloc), 0, &[]);
     let at = Place { unit: 5, slot: 3 };
     compare(rt, kinds, &bench, at, &[0; 16], None);
     let wanted = to_page(0x80004);
@@ -96,14 +99,13 @@ fn put_and_clear(rt: &impl Abort, alloc: Global, kinds: &Kinds) -> Result<(), Fa
     compare(rt, kinds, &bench, at, &[0; 16], None);
     // The device had no room for events.
     assert!(rt; bench.device.log().is_empty());
-    Ok(())
 }
 
 /// The gate is opened last and shut first.
-fn watch_the_gate(rt: &impl Abort, alloc: Global, kinds: &Kinds) -> Result<(), Fail>
+pub fn watch_the_gate(rt: &impl Abort, alloc: Global, kinds: &Kinds)
     requires { All (λ k. IsLawful (meaning (k.vtable, k.value))) kinds.now.list.items }
 {
-    let mut bench = bench_of(alloc, kinds, vector_plan(alloc)?, 8, &[])??;
+    let mut bench = bench_of(rt, alloc, kinds, vector_plan(rt, alloc), 8, &[]);
     let at = Place { unit: 2, slot: 2 };
     assert_eq!(rt; put(kinds, &mut bench, at, to_page(0x20)), Some(Ok(())));
     assert_eq!(rt; clear(kinds, &mut bench, at), Some(Ok(())));
@@ -116,7 +118,6 @@ fn watch_the_gate(rt: &impl Abort, alloc: Global, kinds: &Kinds) -> Result<(), F
         written(4, 0),
     ];
     assert_eq!(rt; bench.device.log(), done.as_slice());
-    Ok(())
 }
 
 /// The event of a write to a word of the unit of vectors.
@@ -154,25 +155,18 @@ fn compare_left(
 }
 
 /// Compares what is left after a put, and then after a clear, over a device that fails at a call.
-fn compare_failing(
-    rt: &impl Abort,
-    alloc: Global,
-    kinds: &Kinds,
-    failing: u32,
-    wanted: [Left; 2],
-) -> Result<(), Fail>
+fn compare_failing(rt: &impl Abort, alloc: Global, kinds: &Kinds, failing: u32, wanted: [Left; 2])
     requires { All (λ k. IsLawful (meaning (k.vtable, k.value))) kinds.now.list.items }
 {
-    let mut bench = bench_of(alloc, kinds, vector_plan(alloc)?, 0, &[failing])??;
+    let mut bench = bench_of(rt, alloc, kinds, vector_plan(rt, alloc), 0, &[failing]);
     let given = put(kinds, &mut bench, SLOT, to_page(0x20));
     compare_left(rt, kinds, &bench, given, wanted[0]);
     let given = clear(kinds, &mut bench, SLOT);
     compare_left(rt, kinds, &bench, given, wanted[1]);
-    Ok(())
 }
 
 /// A fault leaves the words that were written before it.
-fn stop_at_writes(rt: &impl Abort, alloc: Global, kinds: &Kinds) -> Result<(), Fail>
+pub fn stop_at_writes(rt: &impl Abort, alloc: Global, kinds: &Kinds)
     requires { All (λ k. IsLawful (meaning (k.vtable, k.value))) kinds.now.list.items }
 {
     let fault = Err(DeviceFault);
@@ -180,18 +174,18 @@ fn stop_at_writes(rt: &impl Abort, alloc: Global, kinds: &Kinds) -> Result<(), F
     // else it has calls 3 and 4.
     let put = (Ok(()), [0x20, 1], true);
     let cleared = (Ok(()), [0, 0], false);
-    compare_failing(rt, alloc, kinds, 1, [(fault, [0, 0], false), cleared])?;
-    compare_failing(rt, alloc, kinds, 2, [(fault, [0x20, 0], false), cleared])?;
-    compare_failing(rt, alloc, kinds, 3, [put, (fault, [0x20, 1], true)])?;
-    compare_failing(rt, alloc, kinds, 4, [put, (fault, [0x20, 0], false)])?;
-    compare_failing(rt, alloc, kinds, 5, [put, cleared])
+    compare_failing(rt, alloc, kinds, 1, [(fault, [0, 0], false), cleared]);
+    compare_failing(rt, alloc, kinds, 2, [(fault, [0x20, 0], false), cleared]);
+    compare_failing(rt, alloc, kinds, 3, [put, (fault, [0x20, 1], true)]);
+    compare_failing(rt, alloc, kinds, 4, [put, (fault, [0x20, 0], false)]);
+    compare_failing(rt, alloc, kinds, 5, [put, cleared]);
 }
 
 /// Uses of slots are counted, and owners are kept.
-fn count_uses(rt: &impl Abort, alloc: Global, kinds: &Kinds) -> Result<(), Fail>
+pub fn count_uses(rt: &impl Abort, alloc: Global, kinds: &Kinds)
     requires { All (λ k. IsLawful (meaning (k.vtable, k.value))) kinds.now.list.items }
 {
-    let mut bench = bench_of(alloc, kinds, Plan::pages(alloc)?, 0, &[])??;
+    let mut bench = bench_of(rt, alloc, kinds, page_plan(rt, alloc), 0, &[]);
     let (net, set) = (&bench.net, &mut bench.set);
     let owned = Place { unit: 5, slot: 0 };
     let shared = Place { unit: 5, slot: 15 };
@@ -207,13 +201,4 @@ fn count_uses(rt: &impl Abort, alloc: Global, kinds: &Kinds) -> Result<(), Fail>
     assert!(rt; end_use(net, set, shared));
     assert_eq!(rt; use_of(net, set, shared), Some((1, None)));
     assert!(rt; !end_use(net, set, owned));
-    Ok(())
-}
-
-#[test]
-fn makes_puts_and_clears(rt: HostRuntime) -> Result<(), Fail> {
-    run_with_kinds!(
-        rt;
-        make_two_units, stop_at_makes, put_and_clear, watch_the_gate, stop_at_writes, count_uses
-    )
 }

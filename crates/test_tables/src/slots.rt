@@ -1,13 +1,14 @@
 //! Calls on the slots of a set of tables, made where what they ask holds.
 
-ghost use Rattle.std.specs.Prelude.{◌≡◌, ◌==◌, map, IfOk, IsTrue, IsSome};
+ghost use Rattle.std.specs.Prelude.{◌≡◌, ◌==◌, map, IsTrue, IsSome};
 ghost use Rattle.std.specs.List.{All, list_all};
 ghost use Rattle.dn_kind.specs.Terms.{IsLawful, are_rights, unit_shape};
 ghost use Rattle.dn_tables.specs.Terms.{IsEmpty, has_slot, unit_in, units_of};
 ghost use Rattle.test_tables.specs.Terms.{CanHold, CanHoldIn, IsBench};
 
+use crate::bench::Bench;
 use bitflags::Flags;
-use dn_base::device::{DeviceFault, MakeFault, Tables};
+use dn_base::device::{DeviceFault, Tables};
 use dn_base::filled::Filled;
 use dn_base::memory_tables::MemTables;
 use dn_kind::kinds::Kinds;
@@ -18,21 +19,14 @@ use dn_net::net::Net;
 use dn_net::node::Unit;
 use dn_tables::set::TableSet;
 use std::alloc::Global;
-use test_plans::{Plan, Unmade};
+use std::process::Abort;
+use test_plans::Plan;
 
 /// A slot of a unit, by the number of the unit's node.
 #[derive(Clone, Copy, Debug, PartialEq, Eq)]
 pub struct Place {
     pub unit: u16,
     pub slot: u32,
-}
-
-/// A net, the tables of its units, and the device that has them.
-#[derive(Drop)]
-pub struct Bench {
-    pub net: Net,
-    pub set: TableSet,
-    pub device: MemTables,
 }
 
 /// A record of port 0 that allows both accesses.
@@ -113,22 +107,21 @@ fn are_rights(rights: Rights) -> bool
 
 /// New tables of the net of a plan, over a device that has room for so many events and fails at these calls.
 pub fn bench_of(
+    rt: &impl Abort,
     alloc: Global,
     kinds: &Kinds,
     plan: Plan,
     room: u32,
     failing: &[u32],
-) -> Result<Result<Bench, MakeFault>, Unmade>
+) -> Bench
     requires { All (λ k. IsLawful (meaning (k.vtable, k.value))) kinds.now.list.items }
-    ensures { IfOk result (λ made. IfOk made
-        (IsBench (λ k. meaning (k.vtable, k.value)) kinds.now.list.items)) }
+    ensures { IsBench (λ k. meaning (k.vtable, k.value)) kinds.now.list.items result }
 {
-    let net = plan.net(alloc, kinds)?;
-    let mut device = MemTables::new(alloc, room, failing.to_vec(alloc)?)?;
-    match TableSet::make(alloc, &net, kinds, &mut device) {
-        Ok(set) => Ok(Ok(Bench { net, set, device })),
-        Err(fault) => Ok(Err(fault)),
-    }
+    let net = plan.net(alloc, kinds).expect(rt, "a net");
+    let failing = failing.to_vec(alloc).expect(rt, "memory");
+    let mut device = MemTables::new(alloc, room, failing).expect(rt, "a device");
+    let set = TableSet::make(alloc, &net, kinds, &mut device).expect(rt, "tables");
+    Bench { net, set, device }
 }
 
 /// Puts a record into a slot. `None`, and nothing is done, where the slot is not there or not

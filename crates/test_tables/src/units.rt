@@ -15,7 +15,6 @@ use dn_net::net::Net;
 use std::alloc::Global;
 use std::process::Abort;
 use std::test::Fail;
-use test_plans::run_with_kinds;
 
 /// Compares what is said of bytes as an image of the net of two units: the version, or the first
 /// fault. Whoever reads the bytes, or looks up in them, is told the same.
@@ -26,7 +25,7 @@ fn compare(
     kinds: &Kinds,
     bytes: &[u8],
     wanted: Result<u16, ImageFault>,
-) -> Result<(), Fail>
+)
     requires { IsBoard (λ k. meaning (k.vtable, k.value)) kinds.now.list.items net.now }
 {
     assert_eq!(rt; check(net, kinds, bytes), wanted);
@@ -34,7 +33,6 @@ fn compare(
     assert_eq!(rt; version, wanted);
     let fault = lookup(alloc, net, kinds, bytes, 3, 0, Access::Read).err();
     assert_eq!(rt; fault, wanted.err().map(LookupFault::Image));
-    Ok(())
 }
 
 /// An image of that net: 8 bytes, then 8 and 16 for each unit.
@@ -46,37 +44,44 @@ const IMAGE: [u8; 56] = [
     0, 0, 0, 0, 0, 0, 0, 0, 0, 0, 0, 0, 0, 0, 0, 0, // its words
 ];
 
-/// An image of each version is one.
-fn take_versions(rt: &impl Abort, alloc: Global, kinds: &Kinds) -> Result<(), Fail>
+/// Exactly the images of that net are taken.
+pub fn take_exactly_the_images(rt: &impl Abort, alloc: Global, kinds: &Kinds)
     requires { All (λ k. IsLawful (meaning (k.vtable, k.value))) kinds.now.list.items }
 {
-    let net = two_units(alloc)?.net(alloc, kinds)?;
-    compare(rt, alloc, &net, kinds, &IMAGE, Ok(2))?;
+    let net = two_units(rt, alloc).net(alloc, kinds).expect(rt, "a net");
+    take_versions(rt, alloc, &net, kinds);
+    refuse_lengths(rt, alloc, &net, kinds);
+    name_fields(rt, alloc, &net, kinds);
+}
+
+/// An image of each version is one.
+fn take_versions(rt: &impl Abort, alloc: Global, net: &Net, kinds: &Kinds)
+    requires { IsBoard (λ k. meaning (k.vtable, k.value)) kinds.now.list.items net.now }
+{
+    compare(rt, alloc, net, kinds, &IMAGE, Ok(2));
     let mut first = IMAGE;
     first[4] = 1;
-    compare(rt, alloc, &net, kinds, &first, Ok(1))
+    compare(rt, alloc, net, kinds, &first, Ok(1));
 }
 
 /// An image that is cut at a byte is none, and neither is one with a byte too many.
-fn refuse_lengths(rt: &impl Abort, alloc: Global, kinds: &Kinds) -> Result<(), Fail>
-    requires { All (λ k. IsLawful (meaning (k.vtable, k.value))) kinds.now.list.items }
+fn refuse_lengths(rt: &impl Abort, alloc: Global, net: &Net, kinds: &Kinds)
+    requires { IsBoard (λ k. meaning (k.vtable, k.value)) kinds.now.list.items net.now }
 {
-    let net = two_units(alloc)?.net(alloc, kinds)?;
     for at in 0..56 {
         let wanted = Err(ImageFault::Short { at: at as u64 });
-        compare(rt, alloc, &net, kinds, &IMAGE[..at], wanted)?;
+        compare(rt, alloc, net, kinds, &IMAGE[..at], wanted);
     }
     let mut longer = [0u8; 57];
     longer[..56].copy_from_slice(&IMAGE);
     let wanted = Err(ImageFault::Trailing { at: 56 });
-    compare(rt, alloc, &net, kinds, &longer, wanted)
+    compare(rt, alloc, net, kinds, &longer, wanted);
 }
 
 /// The first wrong field is named.
-fn name_fields(rt: &impl Abort, alloc: Global, kinds: &Kinds) -> Result<(), Fail>
-    requires { All (λ k. IsLawful (meaning (k.vtable, k.value))) kinds.now.list.items }
+fn name_fields(rt: &impl Abort, alloc: Global, net: &Net, kinds: &Kinds)
+    requires { IsBoard (λ k. meaning (k.vtable, k.value)) kinds.now.list.items net.now }
 {
-    let net = two_units(alloc)?.net(alloc, kinds)?;
     for (at, byte, wanted) in [
         (0, b'd', ImageFault::Header { at: 0 }),
         (3, b'N', ImageFault::Header { at: 0 }),
@@ -95,14 +100,8 @@ fn name_fields(rt: &impl Abort, alloc: Global, kinds: &Kinds) -> Result<(), Fail
         let mut changed = IMAGE;
         assert!(rt; at < 56);
         changed[at] = byte;
-        compare(rt, alloc, &net, kinds, &changed, Err(wanted))?;
+        compare(rt, alloc, net, kinds, &changed, Err(wanted));
     }
-    Ok(())
-}
-
-#[test]
-fn takes_exactly_the_images_of_a_net(rt: HostRuntime) -> Result<(), Fail> {
-    run_with_kinds!(rt; take_versions, refuse_lengths, name_fields)
 }
 
 #[test]

@@ -2,7 +2,7 @@
 use Rattle.std.proofs.Common.{◌≡◌, List, length, map, arith}
 use Rattle.dn_kind.specs.Kind.{Meaning}
 use Rattle.test_tables.proofs.Held.{filled_long}
-use Rattle.test_tables.proofs.images.said.Goals as goal
+use Rattle.test_tables.proofs.images.is_read.Goals as goal
 
 pub words-requires : goal.words-requires
 words-requires g c =
