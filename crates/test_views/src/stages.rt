@@ -1,12 +1,13 @@
-//! What is seen past very many walks, by stages too, and what all nodes see at once.
+//! What is seen past very many walks, by stages too, and in units; and what all nodes see at once.
 
-use crate::seen_texts;
-use crate::views::SMALL;
+ghost use Rattle.dn_net.specs.Terms.{IsLegalNet};
+
 use dn_flat::stage::Stage;
 use dn_interval::onward::follow;
-use dn_interval::{End, Rows, Seg, Span, TOP};
+use dn_interval::{End, Row, Rows, Seg, Span, TOP};
+use dn_net::net::Net;
 use std::alloc::{AllocError, Global};
-use std::test::Fail;
+use std::process::Abort;
 use test_kit::Machine;
 
 /// Two nodes a level, each of which sends all of its addresses to both of the next: 1,048,500 live walks.
@@ -21,34 +22,61 @@ b[17] is accept [0x0-0xff];
 ";
 
 #[test]
-fn sees_past_many_walks(rt: HostRuntime) -> Result<(), Fail> {
+fn sees_past_many_walks(rt: HostRuntime) {
     let alloc = rt.alloc();
-    let machine = Machine::of_text(alloc, CROWD)?;
-    let (text, _) = seen_texts(alloc, &machine, 0)?;
-    assert_eq!(rt;
-        text.as_slice(),
-        b"0x0-0xff a[17]@0x0, b[17]@0x0\n".as_slice()
-    );
-    Ok(())
+    let machine = Machine::of_text(alloc, CROWD).expect(&rt, "a machine");
+    let flat = machine.flat(alloc, 0).expect(&rt, "rows");
+    // The nodes of the last level are these.
+    let ends = [End { node: 34, base: 0 }, End { node: 35, base: 0 }];
+    compare_one(&rt, flat.accepts.rows(), 0xff, &ends);
+    assert!(rt; flat.stops.rows().is_empty());
+}
+
+/// A memory, an agent behind a unit, and the unit, which is node 1.
+const UNIT: &str = "ram is accept [0-0xffff];
+unit mmu kind pages page 12 slots 65536 reach 32 to ram;
+agent engine is map [0-0xffff to mmu at 0];
+";
+
+#[test]
+fn sees_what_stands_in_units(rt: HostRuntime) {
+    let alloc = rt.alloc();
+    let machine = Machine::of_text(alloc, UNIT).expect(&rt, "a machine");
+    for (node, hi) in [(1, TOP), (2, 0xffff)] {
+        let flat = machine.flat(alloc, node).expect(&rt, "rows");
+        assert!(rt; flat.accepts.rows().is_empty());
+        compare_one(&rt, flat.stops.rows(), hi, &[End { node: 1, base: 0 }]);
+    }
 }
 
 #[test]
-fn goes_on_for_sixteen_steps(rt: HostRuntime) -> Result<(), Fail> {
+fn goes_on_for_sixteen_steps(rt: HostRuntime) {
     let alloc = rt.alloc();
-    let machine = Machine::of_text(alloc, CROWD)?;
-    let net = machine.net();
-    let two = Stage::start(alloc, net)?.doubled(alloc, net)?;
-    let eight = two.doubled(alloc, net)?.doubled(alloc, net)?;
-    let stage = eight.doubled(alloc, net)?;
+    let machine = Machine::of_text(alloc, CROWD).expect(&rt, "a machine");
+    compare_stage(&rt, alloc, machine.net());
+}
+
+/// Compares where the first node's addresses go in sixteen steps.
+fn compare_stage(rt: &impl Abort, alloc: Global, net: &Net)
+    requires { IsLegalNet net.now }
+{
+    let two = Stage::start(alloc, net).expect(rt, "memory");
+    let two = two.doubled(alloc, net).expect(rt, "memory");
+    let four = two.doubled(alloc, net).expect(rt, "memory");
+    let eight = four.doubled(alloc, net).expect(rt, "memory");
+    let stage = eight.doubled(alloc, net).expect(rt, "memory");
     assert!(rt; net.nodes() > 0);
     assert!(rt; stage.done(0).accepts.rows().is_empty());
-    let rows = stage.go(0).rows();
-    assert_eq!(rt; rows.len(), 1);
-    let span = Span { lo: 0, hi: 0xff };
-    assert_eq!(rt; rows[0].span(), span);
+    // The nodes of the last level but one are these.
     let ends = [End { node: 32, base: 0 }, End { node: 33, base: 0 }];
-    assert_eq!(rt; rows[0].ends(), ends.as_slice());
-    Ok(())
+    compare_one(rt, stage.go(0).rows(), 0xff, &ends);
+}
+
+/// Compares rows with the one that leads the addresses from 0 to `hi` to these ends.
+fn compare_one(rt: &impl Abort, rows: &[Row], hi: u64, ends: &[End]) {
+    assert_eq!(rt; rows.len(), 1);
+    assert_eq!(rt; rows[0].span(), Span { lo: 0, hi });
+    assert_eq!(rt; rows[0].ends(), ends);
 }
 
 /// Whether two lists of rows are one.
@@ -81,20 +109,30 @@ fn joined(alloc: Global, levels: &[Rows]) -> Result<Rows, AllocError> {
     Rows::normal(alloc, &segs)
 }
 
+/// Blocks that overlap and touch, two ways to one name, neighbours that go on and neighbours that break.
+const SMALL: &str = "a is accept [8-20, 0-3, 4-10];
+b is map [0-9 to a at 0, 10-19 to a at 10, 20-29 to a at 10];
+c is accept [15-16] map [0-9 to a at 2];
+d is accept [0] map [2-11 to b at 0 and c at 0, 12-15 to b at 16];
+e is map [5-9 to d at 8] over d;
+";
+
 #[test]
-fn sees_from_all_nodes_what_each_sees(rt: HostRuntime) -> Result<(), Fail> {
-    let alloc = rt.alloc();
-    for text in [SMALL, CROWD] {
-        let machine = Machine::of_text(alloc, text)?;
-        let flats = machine.flats(alloc)?;
-        for node in 0..machine.net().nodes() {
-            let flat = machine.flat(alloc, node)?;
-            let same = are_same(&flats.accepted_rows(alloc, node)?, &flat.accepts);
-            assert!(rt; same, "accepts of {node}");
-            let stops = joined(alloc, flats.of(node).stops.as_slice())?;
-            let same = are_same(&stops, &flat.stops);
-            assert!(rt; same, "stops of {node}");
-        }
+fn sees_from_all_nodes_what_each_sees(rt: HostRuntime) {
+    for text in [SMALL, UNIT, CROWD] {
+        compare_all(&rt, rt.alloc(), text);
     }
-    Ok(())
+}
+
+/// Compares what all nodes of a text see at once with what each of them sees.
+fn compare_all(rt: &impl Abort, alloc: Global, text: &str) {
+    let machine = Machine::of_text(alloc, text).expect(rt, "a machine");
+    let flats = machine.flats(alloc).expect(rt, "flats");
+    for node in 0..machine.net().nodes() {
+        let flat = machine.flat(alloc, node).expect(rt, "rows");
+        let accepts = flats.accepted_rows(alloc, node).expect(rt, "memory");
+        assert!(rt; are_same(&accepts, &flat.accepts), "accepts of {node}");
+        let stops = joined(alloc, flats.of(node).stops.as_slice()).expect(rt, "memory");
+        assert!(rt; are_same(&stops, &flat.stops), "stops of {node}");
+    }
 }

@@ -1,11 +1,12 @@
 //! Tests of demonstrations: the line that is written, and runs that stop at a call of the device or
 //! of the sink.
 
-use crate::outcome::{Failing, answer, show};
-use crate::tests::rows::{front, words_of};
+use crate::outcome::{Failing, Outcome, answer};
+use crate::tests::rows::front;
 use dn_base::source::Source;
 use dn_tool::run::{DEVICE_FAULT, DONE, WRITE_FAULT};
-use std::test::Fail;
+use std::alloc::Global;
+use std::process::Abort;
 
 /// What is written of a demonstration with one agent.
 const ONE: &str = "demo 1: nodes 4 grants 16 revoked 8 rows 8 records 24 image 32784\n";
@@ -17,39 +18,54 @@ const FOUR: &str = "demo 4: nodes 10 grants 64 revoked 32 rows 32 records 96 ima
 /// each, and 8 revokes clear three each. No grant follows a revoke, so there is no fence.
 const CALLS: u32 = 1 + 16 * 3 + 8 * 3;
 
+/// Runs the demonstration with so many agents, where these calls of the sink and of the device fail. Nothing is read of
+/// the text.
+fn show(rt: &impl Abort, alloc: Global, agents: &str, writes: &[u32], device: &[u32]) -> Outcome {
+    let failing = Failing {
+        reads: &[],
+        writes,
+        device,
+    };
+    answer(rt, alloc, &["demo", agents], b"", 4096, failing)
+}
+
 #[test]
-fn sums_up_demonstrations(rt: HostRuntime) -> Result<(), Fail> {
-    let rows = [(1, ONE, CALLS), (4, FOUR, 4 * CALLS)];
+fn sums_up_demonstrations(rt: HostRuntime) {
+    let rows = [("1", ONE, CALLS), ("4", FOUR, 4 * CALLS)];
     for (agents, line, calls) in rows {
-        let shown = show(rt.alloc(), agents, &[], &[])?;
+        let shown = show(&rt, rt.alloc(), agents, &[], &[]);
         assert_eq!(rt; shown.status, DONE, "{agents}");
         assert_eq!(rt; shown.sink.written(), line.as_bytes(), "{agents}");
         assert_eq!(rt; shown.device.log().len(), calls as usize, "{agents}");
     }
-    Ok(())
 }
 
 #[test]
-fn reads_nothing_for_a_demonstration(rt: HostRuntime) -> Result<(), Fail> {
-    let words = words_of(rt.alloc(), &["demo", "4"])?;
+fn reads_nothing_for_a_demonstration(rt: HostRuntime) {
     let failing = Failing {
         reads: &[0],
         writes: &[],
         device: &[],
     };
-    let mut outcome = answer(rt.alloc(), &words, b"a is; a is;", 4096, failing)?;
+    let mut outcome = answer(
+        &rt,
+        rt.alloc(),
+        &["demo", "4"],
+        b"a is; a is;",
+        4096,
+        failing,
+    );
     assert_eq!(rt; outcome.status, DONE);
     assert_eq!(rt; outcome.sink.written(), FOUR.as_bytes());
     // The first read, which fails, is this one.
     assert!(rt; outcome.source.read(&mut [0; 1]).is_err());
-    Ok(())
 }
 
 #[test]
-fn writes_nothing_where_the_device_fails(rt: HostRuntime) -> Result<(), Fail> {
-    let whole = show(rt.alloc(), 1, &[], &[])?;
+fn writes_nothing_where_the_device_fails(rt: HostRuntime) {
+    let whole = show(&rt, rt.alloc(), "1", &[], &[]);
     for call in 0..CALLS {
-        let shown = show(rt.alloc(), 1, &[], &[call])?;
+        let shown = show(&rt, rt.alloc(), "1", &[], &[call]);
         assert_eq!(rt; shown.status, DEVICE_FAULT, "{call}");
         assert_eq!(rt; shown.sink.written(), "".as_bytes(), "{call}");
         assert_eq!(rt;
@@ -58,17 +74,15 @@ fn writes_nothing_where_the_device_fails(rt: HostRuntime) -> Result<(), Fail> {
             "{call}"
         );
     }
-    Ok(())
 }
 
 #[test]
-fn writes_the_line_once_all_is_done(rt: HostRuntime) -> Result<(), Fail> {
+fn writes_the_line_once_all_is_done(rt: HostRuntime) {
     // The only write fails, or a second one would, which is not made.
     for (call, status, line) in [(0, WRITE_FAULT, ""), (1, DONE, ONE)] {
-        let shown = show(rt.alloc(), 1, &[call], &[CALLS])?;
+        let shown = show(&rt, rt.alloc(), "1", &[call], &[CALLS]);
         assert_eq!(rt; shown.status, status, "{call}");
         assert_eq!(rt; shown.sink.written(), line.as_bytes(), "{call}");
         assert_eq!(rt; shown.device.log().len(), CALLS as usize, "{call}");
     }
-    Ok(())
 }

@@ -1,10 +1,8 @@
 //! Tests of runs over a device: the units that are made, and a run that stops at one of them.
 
 use crate::outcome::{Failing, answer};
-use crate::tests::rows::words_of;
 use dn_base::device::TableEvent;
 use dn_tool::run::{DEVICE_FAULT, DONE, REFUSED};
-use std::test::Fail;
 
 /// Two units, of which the first has two words for each slot, and commands.
 const UNITS: &str = "vectors cpu is accept [0x20-0x2f];
@@ -29,11 +27,10 @@ fn failing_calls(calls: &[u32]) -> Failing<'_> {
 }
 
 #[test]
-fn makes_each_unit_with_words_of_zero(rt: HostRuntime) -> Result<(), Fail> {
+fn makes_each_unit_with_words_of_zero(rt: HostRuntime) {
     let alloc = rt.alloc();
-    let words = words_of(alloc, &["run"])?;
     let none = failing_calls(&[]);
-    let outcome = answer(alloc, &words, UNITS.as_bytes(), 4096, none)?;
+    let outcome = answer(&rt, alloc, &["run"], UNITS.as_bytes(), 4096, none);
     assert_eq!(rt; outcome.status, DONE);
     assert_eq!(rt; outcome.sink.written(), ANSWERED.as_bytes());
     let made = [
@@ -41,40 +38,49 @@ fn makes_each_unit_with_words_of_zero(rt: HostRuntime) -> Result<(), Fail> {
         TableEvent::Make { unit: 3, words: 3 },
     ];
     assert_eq!(rt; outcome.device.log(), &made[..]);
-    Ok(())
 }
 
 #[test]
-fn stops_where_a_unit_is_not_made(rt: HostRuntime) -> Result<(), Fail> {
+fn stops_where_a_unit_is_not_made(rt: HostRuntime) {
     let alloc = rt.alloc();
-    let words = words_of(alloc, &["run"])?;
     for call in 0..2u32 {
         let calls = [call];
-        let outcome = answer(alloc, &words, UNITS.as_bytes(), 4096, failing_calls(&calls))?;
+        let outcome = answer(
+            &rt,
+            alloc,
+            &["run"],
+            UNITS.as_bytes(),
+            4096,
+            failing_calls(&calls),
+        );
         assert_eq!(rt; outcome.status, DEVICE_FAULT);
         assert_eq!(rt; outcome.sink.written(), "".as_bytes());
         assert_eq!(rt; outcome.device.log().len(), call as usize);
     }
-    Ok(())
 }
 
 #[test]
-fn leaves_the_device_where_no_script_is_run(rt: HostRuntime) -> Result<(), Fail> {
+fn leaves_the_device_where_no_script_is_run(rt: HostRuntime) {
     let alloc = rt.alloc();
     let first = [0];
-    let check = words_of(alloc, &["check"])?;
-    let printed = answer(alloc, &check, UNITS.as_bytes(), 4096, failing_calls(&first))?;
-    assert_eq!(rt; printed.status, DONE);
-    assert_eq!(rt; printed.device.log().len(), 0);
-    let run = words_of(alloc, &["run"])?;
-    let refused = answer(
+    let printed = answer(
+        &rt,
         alloc,
-        &run,
-        "a is; a is;".as_bytes(),
+        &["check"],
+        UNITS.as_bytes(),
         4096,
         failing_calls(&first),
-    )?;
+    );
+    assert_eq!(rt; printed.status, DONE);
+    assert_eq!(rt; printed.device.log().len(), 0);
+    let refused = answer(
+        &rt,
+        alloc,
+        &["run"],
+        b"a is; a is;",
+        4096,
+        failing_calls(&first),
+    );
     assert_eq!(rt; refused.status, REFUSED);
     assert_eq!(rt; refused.device.log().len(), 0);
-    Ok(())
 }

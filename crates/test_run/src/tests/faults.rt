@@ -1,15 +1,13 @@
-//! Tests of runs in which a read or a write fails, of those calls that no run makes, of words with which nothing is read,
-//! and of the names of the faults of a text.
+//! Tests of runs in which a read or a write fails, of those calls that no run makes, and of words with which nothing is
+//! read.
 
 use crate::outcome::{Failing, answer};
-use crate::tests::rows::{comes_to, words_of};
+use crate::tests::rows::comes_to;
 use dn_base::sink::Sink;
 use dn_base::source::Source;
-use dn_tool::compile::CompileFault;
-use dn_tool::refusal::{Refusal, Rule};
 use dn_tool::run::{DONE, READ_FAULT, REFUSED, WRITE_FAULT, WRONG_WORDS};
-use std::alloc::{AllocError, Global};
-use std::test::Fail;
+use std::alloc::Global;
+use std::process::Abort;
 
 /// A text of two commands, which is read in four reads of 16 bytes, the last of which gives none.
 const SHORT: &str = "a is; begin; resolve a 1; resolve b 2;";
@@ -39,20 +37,20 @@ fn failing_writes(calls: &[u32]) -> Failing<'_> {
 }
 
 #[test]
-fn writes_nothing_where_a_read_fails(rt: HostRuntime) -> Result<(), Fail> {
+fn writes_nothing_where_a_read_fails(rt: HostRuntime) {
     for call in 0..4u32 {
         let calls = [call];
         let failing = failing_reads(&calls);
-        comes_to(&rt, &["run"], SHORT, 16, failing, READ_FAULT, "")?;
-        comes_to(&rt, &["check"], SHORT, 16, failing, READ_FAULT, "")?;
+        comes_to(&rt, &["run"], SHORT, 16, failing, READ_FAULT, "");
+        comes_to(&rt, &["check"], SHORT, 16, failing, READ_FAULT, "");
     }
     // The text is read in four reads; a fifth is not made.
     let fifth = failing_reads(&[4]);
-    comes_to(&rt, &["run"], SHORT, 16, fifth, DONE, ANSWERED)
+    comes_to(&rt, &["run"], SHORT, 16, fifth, DONE, ANSWERED);
 }
 
 #[test]
-fn stops_where_a_write_fails(rt: HostRuntime) -> Result<(), Fail> {
+fn stops_where_a_write_fails(rt: HostRuntime) {
     let first = failing_writes(&[0]);
     for (word, text) in [
         ("run", SHORT),
@@ -60,65 +58,63 @@ fn stops_where_a_write_fails(rt: HostRuntime) -> Result<(), Fail> {
         ("run", "?"),
         ("frob", SHORT),
     ] {
-        comes_to(&rt, &[word], text, 4096, first, WRITE_FAULT, "")?;
+        comes_to(&rt, &[word], text, 4096, first, WRITE_FAULT, "");
     }
     let second = failing_writes(&[1]);
     let front = "a@0x1: nothing\n";
     for (word, status, output) in [("run", WRITE_FAULT, front), ("check", DONE, "a is;\n")] {
-        comes_to(&rt, &[word], SHORT, 4096, second, status, output)?;
+        comes_to(&rt, &[word], SHORT, 4096, second, status, output);
     }
     // A third write is not made.
     let third = failing_writes(&[2]);
-    comes_to(&rt, &["run"], SHORT, 4096, third, DONE, ANSWERED)
+    comes_to(&rt, &["run"], SHORT, 4096, third, DONE, ANSWERED);
 }
 
 #[test]
-fn reads_nothing_with_words_of_no_form(rt: HostRuntime) -> Result<(), Fail> {
+fn reads_nothing_with_words_of_no_form(rt: HostRuntime) {
     let first = failing_reads(&[0]);
     let lists: [&[&str]; 4] = [&[], &["frob"], &["run", "extra"], &["check", "run"]];
     for list in lists {
-        comes_to(&rt, list, SHORT, 16, first, WRONG_WORDS, USAGE)?;
+        comes_to(&rt, list, SHORT, 16, first, WRONG_WORDS, USAGE);
     }
-    Ok(())
 }
 
 #[test]
-fn makes_no_write_of_an_empty_output(rt: HostRuntime) -> Result<(), Fail> {
+fn makes_no_write_of_an_empty_output(rt: HostRuntime) {
     let first = failing_writes(&[0]);
     for (word, text) in [("run", ""), ("run", "a is; begin;"), ("check", "")] {
-        comes_to(&rt, &[word], text, 16, first, DONE, "")?;
+        comes_to(&rt, &[word], text, 16, first, DONE, "");
     }
-    Ok(())
 }
 
 #[test]
-fn makes_no_read_once_the_limit_is_taken(rt: HostRuntime) -> Result<(), Fail> {
+fn makes_no_read_once_the_limit_is_taken(rt: HostRuntime) {
     // 4,194,305 bytes are taken by 1,024 reads of 4,096 bytes and one of a byte.
-    let text = " ".repeat(rt.alloc(), 4_194_314)?;
+    let text = " ".repeat(rt.alloc(), 4_194_314).expect(&rt, "memory");
     let text = text.as_str();
     let last = failing_reads(&[1024]);
-    comes_to(&rt, &["run"], text, 4096, last, READ_FAULT, "")?;
+    comes_to(&rt, &["run"], text, 4096, last, READ_FAULT, "");
     let after = failing_reads(&[1025]);
     let line = "refused: Length\n";
-    comes_to(&rt, &["run"], text, 4096, after, REFUSED, line)
+    comes_to(&rt, &["run"], text, 4096, after, REFUSED, line);
 }
 
 /// Runs a word over the text of two commands, and then reads and writes once more: the status, and whether the read
 /// and the write fail.
 fn then_fails(
+    rt: &impl Abort,
     alloc: Global,
     word: &str,
     failing: Failing<'_>,
-) -> Result<(u8, bool, bool), AllocError> {
-    let words = words_of(alloc, &[word])?;
-    let mut outcome = answer(alloc, &words, SHORT.as_bytes(), 16, failing)?;
+) -> (u8, bool, bool) {
+    let mut outcome = answer(rt, alloc, &[word], SHORT.as_bytes(), 16, failing);
     let is_read_failing = outcome.source.read(&mut [0; 1]).is_err();
     let is_write_failing = outcome.sink.write(b"a").is_err();
-    Ok((outcome.status, is_read_failing, is_write_failing))
+    (outcome.status, is_read_failing, is_write_failing)
 }
 
 #[test]
-fn makes_no_call_again_and_none_beside(rt: HostRuntime) -> Result<(), Fail> {
+fn makes_no_call_again_and_none_beside(rt: HostRuntime) {
     // The calls that fail, and which of the next ones fails: it is the one behind those that the run made.
     let rows = [
         ("run", [4, 4], [2, 2], (DONE, true, true)),
@@ -136,17 +132,7 @@ fn makes_no_call_again_and_none_beside(rt: HostRuntime) -> Result<(), Fail> {
             writes: &writes,
             device: &[],
         };
-        let given = then_fails(rt.alloc(), word, failing)?;
+        let given = then_fails(&rt, rt.alloc(), word, failing);
         assert_eq!(rt; given, wanted, "{word} {reads:?} {writes:?}");
     }
-    Ok(())
-}
-
-#[test]
-fn names_each_fault_of_a_text(rt: HostRuntime) -> Result<(), Fail> {
-    let alloc = rt.alloc();
-    let refused = CompileFault::Refused(Refusal::of_text(alloc, Rule::Length)?);
-    let words = format!(in alloc; "{refused} {}", CompileFault::OutOfMemory)?;
-    assert_eq!(rt; words.as_str(), "Refused OutOfMemory");
-    Ok(())
 }

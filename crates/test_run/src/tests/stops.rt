@@ -1,12 +1,11 @@
 //! Tests of runs with grants, routes and revokes, of which each call of the device fails in turn.
 
 use crate::outcome::{Failing, Outcome, answer};
-use crate::tests::rows::{front, words_of};
+use crate::tests::rows::front;
 use dn_base::device::TableEvent;
 use dn_tool::run::{DEVICE_FAULT, DONE};
-use std::alloc::{AllocError, Global};
+use std::alloc::Global;
 use std::process::Abort;
-use std::test::Fail;
 
 /// The platform of a script.
 #[derive(Clone, Copy)]
@@ -103,15 +102,14 @@ fn end_of(platform: Platform, events: &[TableEvent], input: u16) -> Option<u64> 
 }
 
 /// Runs a script over a device of which one call fails.
-fn run_failing(alloc: Global, script: &Script<'_>, call: u32) -> Result<Outcome, AllocError> {
+fn run_failing(rt: &impl Abort, alloc: Global, script: &Script<'_>, call: u32) -> Outcome {
     let calls = [call];
     let failing = Failing {
         reads: &[],
         writes: &[],
         device: &calls,
     };
-    let words = words_of(alloc, &["run"])?;
-    answer(alloc, &words, script.text.as_bytes(), 4096, failing)
+    answer(rt, alloc, &["run"], script.text.as_bytes(), 4096, failing)
 }
 
 /// Each page or line leads where it did before a turn, or where it does behind it.
@@ -135,46 +133,33 @@ fn compare_ends(
 /// Fails each call of a turn: the replies of the turns before it are written, exactly the events
 /// before the call were done, and each page or line leads where it did before the turn or behind
 /// it.
-fn fail_in_turn(
-    rt: &impl Abort,
-    alloc: Global,
-    script: &Script<'_>,
-    before: Done,
-    behind: Done,
-) -> Result<(), Fail> {
+fn fail_in_turn(rt: &impl Abort, alloc: Global, script: &Script<'_>, before: Done, behind: Done) {
     let replies = script.replies.as_bytes();
     let bytes = before.bytes.min(replies.len());
     for call in before.events..behind.events {
-        let outcome = run_failing(alloc, script, call)?;
+        let outcome = run_failing(rt, alloc, script, call);
         let log = outcome.device.log();
         assert_eq!(rt; outcome.status, DEVICE_FAULT, "{call}");
         assert_eq!(rt; outcome.sink.written(), &replies[..bytes], "{call}");
         assert_eq!(rt; log, front(script.events, call), "{call}");
         compare_ends(rt, script, log, before, behind);
     }
-    Ok(())
 }
 
 /// Fails each call of a script, turn by turn, and then one more, which is not made.
-fn fail_each(
-    rt: &impl Abort,
-    alloc: Global,
-    script: &Script<'_>,
-    turns: &[Done],
-) -> Result<(), Fail> {
+fn fail_each(rt: &impl Abort, alloc: Global, script: &Script<'_>, turns: &[Done]) {
     let mut before = Done {
         events: 0,
         bytes: 0,
     };
     for behind in turns {
-        fail_in_turn(rt, alloc, script, before, *behind)?;
+        fail_in_turn(rt, alloc, script, before, *behind);
         before = *behind;
     }
-    let outcome = run_failing(alloc, script, before.events)?;
+    let outcome = run_failing(rt, alloc, script, before.events);
     assert_eq!(rt; outcome.status, DONE);
     assert_eq!(rt; outcome.sink.written(), script.replies.as_bytes());
     assert_eq!(rt; outcome.device.log(), script.events);
-    Ok(())
 }
 
 /// Three buffers for a card behind two units in a row.
@@ -202,7 +187,7 @@ c revoked
 ";
 
 #[test]
-fn stops_in_grants_and_revokes(rt: HostRuntime) -> Result<(), Fail> {
+fn stops_in_grants_and_revokes(rt: HostRuntime) {
     let events = [
         made(2, 4),
         made(4, 4),
@@ -240,7 +225,7 @@ fn stops_in_grants_and_revokes(rt: HostRuntime) -> Result<(), Fail> {
         (13, 60),
     ]
     .map(|(events, bytes)| Done { events, bytes });
-    fail_each(&rt, rt.alloc(), &script, &turns)
+    fail_each(&rt, rt.alloc(), &script, &turns);
 }
 
 /// Two lines of a network card, one after the other.
@@ -262,7 +247,7 @@ r2 vector 0x20
 ";
 
 #[test]
-fn stops_in_routes(rt: HostRuntime) -> Result<(), Fail> {
+fn stops_in_routes(rt: HostRuntime) {
     let events = [
         made(2, 8),
         written(2, 4, 0x20),
@@ -280,5 +265,5 @@ fn stops_in_routes(rt: HostRuntime) -> Result<(), Fail> {
         events,
         bytes,
     });
-    fail_each(&rt, rt.alloc(), &script, &turns)
+    fail_each(&rt, rt.alloc(), &script, &turns);
 }
