@@ -8,9 +8,7 @@ use Rattle.dn_kind.specs.Kind.{Meaning}
 use Rattle.dn_tables.specs.Set.{FitsNet, IsOnDevice}
 use Rattle.dn_book.specs.State.{BookState}
 use Rattle.dn_book.specs.Tables.{IsKept}
-use Rattle.dn_book.specs.Faults.{is_commit_fault, is_revoke_fault}
-use Rattle.dn_book.specs.declared.book.CommitFault.{CommitFault}
-use Rattle.dn_book.specs.declared.book.CommitFault.TheVariants.{Device as commit_device, OutOfMemory as commit_memory}
+use Rattle.dn_book.specs.Faults.{is_revoke_fault}
 use Rattle.dn_book.specs.declared.book.RevokeFault.{RevokeFault}
 use Rattle.dn_book.specs.declared.book.RevokeFault.TheVariants.{Device as revoke_device, NoGrant as no_grant}
 use Rattle.dn_grant.specs.Faults.{is_grant_fault}
@@ -45,11 +43,6 @@ granted_keeps net ks b b' D r = kept_after GrantFault grant_device is_grant_faul
 
 pub routed_keeps : (net : List NodeDecl) (ks : List Meaning) (b b' : BookState) (D : Type 0) (r : Result ℕ RouteFault) → Keeps net ks b → OnOk r (IsKept net ks b'.grants b'.set) → (is_err r ≡ true → r ≢ Err route_device → (b' ≡ b) × D) → b'.sound ≡ not (is_route_fault r) → Keeps net ks b'
 routed_keeps net ks b b' D r = kept_after RouteFault route_device is_route_fault net ks b b' D r refl
-
-pub committed_keeps : (net : List NodeDecl) (ks : List Meaning) (b b' : BookState) (r : Result (Unit {0}) CommitFault) → Keeps net ks b → OnOk r (IsKept net ks b'.grants b'.set) → (r ≡ Err commit_memory → b' ≡ b) → b'.sound ≡ not (is_commit_fault r) → Keeps net ks b'
-committed_keeps net ks b b' (Ok v) k ok same sound = λ t. ok
-committed_keeps net ks b b' (Err commit_device) k ok same sound = λ t. cc
-committed_keeps net ks b b' (Err commit_memory) k ok same sound = as_before net ks b b' (same refl) k
 
 pub revoked_keeps : (net : List NodeDecl) (ks : List Meaning) (b b' : BookState) (D : Type 0) (r : Result (Unit {0}) RevokeFault) → Keeps net ks b → OnOk r (IsKept net ks b'.grants b'.set) → (r ≡ Err no_grant → (b' ≡ b) × D) → b'.sound ≡ not (is_revoke_fault r) → Keeps net ks b'
 revoked_keeps net ks b b' D (Ok v) k ok same sound = λ t. ok
