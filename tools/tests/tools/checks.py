@@ -1,15 +1,15 @@
-"""Counts checks, runs programs, and installs what a part of the tests needs."""
+"""Counts checks, runs programs, and says what a part of the tests lacks."""
 
 import os
 import pathlib
+import re
 import shutil
 import subprocess
-import threading
 
 TOP = pathlib.Path(__file__).resolve().parents[3]
 TOOLS = TOP / "tools"
 EXAMPLES = TOP / "examples"
-INSTALLING = threading.Lock()
+NEEDS = re.findall(r"^[a-z0-9.+-]+", (TOOLS / "needs").read_text(), re.M)
 
 
 class Checks:
@@ -32,27 +32,15 @@ class Checks:
         self.that(seen == wanted, what, f"--- seen\n{seen}\n--- wanted\n{wanted}")
 
     def has(self, command, package):
-        """Whether a command is there, after its Debian package was installed where it was missing."""
-        with INSTALLING:
-            if shutil.which(command) is None:
-                install(package)
+        """Whether a command is there; where it is missing, a part is skipped, with the line that installs its package."""
+        if package not in NEEDS:
+            raise LookupError(f"{package} is not in tools/needs")
         if shutil.which(command):
             return True
         self.skipped += 1
-        self.lines.append(f"skipped: {command} is missing, and the package {package} cannot be installed")
+        line = f"skipped: {command} is missing; as root: tools/install-needs (the package {package})"
+        self.lines += [line] * (line not in self.lines)
         return False
-
-
-def install(package):
-    """Installs a Debian package, where that can be done."""
-    if shutil.which("apt-get") is None or os.geteuid() != 0:
-        return
-    wait = ["apt-get", "-q", "-o", "DPkg::Lock::Timeout=60"]
-    environment = {**os.environ, "DEBIAN_FRONTEND": "noninteractive"}
-    for words in (["install", "-y", "--no-install-recommends", package], ["update"]) * 2:
-        done = subprocess.run(wait + words, capture_output=True, env=environment, check=False)
-        if done.returncode == 0 and words[0] == "install":
-            return
 
 
 def outcome(*command, text="", folder=TOP, **variables):
