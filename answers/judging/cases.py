@@ -1,0 +1,213 @@
+"""The cases of the judge: texts with what is due, made from seeds."""
+
+import typing
+
+import books
+import dice
+import drawn
+import placements
+import replies
+import rules
+import scripts
+import shapes
+import units
+
+FIRST_SEED = 20170401
+"""Where the seeds of each shape begin."""
+SEEDS = {
+    "one_unit": 450,
+    "two_units": 450,
+    "three_units": 350,
+    "fan": 450,
+    "registers": 400,
+    "lines": 450,
+    "bridges": 300,
+    "ruined": 350,
+}
+"""How many seeds each shape has."""
+BEGINNINGS = 6
+"""From how many beginnings each request of a fixed net is made: from no live grant, and from others."""
+FULL_SEEDS = 40
+"""How many seeds of each shape are tried for small nets, on which each addition is tried, of at most so many."""
+MOST_ADDITIONS = 800
+
+
+class Case(typing.NamedTuple):
+    """A text with what the program is to answer; or a statement that the judge finds false by itself."""
+
+    name: str
+    words: list
+    text: bytes
+    due: tuple
+    net: object = None
+    commands: tuple = ()
+    holds: bool = True
+
+
+def case_of(name, thrown, script):
+    """The case of a script, with the texts that are due."""
+    text = scripts.text_of(thrown, script.net, script.commands)
+    due = 0, "".join(line + "\n" for line in script.due).encode()
+    return Case(name, ["run"], text.encode(), due, script.net, tuple(script.commands))
+
+
+def drawn_out(name, thrown, case, bits):
+    """The case of a script over a net whose addresses become stretches of two to so many bits."""
+    drawing = drawn.Drawing(case.net, bits)
+    text = scripts.text_of(thrown, drawing.drawn(), [drawing.command(command) for command in case.commands])
+    return Case(name, ["run"], text.encode(), (0, drawing.output(case.due[1])))
+
+
+def refused(name, thrown, net, fault):
+    """The cases of a net that breaks a rule: each command refuses it, whatever is asked of it."""
+    text = scripts.text_of(thrown, net, [("dump",)]).encode()
+    due = 4, f"refused: {fault}\n".encode()
+    return [Case(f"{name} {word}", [word], text, due, net) for word in ("run", "check")]
+
+
+def of_seed(shape, seed):
+    """The cases of a net of a shape: mixed commands; of one net in eight how it is printed; and of some, drawn out."""
+    thrown = dice.Dice(seed)
+    name = f"{shape.__name__} {seed}"
+    net = shape(thrown)
+    fault = rules.fault(net)
+    if fault is not None:
+        return refused(name, thrown, net, fault)
+    script = scripts.Script(thrown, net)
+    script.mixed()
+    cases = [case_of(name, thrown, script)]
+    if thrown.once_in(8):
+        cases.append(Case(f"{name} check", ["check"], cases[0].text, (0, replies.net_text(net).encode())))
+    bits = thrown.roll(drawn.most_bits(net) + 1)
+    if bits and thrown.once_in(3):
+        cases.append(drawn_out(f"{name} by {bits} bits", thrown, cases[0], bits))
+    return cases
+
+
+def mixed(few=1, part=0, parts=1):
+    """Cases of every shape and of one seed of so many; or of one part of these, where there are several."""
+    for shape in shapes.SHAPES:
+        for seed in range(FIRST_SEED, FIRST_SEED + SEEDS[shape.__name__] // few)[part::parts]:
+            yield from of_seed(shape, seed)
+
+
+def requests(net):
+    """Requests of all agents for one to four addresses from each below 6 of the first two nodes on, with each of the rights."""
+    return [(net.nodes[agent].name, node.name, base, size, access) for agent in net.agents() for node in net.nodes[:2]
+            if node.accepts for base in range(6) for size in range(1, 5) for access in (units.READ, units.WRITE, None)]
+
+
+def begun(shape, seed, count):
+    """A script over a net of a shape in which so many changes were made, where it breaks no rule."""
+    thrown = dice.Dice(seed)
+    net = shape(thrown)
+    if rules.fault(net) is not None:
+        return thrown, None
+    script = scripts.Script(thrown, net)
+    for _ in range(count):
+        script.change()
+    return thrown, script
+
+
+def of_all_requests(few=1):
+    """Each request of the fixed nets, over no live grant and over a few: what it is answered, and the tables with it."""
+    for shape in shapes.FIXED[:3]:
+        for seed in range(FIRST_SEED, FIRST_SEED + max(BEGINNINGS // few, 1)):
+            thrown, script = begun(shape, seed, 0 if seed == FIRST_SEED else 8)
+            for request in requests(script.net):
+                script.tried("grant", *request)
+            yield case_of(f"{shape.__name__} {seed}, each request", thrown, script)
+
+
+def of_all_nodes():
+    """What each node of a net without units sees, as rows, and what each of its addresses below 32 resolves to."""
+    thrown, script = begun(shapes.neighbours, FIRST_SEED, 0)
+    script.views()
+    for node in script.net.nodes:
+        for addr in range(32):
+            script.ask("resolve", node.name, addr, None)
+    yield case_of(f"neighbours {FIRST_SEED}, each node", thrown, script)
+
+
+def one_addresses(script, access):
+    """Each address below 8 that the net's memories accept for each agent: which of them is granted, as names."""
+    net = script.net
+    found = {}
+    for agent in net.agents():
+        for number, node in enumerate(net.nodes):
+            for base in range(8):
+                if node.role != "vectors" and any(lo <= base <= hi for lo, hi in node.accepts):
+                    reply = script.tried("grant", net.nodes[agent].name, node.name, base, 1, access)
+                    found[agent, (number, base)] = reply is not None
+    return found
+
+
+def one_lines(script):
+    """Each line below 8 of each agent to each core: which vector is routed, or None."""
+    net, found = script.net, {}
+    for agent in net.agents():
+        for number, node in enumerate(net.nodes):
+            for line in range(8):
+                if node.role == "vectors":
+                    reply = script.tried("route", net.nodes[agent].name, line, node.name)
+                    found[(agent, line), number] = reply and int(reply.split()[-1], 16)
+    return found
+
+
+def count_of_additions(net, slots):
+    """How many sets of records for both accesses the free slots can hold."""
+    count = 1
+    for _, records in placements.holdable(net, slots):
+        count *= 1 + len(records)
+    return count
+
+
+def is_complete(script, access, most):
+    """Exactly those addresses are granted, and the least free vectors routed, that some addition gives exactly.
+
+    The commands that ask for each are added to the script."""
+    slots, book = script.book.slots(), script.book
+    given = placements.all_given(script.net, slots, books.rights_of(access), most)
+    pairs = {(name[0], end) for name, end in given}
+    holds = all(is_granted == (pair in pairs) for pair, is_granted in one_addresses(script, access).items())
+    if access is not None:
+        return holds
+    taken = {(grant.request.node, grant.request.base) for grant in book.grants}
+    for (line, core), vector in one_lines(script).items():
+        ends = [end[1] for name, end in given if name == line and end[0] == core and end not in taken]
+        holds = holds and vector == min(ends, default=None)
+    return holds
+
+
+def complete(name, thrown, script, access, most):
+    """The case of a script whose refusals are complete for an access, beside what additions of so many records give."""
+    holds = is_complete(script, access, most)
+    return case_of(f"{name}, each address for {access or 'both'}", thrown, script)._replace(holds=holds)
+
+
+def of_refusals():
+    """Refusals of one address and of a line over the fixed nets, beside all additions of up to three records."""
+    for shape in shapes.FIXED:
+        for access in (None,) if shape is shapes.two_remappers else (units.READ, units.WRITE, None):
+            thrown, script = begun(shape, FIRST_SEED, 4)
+            yield complete(f"{shape.__name__} {FIRST_SEED}", thrown, script, access, 3)
+
+
+def of_small_refusals(few=1):
+    """The same over generated nets whose free slots can hold few records, beside additions of any number."""
+    for shape in shapes.SHAPES:
+        for seed in range(FIRST_SEED, FIRST_SEED + FULL_SEEDS // few):
+            thrown, script = begun(shape, seed, 3)
+            if script and count_of_additions(script.net, script.book.slots()) <= MOST_ADDITIONS:
+                access = None if script.cores else thrown.one_of([units.READ, units.WRITE, None])
+                yield complete(f"{shape.__name__} {seed}", thrown, script, access, MOST_ADDITIONS)
+
+
+def of_name(name):
+    """The cases of a name that was printed."""
+    shape, seed = name.split(",")[0].split()[:2]
+    if "," in name:
+        made = [*of_all_nodes(), *of_all_requests(), *of_refusals(), *of_small_refusals()]
+    else:
+        made = of_seed(getattr(shapes, shape), int(seed))
+    return [case for case in made if case.name == name]

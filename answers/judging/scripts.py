@@ -1,0 +1,226 @@
+"""Commands over a net, made by dice, and the text of a net with commands as a user might spell it."""
+
+import books
+import nets
+import placements
+import replies
+import units
+
+IDS = ["g0", "g1", "g2", "g3", "g4", "g5"]
+TRIED = "tried"
+NO_NODE = "nowhere"
+
+
+class Script:
+    """Commands over a legal net with the replies that are due, made one after the other."""
+
+    def __init__(self, dice, net):
+        self.dice, self.net, self.book = dice, net, books.Book(net)
+        self.commands, self.due = [], []
+        self.all = [node.name for node in net.nodes]
+        self.agents = [net.nodes[number].name for number in net.agents()]
+        self.memories = [number for number, node in enumerate(net.nodes) if node.accepts and node.role != "vectors"]
+        self.cores = [node.name for node in net.nodes if node.role == "vectors"]
+        self.pages = [1] + [1 << node.unit.page for node in net.nodes if node.unit]
+
+    def ask(self, *command):
+        """Adds a command, and the reply that is due."""
+        self.commands.append(command)
+        self.due.append(replies.reply(self.book, command))
+
+    def mostly(self, names, odd=20):
+        """One of the names; once in a while any node, or a name of none."""
+        return self.dice.one_of(names) if names and self.dice.roll(odd) else self.dice.one_of(self.all + [NO_NODE])
+
+    def access(self):
+        """No access, or one."""
+        return self.dice.one_of([None, None, units.READ, units.WRITE])
+
+    def addr(self):
+        """An address: one past the edge of the net, or past the last of all, once in a while."""
+        if self.dice.once_in(30):
+            return self.dice.one_of([nets.TOP, nets.TOP + 1, self.net.edge, (1 << 64) - 1])
+        return self.dice.roll(min(self.net.edge, 24))
+
+    def new_id(self):
+        """An id: mostly one that is not live."""
+        free = [id for id in IDS if not self.book.live(id)]
+        return self.dice.one_of(free if free and self.dice.roll(12) else IDS)
+
+    def live_id(self):
+        """An id: mostly one that is live."""
+        return self.dice.one_of([grant.id for grant in self.book.grants] if self.book.grants and self.dice.roll(8) else IDS)
+
+    def sight(self):
+        """A buffer's first name that an agent could be shown by some records, with the agent and a size; or None."""
+        names, slots, page = placements.asked_names(self.net), self.book.slots(), 1
+        if not names:
+            return None
+        agent, _ = name = self.dice.one_of(names)
+        for _ in range(3):
+            stops = sorted(nets.stops(self.net, name))
+            if not stops:
+                break
+            page = max(page, 1 << self.net.nodes[stops[0][0]].unit.page)
+            name = self.led(slots, stops[0])
+        ends = sorted(nets.resolved(self.net, name))
+        if not ends:
+            return None
+        return agent, ends[0], self.dice.one_of([1, page, page, 2 * page, 2])
+
+    def led(self, slots, stop):
+        """Where a record could send a name in a unit: mostly the one that its slot holds, where it may be shared."""
+        unit, place = self.net.nodes[stop[0]].unit, units.slot_of(self.net, stop)
+        if place in slots.held and not slots.has_owner(place) and self.dice.roll(6):
+            return units.sent(self.net, slots.held, units.READ, stop)
+        page = self.dice.roll(1 << unit.reach - unit.page)
+        return self.dice.one_of(unit.ports), (page << unit.page) + stop[1] % (1 << unit.page)
+
+    def beside(self):
+        """An agent, and a buffer beside one that is granted or that one itself, which may share slots with it."""
+        request = self.dice.one_of(self.book.grants).request
+        base = request.base + self.dice.one_of([request.size, -request.size, 0])
+        agent = self.net.nodes[request.agent].name if self.dice.roll(3) else self.dice.one_of(self.agents)
+        return agent, self.net.nodes[request.node].name, max(base, 0), request.size
+
+    def buffer(self):
+        """An agent, a node, a base and a size: beside a grant, or what some records could show, or whole pages, or anything."""
+        if self.book.grants and self.dice.once_in(3):
+            return self.beside()
+        found = self.sight() if self.dice.roll(3) else None
+        if found is not None:
+            agent, (node, base), size = found
+            return self.net.nodes[agent].name, self.net.nodes[node].name, base // size * size, size
+        page = self.dice.one_of(self.pages)
+        agent = self.mostly(self.agents)
+        if self.memories and self.dice.roll(4):
+            node = self.dice.one_of(self.memories)
+            lo, hi = self.dice.one_of(self.net.nodes[node].accepts)
+            base = (lo + self.dice.roll(hi - lo + 1)) // page * page
+            return agent, self.net.nodes[node].name, base, self.dice.between(1, 2) * page
+        return agent, self.mostly(self.all), self.addr(), self.dice.roll(6)
+
+    def line(self):
+        """An agent and a line of it: mostly one that reaches a unit."""
+        names = placements.asked_names(self.net)
+        if names and self.dice.roll(5):
+            agent, addr = self.dice.one_of(names)
+            return self.net.nodes[agent].name, addr
+        return self.mostly(self.agents), self.addr()
+
+    def wrong(self):
+        """Adds a grant or a route of which each part may be wrong, so that one refusal comes before another."""
+        pick = self.dice.one_of
+        id = pick([self.new_id(), self.live_id()])
+        agent, node = pick([self.mostly(self.agents), NO_NODE, pick(self.all)]), pick([pick(self.all), NO_NODE])
+        if self.dice.once_in(3):
+            self.ask("route", id, agent, self.addr(), node)
+        else:
+            self.ask("grant", id, agent, node, self.addr(), self.dice.roll(4), self.access())
+
+    def change(self):
+        """Adds a command that may change the tables."""
+        if self.dice.once_in(12):
+            self.wrong()
+            return
+        if self.dice.once_in(4 if self.book.grants else 16):
+            self.ask("revoke", self.live_id())
+        elif self.cores and self.dice.roll(8):
+            self.ask("route", self.new_id(), *self.line(), self.mostly(self.cores))
+        else:
+            self.ask("grant", self.new_id(), *self.buffer(), self.access())
+
+    def question(self):
+        """Adds a command that changes nothing."""
+        word = self.dice.one_of(["resolve", "lookup", "view", "dump"])
+        if word == "dump":
+            self.ask(word)
+        elif word == "view":
+            self.ask(word, self.mostly(self.agents), self.access())
+        else:
+            self.ask(word, self.mostly(self.agents if word == "lookup" else self.all), self.addr(), self.access())
+
+    def views(self):
+        """Adds the views of all agents for both accesses."""
+        for agent in self.agents:
+            for access in units.ACCESSES:
+                self.ask("view", agent, access)
+
+    def addresses(self):
+        """Adds what each address of each agent comes to for each access, from the nets and from the bytes of the tables."""
+        for agent in self.agents:
+            for addr in range(min(self.net.edge, 20)):
+                for access in units.ACCESSES:
+                    self.ask("resolve", agent, addr, access)
+                    self.ask("lookup", agent, addr, access)
+
+    def mixed(self):
+        """Adds changes with a question here and there, the tables behind most changes, and at the end what all agents see."""
+        for _ in range(self.dice.between(6, 14)):
+            self.change()
+            if self.dice.roll(4):
+                self.ask("dump")
+            else:
+                self.question()
+        self.views()
+        if self.dice.once_in(4):
+            self.addresses()
+
+    def tried(self, word, *request):
+        """Adds a grant or a route, the tables that it leaves, and its revoke. Returns the reply, or None where it is refused."""
+        self.ask(word, TRIED, *request)
+        reply = self.due[-1]
+        self.ask("dump")
+        self.ask("revoke", TRIED)
+        return None if reply.startswith(f"{TRIED} refused") else reply
+
+
+def number_text(dice, number):
+    """A number as it may be spelled."""
+    return dice.one_of([f"{number:#x}", f"{number:#x}", str(number), f"0x{number:X}", f"0{number}", f"({number + 3}-3)"]) \
+        if number < 1 << 63 else f"{number:#x}"
+
+
+def spelled_block(dice, lo, hi):
+    """A block: one expression where it has one address, once in a while."""
+    if lo == hi and dice.once_in(2):
+        return number_text(dice, lo)
+    return f"{number_text(dice, lo)}-{number_text(dice, hi)}"
+
+
+def spelled_dest(dice, net, lo, dest):
+    """A destination: without `at` where it keeps the address of the block, once in a while."""
+    number, addr = dest
+    name = net.nodes[number].name
+    return name if addr == lo and dice.once_in(2) else f"{name} at {number_text(dice, addr)}"
+
+
+def spelled_node(dice, net, node):
+    """The statement of a node, as it may be spelled."""
+    if node.unit:
+        unit, ports = node.unit, ", ".join(net.nodes[port].name for port in node.unit.ports)
+        numbers = [number_text(dice, number) for number in (unit.page, unit.slots, unit.reach)]
+        return "unit {} kind {} page {} slots {} reach {} to {};".format(node.name, unit.kind, *numbers, ports)
+    parts = [{"plain": "", "agent": "agent ", "vectors": "vectors "}[node.role] + node.name + " is"]
+    if node.accepts:
+        parts.append("accept [" + ", ".join(spelled_block(dice, lo, hi) for lo, hi in node.accepts) + "]")
+    if node.entries:
+        entries = [spelled_block(dice, lo, hi) + " to " + " and ".join(spelled_dest(dice, net, lo, dest) for dest in dests)
+                   for lo, hi, dests in node.entries]
+        parts.append("map [" + ", ".join(entries) + "]")
+    if node.over is not None:
+        parts.append(f"over {net.nodes[node.over].name}")
+    return " ".join(parts) + ";" + (" // " + node.name if dice.once_in(8) else "")
+
+
+def spelled_command(dice, command):
+    """A command, as it may be spelled."""
+    *words, access = command if command[0] in ("resolve", "lookup", "view", "grant") else (*command, None)
+    spelled = " ".join(number_text(dice, word) if isinstance(word, int) else word for word in words)
+    return spelled + ("" if access is None else f" for {access}") + ";"
+
+
+def text_of(dice, net, commands):
+    """The text of a net with commands."""
+    lines = [spelled_node(dice, net, node) for node in net.nodes] + ["begin;"] * bool(commands)
+    return "\n".join(lines + [spelled_command(dice, command) for command in commands]) + "\n"
