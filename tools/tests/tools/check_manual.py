@@ -1,8 +1,11 @@
 """The documents of the tools: what they show is what is printed, and mandoc finds nothing in the manual pages."""
 
 import os
+import pathlib
 import re
+import tempfile
 
+import check_docs
 from checks import TOOLS, TOP, outcome
 
 NAMED = {
@@ -49,6 +52,19 @@ def check_documents(checks):
             checks.equal(seen, (0, parts[part + 2], ""), f"documents: what netconf {word} prints of {parts[part][:60]} in {name}")
 
 
+def check_pictures(checks):
+    """The pictures have the texts of those that are drawn; Graphviz of another version lays them out otherwise."""
+    if not checks.has("dot", "graphviz"):
+        return
+    with tempfile.TemporaryDirectory() as folder:
+        status, _, errors = outcome(TOOLS / "pictures", folder)
+        checks.equal((status, errors), (0, ""), "documents: the pictures are drawn")
+        for drawn in sorted(pathlib.Path(folder).iterdir()):
+            kept = (TOP / "docs/pictures" / drawn.name).read_text()
+            texts = [sorted(re.findall(r"<text[^>]*>([^<]*)<", picture)) for picture in (drawn.read_text(), kept)]
+            checks.equal(*texts, f"documents: the texts of the picture {drawn.name}")
+
+
 def check_page(checks):
     """What the page of the tools and the page of lint show is what netconf-lint prints, and the picture is what is drawn."""
     page = (TOP / "docs/tools.md").read_text()
@@ -70,6 +86,10 @@ def run(checks):
     check_examples(checks)
     check_documents(checks)
     check_page(checks)
+    check_pictures(checks)
+    check_docs.run(checks)
+    first = (TOP / "examples/first_grant.net").read_text()
+    checks.that(f"```\n{first}```" in (TOP / "README.md").read_text(), "documents: README shows the example of the first grant")
     if not checks.has("mandoc", "mandoc"):
         return
     for path in sorted((TOP / "docs").glob("*.1")):

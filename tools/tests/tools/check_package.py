@@ -8,6 +8,8 @@ import tempfile
 from checks import EXAMPLES, TOOLS, TOP, outcome
 
 VERSION = (TOP / "VERSION").read_text().strip()
+TEXTS = ("README.md", "CHANGELOG.md", "CONTRIBUTING.md", "CITATION.cff", "bench/README.md")
+"""The documents that stand outside of docs/."""
 
 
 def wanted_files():
@@ -27,7 +29,7 @@ def wanted_documents():
     """The documents and examples of the package."""
     examples = [path for path in EXAMPLES.rglob("*") if path.is_file() and path.name != "check" and "__pycache__" not in path.parts]
     files = [f"{path.relative_to(TOP)}" for path in [*examples, *(TOP / "docs").glob("*.md"), *(TOP / "docs/pictures").iterdir()]]
-    return sorted(f"usr/share/doc/netconf/{name}" for name in [*files, "README.md", "copyright", "changelog.gz"])
+    return sorted(f"usr/share/doc/netconf/{name}" for name in [*files, *TEXTS, "copyright", "changelog.gz"])
 
 
 def check_contents(checks, package):
@@ -57,6 +59,8 @@ def check_answers(checks, package, folder):
     status, picture, _ = outcome(*clean, "netconf-draw", "--views", example)
     checks.that(status == 0 and "0x80000000-0xbfffffff" in picture, "package: its pictures")
     checks.equal([str(path) for path in root.rglob("__pycache__")], [], "package: the tools leave no compiled modules")
+    copyright = (root / "usr/share/doc/netconf/copyright").read_text()
+    checks.that("SPDX-License-Identifier: Apache-2.0\n" in copyright, "package: its licence", copyright)
 
 
 def check_lintian(checks, package):
