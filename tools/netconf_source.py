@@ -9,6 +9,12 @@ from dataclasses import dataclass, field
 TOP = (1 << 56) - 1
 """The last address of a node."""
 
+NOTE = re.compile(r"//@[ \t]*([^\r\n]*)")
+"""A comment that says something of a node, such as the name that hardware has for it."""
+
+NAMED = re.compile(r"(?P<name>[A-Za-z_][\w.\[\]]*) is (?P<note>.+)", re.A)
+"""A note that names its node by the full name."""
+
 TOKEN = re.compile(r"(?P<blank>[ \t\r\n]+|//[^\n]*)|(?P<word>[A-Za-z_]\w*)|(?P<number>[0-9]\w*)|(?P<sign>\.\.|[][;,()+*.-])", re.A)
 
 
@@ -52,7 +58,7 @@ class Node:
 
     `role` is the word before the name (`agent`, `vectors`, `unit`), or empty. `uses` has for each module round the
     declaration the line of its `use`, the module's name and the full name of the use, the outermost first. `shape` has of
-    a unit the word of its kind and its page, slots and reach."""
+    a unit the word of its kind and its page, slots and reach. `notes` are the texts of the comments `//@` on it."""
     name: str
     role: str
     line: int
@@ -63,15 +69,18 @@ class Node:
     over_line: int = 0
     shape: list = field(default_factory=list)
     ports: list = field(default_factory=list)
+    notes: list = field(default_factory=list)
 
 
 @dataclass
 class Statement:
-    """A statement with the line of its first token; `body` holds the statements of a module or a loop."""
+    """A statement with the line of its first token; `body` holds the statements of a module or a loop, and `notes` the
+    texts of the comments `//@` on it."""
     kind: str
     line: int
     parts: dict
     body: list = field(default_factory=list)
+    notes: list = field(default_factory=list)
 
 
 @dataclass
@@ -90,6 +99,7 @@ class Scope:
     nodes: dict
     modules: int
     uses: tuple
+    notes: tuple = ()
 
 
 def tokens(text):
@@ -103,6 +113,17 @@ def tokens(text):
             found.append((hit.lastgroup, hit.group(), line, at))
         line += hit.group().count("\n")
         at = hit.end()
+    return found
+
+
+def notes_in(text):
+    """The comments `//@` of a text whose tokens are right, as (line, place, what they say)."""
+    found, line, seen = [], 1, 0
+    for hit in TOKEN.finditer(text) if "//@" in text else ():
+        note = NOTE.fullmatch(hit.group()) if hit.lastgroup == "blank" else None
+        if note:
+            line, seen = line + text.count("\n", seen, hit.start()), hit.start()
+            found.append((line, seen, note[1].rstrip()))
     return found
 
 
@@ -130,6 +151,7 @@ class Reader:
     def __init__(self, text):
         self.tokens = tokens(text)
         self.at = 0
+        self.notes = notes_in(text)[::-1]
 
     def peek(self):
         """The spelling of the next token, empty at the end."""
@@ -190,7 +212,18 @@ class Reader:
             self.take()
         parts = getattr(self, f"read_{kind or 'node'}", self.read_node)()
         self.want(";")
-        return Statement(kind, line, parts, self.body(True) if kind in ("module", "for") else [])
+        if kind in ("module", "for"):
+            return Statement(kind, line, parts, self.body(True))
+        return Statement(kind, line, parts, notes=self.notes_here())
+
+    def notes_here(self):
+        """The notes on the statement of which the `;` was taken just now: those in it and before it that no statement has,
+        and those behind it on the same line."""
+        found, (_, _, line, end) = [], self.tokens[self.at - 1]
+        following = self.tokens[self.at][3] if self.at < len(self.tokens) else 1 << 64
+        while self.notes and self.notes[-1][1] < (following if self.notes[-1][0] == line else end):
+            found.append(self.notes.pop()[2])
+        return found
 
     def commands(self):
         """The commands behind `begin`, each its word, its line, its id, its names, its expressions and its access."""
@@ -375,7 +408,8 @@ class Expansion:
         module = self.modules.get(word)
         if module is None or module.number >= scope.modules or len(module.parameters) != len(statement.parts["arguments"]):
             raise Unreadable(f"line {statement.line}: the module or its arguments do not fit")
-        inner = Scope(full + ".", {}, {}, module.number, scope.uses + ((statement.line, word, full),))
+        inner = Scope(full + ".", {}, {}, module.number, scope.uses + ((statement.line, word, full),),
+                      scope.notes + tuple(statement.notes))
         for (sort, parameter), (_, argument) in zip(module.parameters, statement.parts["arguments"]):
             if sort == "num":
                 inner.numbers[parameter] = value(argument, scope)
@@ -388,7 +422,7 @@ class Expansion:
         word = statement.parts["word"]
         for number in range(value(statement.parts["first"], scope), value(statement.parts["last"], scope) + 1):
             numbers = {**scope.numbers, word: number}
-            self.run(statement.body, Scope(scope.prefix, numbers, scope.nodes, scope.modules, scope.uses))
+            self.run(statement.body, Scope(scope.prefix, numbers, scope.nodes, scope.modules, scope.uses, scope.notes))
 
 
 class Duplicate(Exception):
@@ -398,7 +432,8 @@ class Duplicate(Exception):
 def node_of(statement, scope):
     """The node that a statement declares in a scope."""
     parts = statement.parts
-    node = Node(declared(parts["name"], scope), statement.kind, statement.line, scope.uses)
+    node = Node(declared(parts["name"], scope), statement.kind, statement.line, scope.uses,
+                notes=[*scope.notes, *statement.notes])
     if statement.kind == "unit":
         kind, *numbers = parts["shape"]
         node.shape = [kind] + [value(number, scope) for number in numbers]
@@ -417,9 +452,34 @@ def node_of(statement, scope):
 
 def nodes_of(text):
     """The nodes of a description by their full names, in order; its commands are not looked at."""
-    expansion = Expansion()
-    expansion.run(Reader(text).body(False), Scope("", {}, {}, 1 << 64, ()))
-    return expansion.nodes
+    return noted_nodes_of(text)[0]
+
+
+def noted_nodes_of(text):
+    """The nodes of a description by their full names, in order, and the notes that belong to none, each with its line.
+
+    A comment `//@ NAME is TEXT` is a note on the node of that full name, wherever it stands. Any other comment `//@ TEXT` is
+    one on the node, or on each node of the use, whose statement holds it or ended before it on its line; or else on the next
+    such statement."""
+    reader, expansion = Reader(text), Expansion()
+    expansion.run(reader.body(False), Scope("", {}, {}, 1 << 64, ()))
+    nodes = expansion.nodes
+    for node in nodes.values():
+        node.notes = [note for note in dict.fromkeys(node.notes) if node_named_by(note, nodes) is None]
+    lost = []
+    for line, _, note in notes_in(text):
+        named = node_named_by(note, nodes)
+        if named:
+            named.notes.append(NAMED.fullmatch(note)["note"])
+        elif (line, note) in {(left[0], left[2]) for left in reader.notes}:
+            lost.append((line, note))
+    return nodes, lost
+
+
+def node_named_by(note, nodes):
+    """The node that a note names, or nothing."""
+    hit = NAMED.fullmatch(note)
+    return nodes.get(hit["name"]) if hit else None
 
 
 def declarations_of(text):

@@ -31,6 +31,12 @@ CASES = [
     (["netconf-draw", "--svg", "four.net", ">", ""], ["board.dtb", "board.dts", "boards", "four.net", "old.txt"]),
     (["netconf-lint", "--"], ["--help"]),
     (["netconf-lint", "four.net", ""], ["boards", "four.net"]),
+    (["netconf-layout", "-"], ["--c", "--help", "--json", "--prefix"]),
+    (["netconf-layout", "--c", "--prefix", ""], []),
+    (["netconf-layout", "--c", ""], ["boards", "four.net"]),
+    (["netconf-dump2bin", "--changes", "o"], ["old.txt"]),
+    (["netconf-dump2bin", "--output", "o"], ["old.txt"]),
+    (["netconf-dump2bin", "--dump", ""], []),
     (["netconf-import", "-"], IMPORT),
     (["netconf-import", "--only", "/soc"], []),
     (["netconf-import", "--views", "b"], ["board.dtb", "board.dts", "boards"]),
@@ -47,7 +53,8 @@ def run(checks):
         for words, wanted in CASES:
             status, output, errors = outcome("bash", "-c", ASK, "ask", TOOLS / "completion/netconf", *words, folder=folder)
             checks.equal((status, output.split(), errors), (0, wanted, ""), f"completion: {' '.join(words)}")
-    for tool, function in (("netconf-draw", "_netconf_draw"), ("netconf-lint", "_netconf_lint")):
+    for tool, function in (("netconf-draw", "_netconf_draw"), ("netconf-lint", "_netconf_lint"), ("netconf-layout", "_netconf_layout"),
+                           ("netconf-dump2bin", "_netconf_dump2bin")):
         options = outcome("bash", "-c", f'source "$1"; declare -f {function}', "ask", TOOLS / "completion/netconf")[1]
         help_text = outcome(TOOLS / tool, "--help")[1]
         offered = [word.strip("'") for word in options.split() if word.strip("'").startswith("--")]

@@ -14,6 +14,8 @@ NAMED = {
                   "NoPlacement", "NoGrant"],
     "netconf-lint.1": ["--help", "NETCONF", "Overlap", "Range", "Repeat", "VectorSpace", "Loop", "Deep", "Duplicate", "warning", "IdUsed",
                        "NoAgent", "NoTarget", "NotAccepted", "NoPlacement"],
+    "netconf-layout.1": ["--json", "--c", "--prefix", "--help", "NETCONF", "//@"],
+    "netconf-dump2bin.1": ["--changes", "--dump", "--output", "--help", "fence"],
     "netconf-draw.1": ["--svg", "--views", "--write", "--agent", "--help", "NETCONF"],
 }
 

@@ -16,7 +16,7 @@ def wanted_files():
     """The files that the package must hold, beside its documents."""
     imports = [f"usr/share/netconf/netconf_import/{path.name}" for path in sorted((TOOLS / "netconf_import").glob("*.py"))]
     tools = sorted(path.name for path in TOOLS.glob("netconf-*"))
-    files = ["usr/bin/netconf", "usr/share/bash-completion/completions/netconf", "usr/share/lintian/overrides/netconf"]
+    files = ["usr/bin/netconf", "usr/share/bash-completion/completions/netconf", "usr/share/lintian/overrides/netconf", "usr/include/netconf_image.h"]
     for tool in tools:
         files += [f"usr/bin/{tool}", f"usr/share/netconf/{tool}", f"usr/share/bash-completion/completions/{tool}"]
     files += [f"usr/share/netconf/{path.name}" for path in TOOLS.glob("netconf_*.py")]

@@ -1,0 +1,278 @@
+#include "vtd.h"
+
+#include "pc.h"
+
+/* Where the registers are on q35; a machine's firmware tells it in the ACPI table DMAR. */
+#define REGISTERS 0xfed90000ULL
+#define CAPABILITIES 0x08
+#define MORE_CAPABILITIES 0x10
+#define COMMAND 0x18
+#define STATUS 0x1c
+#define ROOT_TABLE 0x20
+#define FAULT_STATUS 0x34
+#define QUEUE_TAIL 0x88
+#define QUEUE_BASE 0x90
+#define INTERRUPT_TABLE 0xb8
+
+/* Bits of the command and the status. */
+#define TRANSLATION 0x80000000u
+#define SET_ROOT 0x40000000u
+#define QUEUE 0x04000000u
+#define REMAPPING 0x02000000u
+#define SET_INTERRUPTS 0x01000000u
+
+#define TABLES 64
+#define PROCESSOR_NOTE "processor"
+#define WAITS 1000000u
+
+typedef uint64_t vtd_table[512];
+
+static vtd_table root __attribute__((aligned(4096)));
+static vtd_table contexts __attribute__((aligned(4096)));
+static vtd_table interrupts __attribute__((aligned(4096)));
+static vtd_table queue __attribute__((aligned(4096)));
+static vtd_table tables[TABLES] __attribute__((aligned(4096)));
+static unsigned tables_used, queue_at, is_caching;
+static volatile uint32_t queue_done;
+static uint32_t on;
+static const struct netconf_layout *layout;
+
+void (*vtd_word_written)(unsigned handle);
+void (*vtd_fence_passed)(void);
+
+/* Gives a command, and waits until the status shows it. */
+static int command(uint32_t bit, int stays)
+{
+    unsigned turns;
+    write32(REGISTERS + COMMAND, on | bit);
+    for (turns = 0; turns < WAITS && !(read32(REGISTERS + STATUS) & bit); turns++) pause();
+    if (stays) on |= bit;
+    return turns == WAITS;
+}
+
+/* Puts one order into the queue of invalidations. */
+static void order(uint64_t low, uint64_t high)
+{
+    queue[2 * queue_at] = low;
+    queue[2 * queue_at + 1] = high;
+    queue_at = (queue_at + 1) % 256;
+}
+
+/* The fence: has all contexts, pages and interrupts that are kept forgotten, and waits until they are. After it no lookup that began
+ * before is in flight. */
+int vtd_forget(void)
+{
+    unsigned turns;
+    queue_done = 0;
+    order(0x1 | 1 << 4, 0);                                             /* contexts, all */
+    order(0x2 | 1 << 4 | 1 << 6 | 1 << 7, 0);                           /* pages, all; writes and reads in flight are done */
+    order(0x4, 0);                                                      /* interrupts, all */
+    order(0x5 | 1 << 5 | 1ULL << 32, (uintptr_t)&queue_done);           /* then write 1 there */
+    write64(REGISTERS + QUEUE_TAIL, (uint64_t)queue_at << 4);
+    for (turns = 0; turns < WAITS && !queue_done; turns++) pause();
+    return turns == WAITS;
+}
+
+int vtd_start(void)
+{
+    uint64_t can = read64(REGISTERS + CAPABILITIES), more = read64(REGISTERS + MORE_CAPABILITIES);
+    int has_four_levels = can >> 10 & 1, has_queue = more >> 1 & 1, has_remapping = more >> 3 & 1;
+    unsigned n;
+    if (!has_four_levels || !has_queue || !has_remapping) return 1;
+    is_caching = can >> 7 & 1;
+    root[0] = (uintptr_t)contexts | 1;
+    write64(REGISTERS + ROOT_TABLE, (uintptr_t)root);
+    if (command(SET_ROOT, 0)) return 1;
+    write64(REGISTERS + QUEUE_TAIL, 0);
+    write64(REGISTERS + QUEUE_BASE, (uintptr_t)queue);
+    if (command(QUEUE, 1)) return 1;
+    for (n = 0; n < 512; n++) interrupts[n] = 0;
+    write64(REGISTERS + INTERRUPT_TABLE, (uintptr_t)interrupts | 7);    /* 2^8 records */
+    if (command(SET_INTERRUPTS, 0) || vtd_forget()) return 1;
+    return command(REMAPPING, 1) || command(TRANSLATION, 1);
+}
+
+/* Whether a text is the words given. */
+static int is_text(const char *text, const char *words)
+{
+    while (*text && *text == *words) text++, words++;
+    return *text == *words;
+}
+
+/* The number in the base at the beginning of a text, which is moved past it. */
+static unsigned number_in(const char **text, unsigned base)
+{
+    unsigned value = 0;
+    for (;; (*text)++) {
+        unsigned digit = (unsigned)(**text >= '0' && **text <= '9' ? **text - '0' : (**text | 32) >= 'a' ? (**text | 32) - 'a' + 10 : 99);
+        if (digit >= base) return value;
+        value = value * base + digit;
+    }
+}
+
+/* The function that a note names, as `pci 0:3.0`, in the form of a requester: 8 times the device, and the function. Returns
+ * -1 if the note names none on bus 0. */
+static int function_of(const char *note)
+{
+    unsigned bus, device, function;
+    if (note[0] != 'p' || note[1] != 'c' || note[2] != 'i' || note[3] != ' ') return -1;
+    note += 4;
+    bus = number_in(&note, 16);
+    if (*note++ != ':') return -1;
+    device = number_in(&note, 16);
+    if (*note++ != '.') return -1;
+    function = number_in(&note, 16);
+    return bus != 0 || device > 31 || function > 7 || *note != 0 ? -1 : (int)(8 * device + function);
+}
+
+/* The table of the last level for an address of a function, made where it is not there; NULL where none is left. */
+static uint64_t *leaf_of(unsigned function, uint64_t address)
+{
+    uint64_t *entry = &contexts[2 * function];
+    unsigned level;
+    if (!(*entry & 1)) {
+        if (tables_used == TABLES) return NULL;
+        contexts[2 * function + 1] = 2 | (uint64_t)(function + 1) << 8; /* four levels; a domain of its own */
+        *entry = (uintptr_t)tables[tables_used++] | 1;
+    }
+    entry = (uint64_t *)(uintptr_t)(*entry & ~0xfffULL);
+    for (level = 3; level > 0; level--) {
+        entry += address >> (12 + 9 * level) & 511;
+        if (!(*entry & 3)) {
+            if (tables_used == TABLES) return NULL;
+            *entry = (uintptr_t)tables[tables_used++] | 3;
+        }
+        entry = (uint64_t *)(uintptr_t)(*entry & ~0xfffULL);
+    }
+    return entry + (address >> 12 & 511);
+}
+
+/* The processor's address of what a page's first address comes to after the last unit: the name of it at the port, and where
+ * the processor has that name. */
+static int host_address(const struct netconf_page *page, uint64_t *host)
+{
+    const struct netconf_view *port = &layout->units[page->unit].ports[page->port];
+    const struct netconf_place *place = netconf_place_at(port, page->output, 0);
+    unsigned agent;
+    if (place == NULL || page->output - place->address + (page->last - page->first) > place->last - place->first) return 1;
+    for (agent = 0; agent < layout->agent_count; agent++)
+        if (is_text(layout->agents[agent].note, PROCESSOR_NOTE))
+            return !netconf_address_of(&layout->agents[agent], place->node, place->first + (page->output - place->address), host);
+    return 1;
+}
+
+/* Writes one half of a record of interrupts. The half with the bit that says that the record counts is the low one. */
+static void write_half(unsigned handle, unsigned half, uint64_t value)
+{
+    *(volatile uint64_t *)&interrupts[2 * handle + half] = value;
+    if (vtd_word_written != NULL) vtd_word_written(handle);
+}
+
+/* Puts a record of interrupts: the vector at the page's output, the processor that the port's note names, and the one function
+ * whose messages count. */
+static int put_interrupt(unsigned handle, int function, const struct netconf_page *page)
+{
+    const char *note = layout->units[page->unit].ports[page->port].note;
+    uint64_t low, high = (uint64_t)function | 1 << 18;
+    if (note[0] != 'a' || note[1] != 'p' || note[2] != 'i' || note[3] != 'c' || note[4] != ' ') return 1;
+    note += 5;
+    low = 1 | page->output << 16 | (uint64_t)number_in(&note, 10) << 40;
+#ifdef PLANT_ORDER
+    write_half(handle, 0, low);
+    write_half(handle, 1, high);
+#else
+    write_half(handle, 1, high);
+    write_half(handle, 0, low);
+#endif
+    return 0;
+}
+
+uint32_t vtd_handle_of(const struct netconf_layout *net, unsigned agent, uint64_t line)
+{
+    uint64_t from, to;
+    const struct netconf_window *window = netconf_window_at(&net->agents[agent], line, &from, &to);
+    return window == NULL ? UINT32_MAX : (uint32_t)(window->input + (line - window->first));
+}
+
+/* Whether an agent's pages are lines of interrupts. */
+static int has_lines(unsigned agent)
+{
+    const struct netconf_view *view = &layout->agents[agent];
+    return view->window_count != 0 && layout->units[view->windows[0].unit].kind == NETCONF_VECTORS;
+}
+
+static int map(void *context, unsigned agent, const struct netconf_page *page)
+{
+    int function = function_of(layout->agents[agent].note);
+    uint64_t host, *leaf;
+    (void)context;
+    if (function < 0 || !(page->may_read || page->may_write)) return 1;
+    if (has_lines(agent)) {
+        uint32_t handle = vtd_handle_of(layout, agent, page->first);
+        return handle > 255 || page->output > 255 || put_interrupt(handle, function, page);
+    }
+    if (page->first >> 48 || host_address(page, &host) || (leaf = leaf_of((unsigned)function, page->first)) == NULL) return 1;
+#ifdef PLANT_HIGH
+    host &= 0xffffffff;
+#endif
+    *(volatile uint64_t *)leaf = host | (page->may_read ? 1 : 0) | (page->may_write ? 2 : 0);
+    return 0;
+}
+
+static int unmap(void *context, unsigned agent, const struct netconf_page *page)
+{
+    uint64_t *leaf;
+    (void)context;
+    if (has_lines(agent)) {
+        uint32_t handle = vtd_handle_of(layout, agent, page->first);
+        write_half(handle, 0, 0);
+        write_half(handle, 1, 0);
+        return 0;
+    }
+    leaf = leaf_of((unsigned)function_of(layout->agents[agent].note), page->first);
+    if (leaf == NULL) return 1;
+    *(volatile uint64_t *)leaf = 0;
+    return 0;
+}
+
+static int fence(void *context)
+{
+    (void)context;
+#ifndef PLANT_FENCE
+    if (vtd_forget()) return 1;
+#endif
+    if (vtd_fence_passed != NULL) vtd_fence_passed();
+    return 0;
+}
+
+/* A page that the hardware cannot say is a fault of the board here: every page of this one can be said. */
+static int uneven(void *context, unsigned agent, const struct netconf_page *page)
+{
+    (void)context;
+    print("FAILED: agent %s has no page of the hardware at %x\n", layout->agents[agent].name, page->first);
+    return 1;
+}
+
+int vtd_load(const struct netconf_image *before, const struct netconf_image *next)
+{
+    static const struct netconf_page_device device = {NULL, map, unmap, fence, uneven};
+    uint64_t sizes[64];
+    unsigned agent;
+    layout = next->layout;
+    for (agent = 0; agent < layout->agent_count; agent++) sizes[agent] = has_lines(agent) ? 1 : 1 << 12;
+    if (netconf_change_pages(before, next, sizes, &device)) return 1;
+    return is_caching ? vtd_forget() : 0;
+}
+
+int vtd_fault(unsigned *function, uint64_t *page, int *is_write)
+{
+    uint64_t record = REGISTERS + (read64(REGISTERS + CAPABILITIES) >> 24 & 0x3ff) * 16;
+    uint64_t high = read64(record + 8);
+    if (!(high >> 63)) return 0;
+    *page = read64(record) & ~0xfffULL;
+    *function = (unsigned)(high & 0xffff);
+    *is_write = !(high >> 62 & 1);
+    write32(record + 12, 0x80000000u);
+    write32(REGISTERS + FAULT_STATUS, 1);
+    return 1;
+}

@@ -1,0 +1,30 @@
+/* A driver for the Intel I/O MMU (VT-d) that takes its tables from images: second-level tables for what devices read and
+ * write, and the table of interrupts. */
+#ifndef VTD_H
+#define VTD_H
+
+#include "netconf_image.h"
+
+/* Turns translation and remapping on with empty tables, so that no device comes to anything. Returns 0, or 1 if this I/O
+ * MMU lacks something that the driver needs. */
+int vtd_start(void);
+
+/* Brings the machine from one image to the next; `before` is NULL at first. Returns 0, or 1 if the layout or the hardware
+ * cannot say the next image: then nothing more is written. */
+int vtd_load(const struct netconf_image *before, const struct netconf_image *next);
+
+/* Called, if set, after each word that is written to a record of the table of interrupts; and after the fence. */
+extern void (*vtd_word_written)(unsigned handle);
+extern void (*vtd_fence_passed)(void);
+
+/* The handle that a device puts into a message for a line of an agent, or UINT32_MAX if the line is none. */
+uint32_t vtd_handle_of(const struct netconf_layout *layout, unsigned agent, uint64_t line);
+
+/* Has the I/O MMU forget all that it keeps of its tables. Returns 0, or 1 if it does not come to that. */
+int vtd_forget(void);
+
+/* The last fault that the I/O MMU recorded: returns 0 if there is none. `*function` is 8 times the device and the
+ * function, `*page` the page of the address, and `*is_write` the access. It is forgotten. */
+int vtd_fault(unsigned *function, uint64_t *page, int *is_write);
+
+#endif

@@ -1,0 +1,133 @@
+"""Reads images of tables, as bytes or as `dump` prints them, and says by which writes one becomes the next."""
+
+import re
+from dataclasses import dataclass
+
+from netconf_text import Trouble
+
+DUMP = re.compile(rb"^dump bytes (\d+)(\r?\n)", re.M)
+MARK = b"DNIM"
+MOST_WORDS = 4
+"""How many words a record has at most."""
+
+STEP = 65536
+"""How many lines of a dump are read at once."""
+
+
+@dataclass
+class Table:
+    """The words of a unit in an image: the number of its node, the words of a record, its slots, and the bytes of its words."""
+    node: int
+    words: int
+    slots: int
+    bytes: memoryview
+
+
+def image_in(data, number=0):
+    """The image that data is, or the dump of this number in it, counted from 1; 0 is the last."""
+    if data.startswith(MARK):
+        if number:
+            raise Trouble("this is an image, and holds no dumps to choose from")
+        return data
+    headings = list(DUMP.finditer(data))
+    if not headings:
+        raise Trouble("there is no image here, and no dump")
+    if number > len(headings):
+        raise Trouble(f"there is no dump {number}: the last is {len(headings)}")
+    heading = headings[number - 1 if number else -1]
+    return dumped(data, heading, data.count(b"\n", 0, heading.start()) + 1)
+
+
+def dumped(data, heading, line):
+    """The bytes of the dump that a heading in a line begins: 32 in each line of hexadecimal, and fewer in the last."""
+    size, image = int(heading[1]), bytearray()
+    at, width = heading.end(), 64 + len(heading[2])
+    while len(image) < size:
+        rows = min(-(-(size - len(image)) // 32), STEP)
+        part = data[at:at + rows * width].split(b"dump")[0]
+        try:
+            image += bytes.fromhex(part[:2 * (size - len(image)) + rows * len(heading[2])].decode("ascii"))
+        except ValueError as error:
+            raise Trouble(f"the dump of line {line} has a line that is no hexadecimal") from error
+        at += rows * width
+        if not part:
+            break
+    if len(image) != size:
+        raise Trouble(f"the dump of line {line} says {size} bytes and has {len(image)}")
+    return bytes(image)
+
+
+def tables_of(image):
+    """The version of an image, and the tables of its units. The net is not known here, so that heads are taken as they are."""
+    if len(image) < 8 or image[:4] != MARK:
+        raise Trouble("this is no image: it does not begin with DNIM and eight bytes of head")
+    version, count = int.from_bytes(image[4:6], "little"), int.from_bytes(image[6:8], "little")
+    if version not in (1, 2):
+        raise Trouble(f"the image has the version {version}; 1 and 2 are known")
+    tables, at, view = [], 8, memoryview(image)
+    for unit in range(count):
+        node, words, zero, slots = (int.from_bytes(image[at + first:at + last], "little") for first, last in ((0, 2), (2, 3), (3, 4), (4, 8)))
+        end = at + 8 + 8 * words * slots
+        if len(image) < at + 8 or not 1 <= words <= MOST_WORDS or zero:
+            raise Trouble(f"byte {at} is no head of a unit (unit {unit} of {count})")
+        if len(image) < end:
+            raise Trouble(f"the image ends at byte {len(image)}, within the words of node {node}")
+        tables.append(Table(node, words, slots, view[at + 8:end]))
+        at = end
+    if at < len(image):
+        raise Trouble(f"bytes follow the last unit, from byte {at} on")
+    return version, tables
+
+
+def slots_that_differ(before, after):
+    """The slots of a unit whose words are not the same in two tables of one shape, each with its words in both."""
+    size, step = 8 * after.words, 8 * after.words * 256
+    for start in range(0, len(after.bytes), step):
+        if before.bytes[start:start + step] == after.bytes[start:start + step]:
+            continue
+        for at in range(start, min(start + step, len(after.bytes)), size):
+            old, new = before.bytes[at:at + size], after.bytes[at:at + size]
+            if old != new:
+                yield at // size, words_of(old), words_of(new)
+
+
+def words_of(data):
+    """The words that bytes spell."""
+    return [int.from_bytes(data[at:at + 8], "little") for at in range(0, len(data), 8)]
+
+
+def empty_like(tables):
+    """Tables of the same shapes whose words are all 0."""
+    return [Table(table.node, table.words, table.slots, memoryview(bytes(len(table.bytes)))) for table in tables]
+
+
+def changes(before, after):
+    """The writes and fences, one a line, by which a machine that has one image gets the next: first each slot that differs and
+    is not empty is cleared, its gate word first; then comes a fence, where any was; then what is new is written, the gate word
+    last. `before` is None where the words of the machine are 0."""
+    version, tables = tables_of(after)
+    if before is None:
+        olds = empty_like(tables)
+    else:
+        old_version, olds = tables_of(before)
+        if old_version != version:
+            raise Trouble(f"the images have the versions {old_version} and {version}: their words do not mean the same")
+    if [(old.node, old.words, old.slots) for old in olds] != [(new.node, new.words, new.slots) for new in tables]:
+        raise Trouble("the images are of two nets: their units are not the same")
+    cleared = False
+    for old, table in zip(olds, tables):
+        for slot, was, _ in slots_that_differ(old, table):
+            if any(was):
+                cleared = True
+                yield from (line_of(table, slot, word, 0) for word in [table.words - 1, *range(table.words - 1)])
+    if cleared:
+        yield "fence"
+    for old, table in zip(olds, tables):
+        for slot, _, now in slots_that_differ(old, table):
+            if any(now):
+                yield from (line_of(table, slot, word, value) for word, value in enumerate(now))
+
+
+def line_of(table, slot, word, value):
+    """A write as a line."""
+    return f"write node {table.node} slot {slot} word {word} value {value:#x}"

@@ -1,0 +1,231 @@
+"""netconf-layout: what it says of the examples and of boards agrees with the program's views and lookups, and it says the same
+as a table, as JSON and as a header in C."""
+
+import json
+import os
+import random
+import shutil
+import subprocess
+
+from builds import HERE, LOADER, built
+from checks import EXAMPLES, TOOLS, descriptions, outcome
+from netconf_dump import image_in
+from netconf_layout import layout_of
+from netconf_source import TOP, commands_of, declarations_of, noted_nodes_of
+from netconf_text import run, views_of
+from protocol import echo
+from second_reader import look, names
+
+ADDRESSES = 1000
+"""How many addresses of each description are looked up."""
+
+TRIES = 12
+"""How many buffers are asked for each agent that comes to a unit, beside those of the description."""
+
+NOTES = """
+//@ of the next statement
+ram is accept [0x0-0xfff];     //@ beside it
+bus is map [0x0-0xfff          //@ within it
+  to ram]; //@ behind its end
+module card(node n);
+agent dma is over n;           //@ in a module
+port is over n;
+end;
+use card(node bus) as a;       //@ pci 0:3.0
+for i in 0..1; use card(node bus) as b[i]; end;
+//@ b[1].dma is pci 0:5.0
+//@ nobody is lost
+begin; view a.dma;             // @ no note
+"""
+NOTED = {"ram": ["of the next statement", "beside it"], "bus": ["within it", "behind its end"], "a.dma": ["pci 0:3.0", "in a module"],
+         "a.port": ["pci 0:3.0"], "b[0].dma": ["in a module"], "b[0].port": [], "b[1].dma": ["in a module", "pci 0:5.0"], "b[1].port": []}
+
+FEATURES = """dram is accept [0x0-0xffff];  //@ "quoted" \\ and \xe9?
+agent a.b is map [0x10-0x1f to u at 0x8] over dram;
+agent a_b is over u;
+unit u kind remap page 2 slots 8 reach 16 to dram, v;
+unit v kind pages page 2 slots 4 reach 16 to dram;
+"""
+TABLE = """nodes 5, image of 120 bytes
+
+unit  node  kind   page  slots  reach  words  from byte  note
+u     3     remap  2     8      16     1      16
+v     4     pages  2     4      16     1      88
+
+port  number  to    node  note
+u     0       dram  0     "quoted" \\ and \xe9?
+u     1       v     4
+v     0       dram  0     "quoted" \\ and \xe9?
+
+agent  node  note
+a.b    1
+a_b    2
+
+window of  addresses  unit  input
+a.b        0x10-0x1f  u     0x8
+a_b        0x0-0x1f   u     0x0
+u port 1   0x0-0xf    v     0x0
+
+place of  node  its addresses  at
+a.b       dram  0x0-0xf        0x0
+a.b       dram  0x20-0xffff    0x20
+u port 0  dram  0x0-0xffff     0x0
+v port 0  dram  0x0-0xffff     0x0
+"""
+
+
+def check_notes(checks):
+    """Which node has which comment."""
+    nodes, lost = noted_nodes_of(NOTES)
+    checks.equal({name: node.notes for name, node in nodes.items()}, NOTED, "layout: the notes of nodes")
+    checks.equal(lost, [(13, "nobody is lost")], "layout: a note that no node has")
+    status, _, errors = outcome(TOOLS / "netconf-layout", "-", text=NOTES)
+    checks.equal((status, errors), (1, "netconf-layout: -: line 13: no node has this note: nobody is lost\n"), "layout: it is refused")
+
+
+def check_forms(checks, folder):
+    """One description with its table, its JSON and its header worked out by hand; refusals; and names that C has not."""
+    source = folder / "features.net"
+    source.write_bytes(FEATURES.encode("latin-1"))
+    status, table, errors = outcome(TOOLS / "netconf-layout", source)
+    checks.equal((status, table, errors), (0, TABLE, ""), "layout: a table")
+    shown = json.loads(outcome(TOOLS / "netconf-layout", "--json", source)[1])
+    port = {"name": "v", "node": 4, "notes": [], "places": [], "windows": [{"first": "0x0", "last": "0xf", "unit": "v", "input": "0x0"}]}
+    checks.equal((shown["nodes"], shown["bytes"], shown["units"][0]["ports"][1], shown["units"][1]["from byte"]), (5, 120, port, 88),
+                 "layout: JSON")
+    lines = outcome(TOOLS / "netconf-layout", "--c", "--prefix", "my_board", source)[1]
+    wanted = ["#ifndef NETCONF_LAYOUT_MY_BOARD_H", "    my_board_agent_a_b_node_1 = 0,", "    my_board_agent_a_b_node_2 = 1",
+              'static const struct netconf_layout my_board = {my_board_units, my_board_agents, 2, 2};']
+    checks.equal([line for line in wanted if line not in lines.splitlines()], [], "layout: names in the header")
+    for words, status, message in (
+            (("--prefix", "1x", source), 2, "'1x' is no name in C that begins with a letter"),
+            ((EXAMPLES / "looping_bridge.net",), 1, "refused: Loop bus@0x80000000 -> bridge@0x0 -> bus@0x80000000"),
+            ((folder / "none.net",), 1, "No such file or directory")):
+        seen, output, errors = outcome(TOOLS / "netconf-layout", *words)
+        checks.that((seen, output) == (status, "") and message in errors, f"layout: {message}", errors)
+
+
+def check_header(checks, folder, path):
+    """The header in C of a description says what its layout says, in both compilers."""
+    layout = layout_of(path.read_bytes())
+    (folder / "layout.h").write_text(outcome(TOOLS / "netconf-layout", "--c", path)[1])
+    for compiler, words in (("gcc", ["-std=c99"]), ("clang", ["-std=c99"]), ("g++", ["-x", "c++", "-std=c++11"])):
+        if shutil.which(compiler) is None:
+            continue
+        command = [compiler, *words, "-Wall", "-Wextra", "-Wpedantic", "-Werror", f"-I{folder}", f"-I{LOADER}", HERE / "echo.c", "-o", folder / "echo"]
+        checks.equal(built(command), "", f"layout: {compiler} compiles the header of {path.name}")
+        done = subprocess.run([str(folder / "echo")], capture_output=True, check=False)
+        checks.equal(done.stdout.decode("latin-1"), echo(layout), f"layout: the header of {path.name} by {compiler}")
+
+
+def addresses_of(layout, chance):
+    """Addresses of agents at random, most of them within windows and places or at their ends."""
+    found = []
+    for _ in range(ADDRESSES):
+        agent = chance.choice(layout.agents)
+        blocks = [(w.first, w.last) for w in agent.windows] + [(p.address, p.address + p.last - p.first) for p in agent.places]
+        if not blocks or chance.random() < 0.1:
+            found.append((agent, chance.randrange(TOP + 1)))
+            continue
+        lo, hi = chance.choice([block for block in blocks if block in {(w.first, w.last) for w in agent.windows}] or blocks
+                               if chance.random() < 0.5 else blocks)
+        address = chance.choice((lo, hi, lo - 1, hi + 1, min(lo + chance.randrange(0x8000), hi), chance.randint(lo, hi)))
+        found.append((agent, min(max(address, 0), TOP)))
+    return found
+
+
+def more_grants(layout, chance):
+    """Commands that ask for buffers behind units, and for messages."""
+    texts = []
+    for agent in layout.agents:
+        units = [layout.units[window.unit] for window in agent.windows]
+        for number in range(TRIES if units else 0):
+            unit = chance.choice(units)
+            places = [place for port in unit.ports for place in port.places] or [
+                place for port in unit.ports for window in port.windows for inner in layout.units[window.unit].ports for place in inner.places]
+            if not places:
+                continue
+            place = chance.choice(places)
+            title = f"more_{layout.agents.index(agent)}_{number}"
+            if unit.kind == "vectors":
+                window = chance.choice(agent.windows)
+                texts.append(f"route {title} {agent.name} {chance.randint(window.first, window.last):#x} {place.name};")
+                continue
+            page = 1 << unit.page
+            base = place.first + chance.randrange(max((place.last - place.first + 1) // page, 1)) * page
+            access = chance.choice(("", " for read", " for write"))
+            texts.append(f"grant {title} {agent.name} {place.name} {base:#x} {min(page * chance.randint(1, 4), place.last - base + 1):#x}{access};")
+    return texts
+
+
+def check_against_program(checks, title, data):
+    """At random addresses and for both accesses, what layout and image say is what the program's lookups and views say."""
+    text, chance = data.decode("latin-1"), random.Random(title)
+    layout = layout_of(data)
+    if not layout.agents:
+        return
+    commands = [str(command) for command in commands_of(text) if command.word in ("grant", "route", "revoke")] + more_grants(layout, chance)
+    asked = addresses_of(layout, chance)
+    lines = [*commands, "dump;"]
+    for access in ("read", "write"):
+        lines += [f"view {agent.name} for {access};" for agent in layout.agents]
+        lines += [f"lookup {agent.name} {address:#x} for {access};" for agent, address in asked]
+    _, output = run("run", (declarations_of(text) + "begin;\n" + "\n".join(lines) + "\n").encode("latin-1"))
+    image, parts = image_in(output.encode("latin-1")), output.split(f"\nview {layout.agents[0].name} for ")
+    wrong = []
+    for part, is_write in zip(parts[1:], (False, True)):
+        views = views_of(f"view {layout.agents[0].name} for " + part)
+        replies = [line.split(": ", 1)[1] for line in part.splitlines() if ": " in line]
+        for (agent, address), reply in zip(asked, replies):
+            number = layout.agents.index(agent)
+            mine = names(layout, number, address, look(layout, image, number, address, is_write))
+            row = next((row for row in views[agent.name] if row.lo <= address <= row.hi), None)
+            seen = ", ".join(f"{node}@{at + address - row.lo:#x}" for node, at in row.names) if row else "nothing"
+            if not mine == reply == seen:
+                wrong.append((agent.name, hex(address), is_write, mine, reply, seen))
+        if len(replies) != len(asked):
+            wrong.append(f"{len(replies)} replies")
+    checks.that(not wrong, f"layout: {title} agrees with {ADDRESSES} lookups and the views, for both accesses", wrong[:5])
+
+
+def check_limits(checks):
+    """More agents and ports than one description may view at once; and more parts than a net of memories may have."""
+    chains = "".join(f"m{n} is accept [{n}]; b{n} is map [{n} to m{n}]; agent a{n} is map [0x0-0xf to u{n}, 0x100 to m{n} at {n}]; "
+                     f"unit u{n} kind pages page 0 slots 4 reach 8 to b{n};\n" for n in range(64))
+    layout = layout_of(chains.encode())
+    checks.equal([(len(a.windows), a.places[0].address) for a in layout.agents], [(1, 0x100)] * 64, "layout: 64 agents")
+    checks.equal([u.ports[0].places[0].name for u in layout.units], [f"m{n}" for n in range(64)], "layout: 64 units")
+    blocks = ", ".join(f"{2 * n:#x}" for n in range(16382))
+    full = f"m is accept [{blocks}]; agent a is map [0x0-0xff to u]; unit u kind pages page 0 slots 4 reach 20 to m;"
+    checks.equal(outcome(TOOLS / "netconf-layout", "-", text=full)[0], 0, "layout: as many parts as a net may have")
+    status, _, errors = outcome(TOOLS / "netconf-layout", "-", text=full.replace("agent a is", "n is over m; agent a is"))
+    checks.that(status == 1 and "passes the limit of 16384" in errors, "layout: one part too many for a net of memories", errors)
+
+
+def check_boards(checks, folder):
+    """The boards of examples/boards, where a folder of trees was named."""
+    trees = os.environ.get("BOARDS")
+    if not trees:
+        checks.skipped += 1
+        checks.lines.append("skipped: the layouts of boards: name in BOARDS the folder of trees that examples/boards/fetch prints")
+        return
+    for questions in sorted((EXAMPLES / "boards").glob("*.questions")):
+        tree = os.path.join(trees, questions.read_text().splitlines()[0].removeprefix("// tree: "))
+        status, text, errors = outcome(TOOLS / "netconf-import", tree)
+        checks.equal(status, 0, f"layout: {questions.stem} is imported: {errors[-300:]}")
+        if status == 0:
+            check_against_program(checks, questions.stem, text.encode("latin-1"))
+
+
+def run_checks(checks, folder, _):
+    """All of this part."""
+    check_notes(checks)
+    check_forms(checks, folder)
+    check_limits(checks)
+    for path in descriptions():
+        check_against_program(checks, path.name, path.read_bytes())
+        if any(word in path.read_text("latin-1") for word in ("\nunit ", "agent core0")):
+            check_header(checks, folder, path)
+    check_boards(checks, folder)
+
+

@@ -1,0 +1,102 @@
+"""A second reader of images, in the words of docs/image.md: faults, records and lookups. It shares no code with the tools."""
+
+KINDS = ("pages", "remap", "vectors")
+LAST = (1 << 56) - 1
+KEPT = [None, []]
+
+
+def words_of(unit):
+    """How many words a record of a unit has."""
+    return 2 if unit.kind == "vectors" else 1
+
+
+def fields(layout):
+    """The fields of an image: for each its bytes where they are told, how many there are, and the answer where they differ."""
+    yield b"DNIM", 4, ("Header", 0)
+    yield None, 2, ("Header", 4)
+    yield len(layout.units).to_bytes(2, "little"), 2, ("Header", 6)
+    for place, unit in enumerate(layout.units):
+        yield unit.node.to_bytes(2, "little") + bytes([words_of(unit), 0]) + unit.slots.to_bytes(4, "little"), 8, ("Shape", place)
+        yield b"", 8 * words_of(unit) * unit.slots, None
+
+
+def fault_of(layout, data):
+    """The first field that is not as in an image of the net, as the answer and what it carries; or `fine`."""
+    at = 0
+    for due, size, answer in fields(layout):
+        if len(data) < at + size:
+            return "Short", len(data)
+        field = data[at:at + size]
+        if due is None and field not in (b"\x01\x00", b"\x02\x00") or due and field != due:
+            return answer
+        at += size
+    return ("Trailing", at) if at < len(data) else ("fine", 0)
+
+
+def starts_of(layout):
+    """The byte of an image at which the words of each unit begin; those of the last layout are kept."""
+    if KEPT[0] is not layout:
+        ends = [8]
+        for unit in layout.units:
+            ends.append(ends[-1] + 8 + 8 * words_of(unit) * unit.slots)
+        KEPT[:] = layout, [end + 8 for end in ends]
+    return KEPT[1]
+
+
+def word(layout, data, place, number):
+    """A word of a unit."""
+    at = starts_of(layout)[place] + 8 * number
+    return int.from_bytes(data[at:at + 8], "little")
+
+
+def record(layout, data, place, slot):
+    """The record of a slot as (port, output, whether it may be read, whether it may be written), or nothing."""
+    unit, count = layout.units[place], words_of(layout.units[place])
+    words = [word(layout, data, place, slot * count + number) for number in range(count)]
+    return record_of(unit, words, data[4])
+
+
+def record_of(unit, words, version):
+    """The record that words spell in a unit."""
+    gate = words[-1]
+    bits = [gate >> bit & 1 for bit in range(8)]
+    if not bits[0] or bits[6] or bits[7] or (unit.kind == "pages" and (bits[1] or bits[2] or bits[3])):
+        return None
+    if unit.kind == "vectors" and gate >> 8:
+        return None
+    port = bits[1] + 2 * bits[2] + 4 * bits[3]
+    output = words[0] if unit.kind == "vectors" else (gate >> 8) * 2 ** unit.page
+    may_read, may_write = not bits[4], not bits[5]
+    if not may_read and not may_write or port >= len(unit.ports) or output >= 2 ** unit.reach:
+        return None
+    if version == 1 and not (may_read and may_write):
+        return None
+    return port, output, int(may_read), int(may_write)
+
+
+def look(layout, data, agent, address, is_write):
+    """What an agent's address comes to: `nothing`, `fixed`, or ("out", unit, port, output)."""
+    if address > LAST:
+        return "nothing"
+    view, at, out = layout.agents[agent], address, "fixed"
+    while True:
+        window = next((window for window in view.windows if window.first <= at <= window.last), None)
+        if window is None:
+            return out
+        unit = layout.units[window.unit]
+        slot, within = divmod(window.input + at - window.first, 2 ** unit.page)
+        found = record(layout, data, window.unit, slot) if slot < unit.slots else None
+        if found is None or not found[3 if is_write else 2]:
+            return "nothing"
+        view, at = unit.ports[found[0]], found[1] + within
+        out = ("out", window.unit, found[0], at)
+
+
+def names(layout, agent, address, answer):
+    """The names to which an answer comes, as the program prints them."""
+    if answer == "nothing":
+        return "nothing"
+    view, at = (layout.agents[agent], address) if answer == "fixed" else (layout.units[answer[1]].ports[answer[2]], answer[3])
+    found = sorted((place.node, place.first + at - place.address, place.name) for place in view.places
+                   if place.address <= at <= place.address + place.last - place.first)
+    return ", ".join(f"{name}@{there:#x}" for _, there, name in dict.fromkeys(found)) or "nothing"
