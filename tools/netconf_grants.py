@@ -3,7 +3,7 @@
 The program answers them; the notes on a refusal are read off the description, and say where to look."""
 
 from netconf_graph import covered, reached
-from netconf_source import Unreadable, commands_of, declarations_of, nodes_of
+from netconf_source import commands_of, declarations_of, nodes_of
 from netconf_text import Trouble, run
 
 CHANGES = ("grant", "route", "revoke")
@@ -26,59 +26,75 @@ FAULTS = {
 
 def changes_of(text):
     """The commands of a description that change tables."""
-    return [command for command in commands_of(text) if command.word in CHANGES]
+    return commands_of(text, CHANGES)
 
 
 def replies_to(text, commands):
     """What the program replies to commands that change tables, over the declarations of a description."""
-    asked = declarations_of(text) + "begin;\n" + "".join(f"{command}\n" for command in commands)
+    asked = declarations_of(text) + "begin;\n" + "\n".join(command.source for command in commands) + "\n"
     _, output = run("run", asked.encode("latin-1"))
-    replies = output.splitlines()
-    for command, reply in zip(commands, replies):
-        if not reply.startswith(f"{command.id} "):
-            raise Trouble(f"netconf printed no reply to {command}, but {reply[:60]!r}")
+    replies, titles = output.split("\n")[:-1], [f"{command.id} " for command in commands]
+    if not all(map(str.startswith, replies, titles)):
+        command, reply = next((command, reply) for command, reply in zip(commands, replies) if not reply.startswith(f"{command.id} "))
+        raise Trouble(f"netconf printed no reply to {command}, but {reply[:60]!r}")
     if len(replies) != len(commands):
         raise Trouble(f"netconf replied to {len(replies)} of {len(commands)} commands")
-    return [reply.removeprefix(f"{command.id} ") for command, reply in zip(commands, replies)]
+    return [reply[len(title):] for reply, title in zip(replies, titles)]
 
 
-def refused_in(data):
-    """Each command of a description that is refused, with its fault and the notes on it, each a line and a text."""
+class Net:
+    """The nodes of a description by their names, and for each agent that was asked for the units to which it can come."""
+
+    def __init__(self, nodes):
+        self.nodes = nodes
+        self._units = {}
+
+    def units_from(self, agent):
+        """The units to which an agent can come, also behind one another."""
+        if agent not in self._units:
+            self._units[agent] = [node for node in reached(self.nodes, [agent]).values() if node.role == "unit"]
+        return self._units[agent]
+
+
+def refused_in(data, most):
+    """Each command of a description that is refused, with its fault and the notes on it, each a line and a text.
+
+    Behind the first `most` commands that are refused comes how many more there are."""
     text = data.decode("latin-1")
-    try:
-        commands, nodes = changes_of(text), nodes_of(text)
-    except Unreadable as error:
-        raise Trouble(f"the commands are not found: {error}") from error
-    found, live = [], {}
+    commands, live, found, net = changes_of(text), {}, 0, None
     for command, reply in zip(commands, replies_to(text, commands) if commands else []):
         if reply.startswith("refused: "):
-            fault = reply.removeprefix("refused: ")
-            found.append((command, fault, list(notes_of(command, fault.split(" ")[0], nodes, live))))
+            found += 1
+            if found <= most:
+                fault = reply.removeprefix("refused: ")
+                net = net or Net(nodes_of(text))
+                yield command, fault, list(notes_of(command, fault.split(" ")[0], net, live))
         elif command.word == "revoke":
             live.pop(command.id)
         else:
             live[command.id] = command
-    return found
+    if found > most:
+        yield found - most
 
 
-def notes_of(command, fault, nodes, live):
+def notes_of(command, fault, net, live):
     """The notes on a refusal; `live` has the grants and routes that live, by their ids."""
     if fault == "IdUsed":
         yield live[command.id].line, f"{command.id} stands here"
     elif fault == "NoAgent":
-        yield notes_on_node(command, nodes, command.names[0], "is no agent")
+        yield notes_on_node(command, net.nodes, command.names[0], "is no agent")
     elif fault == "NoTarget":
         other = "has interrupt vectors: use `route`" if command.word == "grant" else "has no interrupt vectors"
-        yield notes_on_node(command, nodes, command.names[1], other)
+        yield notes_on_node(command, net.nodes, command.names[1], other)
     elif fault == "NotAccepted":
-        yield from notes_on_accepts(command, nodes[command.names[1]])
+        yield from notes_on_accepts(command, net.nodes[command.names[1]])
     elif fault == "NoPlacement":
-        yield from notes_on_units(command, nodes)
+        yield from notes_on_units(command, net)
         if command.word == "grant":
-            yield from notes_on_pages(command, nodes)
+            yield from notes_on_pages(command, net)
         else:
-            yield from notes_on_vectors(command, nodes, live)
-        yield from notes_on_others(command, nodes, live)
+            yield from notes_on_vectors(command, net.nodes, live)
+        yield from notes_on_others(command, net, live)
 
 
 def notes_on_node(command, nodes, name, what):
@@ -98,25 +114,20 @@ def notes_on_accepts(command, node):
         yield node.line, f"{node.name} accepts nothing: name the node behind it that does"
 
 
-def units_from(nodes, agent):
-    """The units to which an agent can come, also behind one another."""
-    return [node for node in reached(nodes, [agent]).values() if node.role == "unit"]
-
-
-def notes_on_units(command, nodes):
+def notes_on_units(command, net):
     """The units on the ways of the agent."""
     agent = command.names[0]
-    for unit in units_from(nodes, agent):
+    for unit in net.units_from(agent):
         _, page, slots, _ = unit.shape
         yield unit.line, f"{agent} can come to {unit.name}, {slots} slots of {1 << page:#x} addresses"
-    if not units_from(nodes, agent):
-        yield nodes[agent].line, f"{agent} comes to no unit"
+    if not net.units_from(agent):
+        yield net.nodes[agent].line, f"{agent} comes to no unit"
 
 
-def notes_on_pages(command, nodes):
+def notes_on_pages(command, net):
     """Whether a buffer is no whole pages of any unit on its way."""
     base, size = command.numbers
-    units = units_from(nodes, command.names[0])
+    units = net.units_from(command.names[0])
     page = min((1 << unit.shape[1] for unit in units), default=1)
     if (base | size) % page:
         yield command.line, f"{base:#x}-{base + size - 1:#x} is no whole number of pages: the smallest on the way has {page:#x}"
@@ -133,13 +144,13 @@ def notes_on_vectors(command, nodes, live):
         yield nodes[node].line, f"each vector of {node} has a route"
 
 
-def notes_on_others(command, nodes, live):
+def notes_on_others(command, net, live):
     """Other agents that come to the same units, and what is granted behind these."""
     agent = command.names[0]
-    mine = {unit.name for unit in units_from(nodes, agent)}
+    mine = {unit.name for unit in net.units_from(agent)}
     near = {agent: sorted(mine)}
-    for node in nodes.values():
-        shared = [unit.name for unit in units_from(nodes, node.name) if unit.name in mine] if node.role == "agent" else []
+    for node in net.nodes.values():
+        shared = [unit.name for unit in net.units_from(node.name) if unit.name in mine] if node.role == "agent" else []
         if node.name != agent and shared:
             near[node.name] = shared
             yield node.line, f"{node.name} comes to {', '.join(shared)} too"

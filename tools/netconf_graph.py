@@ -4,11 +4,12 @@ Nodes are boxes by their role, windows are labels of edges. What would make the 
 drawn together: the windows from one node to another share an edge, the devices that one bus alone maps share a table,
 and so do the agents that are over one bus and have nothing else."""
 
+import zlib
 from dataclasses import dataclass
 from xml.sax.saxutils import escape
 
 from netconf_source import Block
-from netconf_text import size_text
+from netconf_text import shortened, size_text
 
 ROLES = {
     "agent": ("agent", "#cfe2ff", "rounded,filled"),
@@ -23,10 +24,18 @@ ROLES = {
 
 WIDTH = 30
 """The longest line of a name, in characters."""
+LINES = 6
+"""The most lines of a name."""
+KEY = 400
+"""The longest identifier of a box, in characters."""
+BOXES, EDGES = 160, 400
+"""How many boxes and edges a graph may have to be looked at."""
 WINDOWS = 4
 """How many windows an edge shows at most."""
 TOGETHER = 6
 """From how many on devices of one bus, or agents over one bus, are drawn as one table."""
+GAP = 8
+"""The room between the addresses of a window and the name, in a table."""
 TABLE = 96
 """The most rows of one table."""
 MONO = 'FACE="DejaVu Sans Mono,monospace" POINT-SIZE="9"'
@@ -35,11 +44,14 @@ MONO = 'FACE="DejaVu Sans Mono,monospace" POINT-SIZE="9"'
 
 @dataclass
 class Table:
-    """Nodes that are drawn as one box: `title`, and for each node its name and what stands before it."""
+    """Nodes that are drawn as one box: `title`, and for each node its name and what stands before it.
+
+    `from_0` says that each window leads to address 0 of its device, so that this is said once."""
     key: str
     title: str
     role: str
     rows: list
+    from_0: bool = False
 
 
 def role_of(node):
@@ -51,13 +63,17 @@ def role_of(node):
 
 
 def quoted(text):
-    """A text as an identifier of Graphviz."""
+    """A text as an identifier of Graphviz, which has a limit on their lengths."""
+    if len(text) > KEY:
+        text = f"{text[:KEY // 2]} {len(text)} {zlib.crc32(text.encode()):x}"
     return '"' + text.replace("\\", "\\\\").replace('"', '\\"') + '"'
 
 
 def wrapped(name):
-    """A name in lines of at most `WIDTH` characters, broken behind a dot or an underscore where there is one."""
-    lines = []
+    """A name in lines of at most `WIDTH` characters, broken behind a dot or an underscore where there is one.
+
+    Of a very long name the middle is left out."""
+    name, lines = shortened(name, LINES * WIDTH), []
     while len(name) > WIDTH:
         cut = max(name.rfind(sign, WIDTH // 3, WIDTH) for sign in "._") + 1 or WIDTH
         lines.append(name[:cut])
@@ -83,15 +99,15 @@ def windows_of(node):
     return windows
 
 
-def window_text(entry, at):
-    """A window as a line: its addresses, and where they are sent unless they stay as they are."""
+def window_text(entry, at, from_0=False):
+    """A window as a line: its addresses, and where they are sent unless they stay as they are, or it is said that all are at 0."""
     copies = "" if len(entry.destinations) == 1 else f" (copied to {len(entry.destinations)})"
-    return Block.__str__(entry) + (f" at {at:#x}" if at != entry.lo else "") + copies
+    return Block.__str__(entry) + (f" at {at:#x}" if at != entry.lo and not from_0 else "") + copies
 
 
-def lines_of(windows, most=WINDOWS):
+def lines_of(windows, most=WINDOWS, from_0=False):
     """The windows of an edge as lines: all, or the first and how many more there are."""
-    texts = [window_text(entry, at) for entry, at in sorted(windows, key=lambda w: w[0].lo)]
+    texts = [window_text(entry, at, from_0) for entry, at in sorted(windows, key=lambda w: w[0].lo)]
     return texts if len(texts) <= most else texts[:most - 1] + [f"and {len(texts) - most + 1} more windows"]
 
 
@@ -133,8 +149,10 @@ def device_tables(nodes):
         parts = [leaves[i:i + TABLE] for i in range(0, len(leaves), TABLE)]
         for number, part in enumerate(parts):
             place = f", part {number + 1} of {len(parts)}" if len(parts) > 1 else ""
-            rows = [(n, lines_of(windows[n], 2)) for n in part]
-            tables.append(Table(f"devices {number} of {name}", f"{len(part)} devices of {name}{place}", "device", rows))
+            from_0 = all(at == 0 for n in part for _entry, at in windows[n])
+            rows = [(n, lines_of(windows[n], 2, from_0)) for n in part]
+            title = f"{len(part)} devices of {shortened(name, 2 * WIDTH)}{place}"
+            tables.append(Table(f"devices {number} of {name}", title, "device", rows, from_0))
     return tables
 
 
@@ -147,22 +165,27 @@ def agent_tables(nodes):
             alike.setdefault(node.over, []).append(name)
     for over, names in alike.items():
         if len(names) >= TOGETHER:
-            tables.append(Table(f"agents over {over}", f"{len(names)} agents over {over}", "agent", [(n, []) for n in names]))
+            title = f"{len(names)} agents over {shortened(over, 2 * WIDTH)}"
+            tables.append(Table(f"agents over {over}", title, "agent", [(n, []) for n in names]))
     return tables
 
 
-def table_text(table):
-    """A table as a box: one, two or three columns of rows."""
+def table_text(table, links=None):
+    """A table as a box: one, two or three columns of rows. `links` has for agents where their names lead."""
     count = len(table.rows)
     columns = 1 if count <= 24 else 2 if count <= 60 else 3
     height = -(-count // columns)
-    lines = [f'<TR><TD COLSPAN="{3 * columns - 1}"><B>{escape(table.title)}</B></TD></TR>']
+    lines = [f'<TR><TD COLSPAN="{4 * columns - 1}"><B>{escape(table.title)}</B></TD></TR>']
+    if table.from_0:
+        lines.append(f'<TR><TD COLSPAN="{4 * columns - 1}"><FONT POINT-SIZE="9">each window leads to the device from its 0x0 on</FONT></TD></TR>')
     for row in range(height):
         cells = []
         for name, windows in table.rows[row::height]:
             cells += ['<TD WIDTH="12"></TD>'] if cells else []
             cells.append(f'<TD ALIGN="LEFT" BALIGN="LEFT">{font(windows) if windows else ""}</TD>')
-            cells.append(f'<TD ALIGN="LEFT" BALIGN="LEFT">{"<BR/>".join(escape(line) for line in wrapped(name))}</TD>')
+            cells.append(f'<TD WIDTH="{GAP if windows else 0}"></TD>')
+            link = f' HREF="{escape(links[name])}"' if links and name in links else ""
+            cells.append(f'<TD ALIGN="LEFT" BALIGN="LEFT"{link}>{"<BR/>".join(escape(line) for line in wrapped(name))}</TD>')
         lines.append("<TR>" + "".join(cells) + "</TR>")
     body = "\n".join(lines)
     colour = ROLES[table.role][1]
@@ -177,15 +200,16 @@ def shape_texts(unit):
     return [f"{kind}: {slots} slot{'s' * (slots != 1)} of {size},", f"outputs below {1 << reach:#x}"]
 
 
-def node_text(name, node):
-    """A node as a box with its name; the number of bytes that it accepts, or the shape of a unit."""
+def node_text(name, node, links=None):
+    """A node as a box with its name; the number of bytes that it accepts, or the shape of a unit; and a link, if it has one."""
     _, colour, style = ROLES[role_of(node)]
     lines = ["<B>" + escape(line) + "</B>" for line in wrapped(name)]
     count = covered(node.accepts)
     small = [f"{count} vectors" if node.role == "vectors" else size_text(count)] if node.accepts else []
     small += shape_texts(node) if node.shape else []
     lines += [f'<FONT POINT-SIZE="9">{escape(line)}</FONT>' for line in small]
-    return f'{quoted(name)} [label=<{"<BR/>".join(lines)}>, fillcolor="{colour}", style="{style}"];'
+    link = f", URL={quoted(links[name])}" if links and name in links else ""
+    return f'{quoted(name)} [label=<{"<BR/>".join(lines)}>, fillcolor="{colour}", style="{style}"{link}];'
 
 
 def edge_texts(name, node, box):
@@ -218,16 +242,27 @@ def legend_text(roles):
             + "\n".join(rows) + "\n</TABLE>>];")
 
 
-def dot_of(nodes):
-    """The graph of a net."""
+def size_note(dot):
+    """What is to be said of a graph that has too many boxes or edges to be looked at, or nothing."""
+    lines = dot.split("\n")
+    edges = sum('" -> "' in line for line in lines)
+    boxes = sum(line.startswith('"') for line in lines) - edges
+    if boxes <= BOXES and edges <= EDGES:
+        return ""
+    return (f"the graph has {boxes} boxes and {edges} edges, too many to look at; --agent NAME draws what one agent leads to, "
+            "and netconf-query who says who sees an address")
+
+
+def dot_of(nodes, links=None):
+    """The graph of a net. `links` has for agents where their boxes lead."""
     tables = device_tables(nodes) + agent_tables(nodes)
     box = {name: table.key for table in tables for name, _ in table.rows}
     lines = ["digraph net {", "rankdir=LR; nodesep=0.2; ranksep=0.9;",
              'node [shape=box, fontname="DejaVu Sans,sans-serif", fontsize=11, margin="0.12,0.06"];',
              'edge [fontname="DejaVu Sans,sans-serif", fontsize=9, color="#555555", arrowsize=0.7];',
              legend_text({role_of(node) for node in nodes.values()})]
-    lines += [table_text(table) for table in tables]
-    lines += [node_text(name, node) for name, node in nodes.items() if name not in box]
+    lines += [table_text(table, links) for table in tables]
+    lines += [node_text(name, node, links) for name, node in nodes.items() if name not in box]
     for name, node in nodes.items():
         lines += edge_texts(name, node, box)
     for table in tables:

@@ -1,22 +1,52 @@
 """Reads a description whose tokens, statements and blocks are right, and expands its modules and loops.
 
 netconf itself judges a text. What is here is for the tools beside it, which want to know from which line each node,
-block, window and command comes. So it reads both a description and the net that `netconf check` prints, which is one."""
+block, window and command comes. So it reads both a description and the net that `netconf check` prints, which is one.
 
+A text may have four million bytes, most of which nobody asks for: a body that is never used, commands that only ask.
+So it is cut into statements at their semicolons, a statement is read when it is expanded for the first time, and an
+expression is kept as its tokens until its value is wanted."""
+
+import bisect
+import collections
+import functools
+import itertools
 import re
 from dataclasses import dataclass, field
 
 TOP = (1 << 56) - 1
 """The last address of a node."""
 
-NOTE = re.compile(r"//@[ \t]*([^\r\n]*)")
+COMMENT = re.compile(r"//[^\n]*")
+
+NOTE = re.compile(r"//@[ \t]*([^\r\n]*)\r?")
 """A comment that says something of a node, such as the name that hardware has for it."""
 
 NAMED = re.compile(r"(?P<name>[A-Za-z_][\w.\[\]]*) is (?P<note>.+)", re.A)
 """A note that names its node by the full name."""
 
-TOKEN = re.compile(r"(?P<blank>[ \t\r\n]+|//[^\n]*)|(?P<word>[A-Za-z_]\w*)|(?P<number>[0-9]\w*)|(?P<sign>\.\.|[][;,()+*.-])", re.A)
+BLANKS = re.compile(r"[ \t\r]*")
+BEGIN = re.compile(r"\bbegin\b", re.A)
+STATEMENT = re.compile(r"[ \t\r\n]*(?P<whole>(?P<word>[A-Za-z_]\w*)?[^;]*;)", re.A)
+TOKENS = re.compile(r"[A-Za-z_]\w*|[0-9]\w*|\.\.|[][;,()+*.\n-]", re.A)
+"""The tokens without the blanks between them; the end of a line is one, so that lines can be counted."""
 
+OTHER_ENDS = re.compile("[^\t\n -~]")
+"""What Python may take for the end of a line, and the language does not."""
+
+KINDS = frozenset(("agent", "vectors", "unit", "module", "use", "for"))
+"""The words that begin a statement which is no plain node."""
+
+LONG = 1 << 15
+"""From how many characters on sums and products of numbers in a statement are replaced by their values before it is read."""
+INNER = re.compile(r"\(\s*[0-9]\w*(?:\s*[-+*]\s*[0-9]\w*)*\s*\)", re.A)
+SUM = re.compile(r"[0-9]\w*(?:\s*[+*]\s*[0-9]\w*){31,}", re.A)
+"""What is replaced: parentheses with numbers alone, and long sums of products of numbers."""
+
+SIGNS = frozenset(("+", "*"))
+
+LARGE = 1 << 80
+"""A value past all that is allowed: products are not followed further."""
 
 COMMANDS = {"resolve": (False, 1, 1, 0), "lookup": (False, 1, 1, 0), "view": (False, 1, 0, 0), "grant": (True, 2, 2, 0),
             "route": (True, 1, 1, 1), "revoke": (True, 0, 0, 0), "dump": (False, 0, 0, 0), "split": (False, 0, 0, 0),
@@ -58,7 +88,8 @@ class Node:
 
     `role` is the word before the name (`agent`, `vectors`, `unit`), or empty. `uses` has for each module round the
     declaration the line of its `use`, the module's name and the full name of the use, the outermost first. `shape` has of
-    a unit the word of its kind and its page, slots and reach. `notes` are the texts of the comments `//@` on it."""
+    a unit the word of its kind and its page, slots and reach. `notes` are the texts of the comments
+    `//@` on it."""
     name: str
     role: str
     line: int
@@ -72,15 +103,97 @@ class Node:
     notes: list = field(default_factory=list)
 
 
-@dataclass
+class Text:
+    """A text without its comments: its declarations end at `end`, and its commands begin at `commands`."""
+
+    def __init__(self, text):
+        self.plain = COMMENT.sub("", text) if "//" in text else text
+        begin = BEGIN.search(self.plain)
+        self.end = begin.start() if begin else len(self.plain)
+        self.commands = self.plain.index(";", begin.end()) + 1 if begin and ";" in self.plain[begin.end():] else len(self.plain)
+
+    @functools.cached_property
+    def _ends(self):
+        """The places behind the ends of the lines."""
+        if OTHER_ENDS.search(self.plain):
+            return [hit.end() for hit in re.finditer("\n", self.plain)]
+        return list(itertools.accumulate(map(len, self.plain.splitlines(keepends=True))))
+
+    def line(self, place):
+        """The line of a place, counted from 1."""
+        return bisect.bisect_right(self._ends, place) + 1
+
+
 class Statement:
-    """A statement with the line of its first token; `body` holds the statements of a module or a loop, and `notes` the
-    texts of the comments `//@` on it."""
-    kind: str
-    line: int
-    parts: dict
-    body: list = field(default_factory=list)
-    notes: list = field(default_factory=list)
+    """A statement with its kind (`agent`, `module` and so on, or empty); `body` holds those of a module or a loop, and
+    `notes` the texts of the comments `//@` on it."""
+
+    def __init__(self, kind, text, start, end):
+        self.kind, self.text, self.start, self.end, self.body, self.notes = kind, text, start, end, [], []
+
+    @functools.cached_property
+    def line(self):
+        """The line of the first token."""
+        return self.text.line(self.start)
+
+    @functools.cached_property
+    def parts(self):
+        """What the statement says, read when it is asked for."""
+        return Reader(self.text, self.start, self.end, self.kind in ("use", "module")).statement(self.kind)
+
+
+def statements_of(text):
+    """The statements of the declarations, those of modules and loops in their bodies."""
+    whole, open_bodies = [], []
+    body, at = whole, 0
+    for hit in STATEMENT.finditer(text.plain, 0, text.plain.rfind(";", 0, text.end) + 1):
+        at, word = hit.end(), hit["word"]
+        if word == "end":
+            if not open_bodies:
+                raise Unreadable("`end` closes no block")
+            body = open_bodies.pop()
+            continue
+        statement = Statement(word if word in KINDS else "", text, hit.start("whole"), at)
+        body.append(statement)
+        if word in ("module", "for"):
+            open_bodies.append(body)
+            body = statement.body
+    if open_bodies:
+        raise Unreadable("a block is open at the end of the declarations")
+    if text.plain[at:text.end].strip():
+        raise Unreadable("the text ends inside a statement")
+    return whole
+
+
+def noted_statements(body):
+    """The statements that can have notes, in the order of the text: all but those of modules and loops."""
+    for statement in body:
+        if statement.kind in ("module", "for"):
+            yield from noted_statements(statement.body)
+        else:
+            yield statement
+
+
+def notes_in(text):
+    """The comments `//@` of a text, as (line, place in the text without its comments, what they say)."""
+    found, line, seen, removed = [], 1, 0, 0
+    for hit in COMMENT.finditer(text) if "//@" in text else ():
+        note = NOTE.fullmatch(hit.group())
+        if note:
+            line, seen = line + text.count("\n", seen, hit.start()), hit.start()
+            found.append((line, hit.start() - removed, note[1].rstrip()))
+        removed += len(hit.group())
+    return found
+
+
+def give_notes(notes, body, text):
+    """Gives each statement its notes, and returns those that no statement has: a statement has the notes in it and before
+    it that no earlier one has, and those after it on the same line."""
+    left = notes[::-1]
+    for statement in noted_statements(body) if left else ():
+        while left and left[-1][1] < max(statement.end, BLANKS.match(text.plain, statement.end).end() + 1):
+            statement.notes.append(left.pop()[2])
+    return left[::-1]
 
 
 @dataclass
@@ -102,78 +215,78 @@ class Scope:
     notes: tuple = ()
 
 
-def tokens(text):
-    """The tokens of a text as (sort, spelling, line, place)."""
-    found, at, line = [], 0, 1
-    while at < len(text):
-        hit = TOKEN.match(text, at)
-        if hit is None:
-            raise Unreadable(f"line {line}: no token begins with {text[at]!r}")
-        if hit.lastgroup != "blank":
-            found.append((hit.lastgroup, hit.group(), line, at))
-        line += hit.group().count("\n")
-        at = hit.end()
-    return found
-
-
-def notes_in(text):
-    """The comments `//@` of a text whose tokens are right, as (line, place, what they say)."""
-    found, line, seen = [], 1, 0
-    for hit in TOKEN.finditer(text) if "//@" in text else ():
-        note = NOTE.fullmatch(hit.group()) if hit.lastgroup == "blank" else None
-        if note:
-            line, seen = line + text.count("\n", seen, hit.start()), hit.start()
-            found.append((line, seen, note[1].rstrip()))
-    return found
-
-
-@dataclass
 class Command:
-    """A command with the line of its first token: its word, its id (or empty), the full names of the nodes behind it, the
-    values of its expressions, and the access that it says (`read`, `write` or empty)."""
-    word: str
-    line: int
-    id: str
-    names: list
-    numbers: list
-    access: str
+    """A command: its word, its line, its id (or empty), the full names of its nodes, its numbers, and its access.
+
+    `source` is the command as it stands in the text, without comments. All but it, the word and the id are read when they
+    are asked for. The access is `read`, `write` or empty."""
+
+    def __init__(self, text, word, title, source, start):
+        self.word, self.id, self.source = word, title, source
+        self._text, self._start = text, start
+
+    @functools.cached_property
+    def line(self):
+        """The line of the first token."""
+        return self._text.line(self._start)
+
+    @functools.cached_property
+    def _parts(self):
+        """Names, expressions and access."""
+        return Reader(self._text, self._start, self._start + len(self.source)).command()
+
+    @property
+    def names(self):
+        """The full names of the nodes, in the order of the command."""
+        return [spelled(name, OUTSIDE) for name in self._parts[0]]
+
+    @property
+    def numbers(self):
+        """The values of the expressions."""
+        return [value(expression, OUTSIDE) for expression in self._parts[1]]
+
+    @property
+    def access(self):
+        """The access that it says."""
+        return self._parts[2]
 
     def __str__(self):
-        names, numbers = list(self.names), [f"{number:#x}" for number in self.numbers]
+        names, numbers = self.names, [f"{number:#x}" for number in self.numbers]
         behind = [names[0], *numbers, names[1]] if self.word == "route" else names + numbers
         access = ["for", self.access] if self.access else []
         return " ".join([self.word, *([self.id] if self.id else []), *behind, *access]) + ";"
 
 
 class Reader:
-    """Reads tokens to statements, up to `begin`, and to the commands behind it."""
+    """Reads the tokens of one statement or command."""
 
-    def __init__(self, text):
-        self.tokens = tokens(text)
+    def __init__(self, text, start, end, has_lists=False):
+        """`has_lists` says that parentheses may hold a list, as those of a use do."""
+        is_long = end - start > LONG and not has_lists
+        self.tokens = TOKENS.findall(condensed(text.plain[start:end])) if is_long else TOKENS.findall(text.plain, start, end)
         self.at = 0
-        self.notes = notes_in(text)[::-1]
+        self.line = text.line(start)
 
     def peek(self):
         """The spelling of the next token, empty at the end."""
-        return self.tokens[self.at][1] if self.at < len(self.tokens) else ""
-
-    def line(self):
-        """The line of the next token."""
-        if self.at >= len(self.tokens):
-            raise Unreadable("the text ends inside a statement")
-        return self.tokens[self.at][2]
+        while self.at < len(self.tokens) and self.tokens[self.at] == "\n":
+            self.line += 1
+            self.at += 1
+        return self.tokens[self.at] if self.at < len(self.tokens) else ""
 
     def take(self):
         """The next token's spelling, which is taken."""
-        self.line()
+        spelling = self.peek()
+        if not spelling:
+            raise Unreadable("the text ends inside a statement")
         self.at += 1
-        return self.tokens[self.at - 1][1]
+        return spelling
 
     def want(self, *spellings):
         """Takes the next token, which must be one of these."""
-        line, spelling = self.line(), self.take()
+        spelling = self.take()
         if spelling not in spellings:
-            raise Unreadable(f"line {line}: {spelling!r} where {' or '.join(spellings)} is wanted")
+            raise Unreadable(f"line {self.line}: {spelling!r} where {' or '.join(spellings)} is wanted")
         return spelling
 
     def has(self, spelling):
@@ -190,61 +303,25 @@ class Reader:
             items.append(item())
         return items
 
-    def body(self, is_open):
-        """The statements up to the end of the open block, or up to `begin` or the end of the text."""
-        statements = []
-        while self.peek() not in ("", "begin"):
-            if self.has("end"):
-                self.want(";")
-                if not is_open:
-                    raise Unreadable("`end` closes no block")
-                return statements
-            statements.append(self.statement())
-        if is_open:
-            raise Unreadable("a block is open at the end of the declarations")
-        return statements
-
-    def statement(self):
-        """One statement, with its body where it opens a block."""
-        line = self.line()
-        kind = self.peek() if self.peek() in ("agent", "vectors", "unit", "module", "use", "for") else ""
+    def statement(self, kind):
+        """What one statement says."""
         if kind:
             self.take()
         parts = getattr(self, f"read_{kind or 'node'}", self.read_node)()
         self.want(";")
-        if kind in ("module", "for"):
-            return Statement(kind, line, parts, self.body(True))
-        return Statement(kind, line, parts, notes=self.notes_here())
-
-    def notes_here(self):
-        """The notes on the statement of which the `;` was taken just now: those in it and before it that no statement has,
-        and those behind it on the same line."""
-        found, (_, _, line, end) = [], self.tokens[self.at - 1]
-        following = self.tokens[self.at][3] if self.at < len(self.tokens) else 1 << 64
-        while self.notes and self.notes[-1][1] < (following if self.notes[-1][0] == line else end):
-            found.append(self.notes.pop()[2])
-        return found
-
-    def commands(self):
-        """The commands behind `begin`, each its word, its line, its id, its names, its expressions and its access."""
-        found = []
-        if self.has("begin"):
-            self.want(";")
-            while self.peek():
-                found.append(self.command())
-        return found
+        return parts
 
     def command(self):
-        """One command."""
-        line, word = self.line(), self.want(*COMMANDS)
-        has_id, names, expressions, names_behind = COMMANDS[word]
-        title = self.take() if has_id else ""
+        """The names of a command, its expressions, and its access."""
+        has_id, names, expressions, names_behind = COMMANDS[self.want(*COMMANDS)]
+        if has_id:
+            self.take()
         names = [self.name() for _ in range(names)]
         expressions = [self.expression() for _ in range(expressions)]
         names += [self.name() for _ in range(names_behind)]
         access = self.want("read", "write") if self.has("for") else ""
         self.want(";")
-        return word, line, title, names, expressions, access
+        return names, expressions, access
 
     def read_node(self):
         """What stands behind the role of a node."""
@@ -259,12 +336,14 @@ class Reader:
             parts["entries"] = self.list_of(self.entry)
             self.want("]")
         if self.has("over"):
-            parts["over_line"], parts["over"] = self.line(), self.name()
+            self.peek()
+            parts["over_line"], parts["over"] = self.line, self.name()
         return parts
 
     def block(self):
         """The line of a block and its two expressions; the second is the first where it is left out."""
-        line, lo = self.line(), self.expression()
+        self.peek()
+        line, lo = self.line, self.expression()
         return line, lo, self.expression() if self.has("-") else lo
 
     def entry(self):
@@ -322,41 +401,99 @@ class Reader:
         return word, index
 
     def expression(self):
-        """A sum of products: a number, a word, or a tuple of a sign and its members."""
-        members = self.list_of(self.term, "+")
-        return members[0] if len(members) == 1 else ("+", members)
+        """A sum of products: its one token, or the list of its tokens."""
+        first = self.take()
+        return self._longer(first) if first == "(" or self.peek() in ("+", "*") else first
 
-    def term(self):
-        """A product."""
-        members = self.list_of(self.factor, "*")
-        return members[0] if len(members) == 1 else ("*", members)
+    def _longer(self, first):
+        """The tokens of an expression that has more than one, of which the first is taken."""
+        start, depth, operand = self.at - 1, int(first == "("), first != "("
+        for at in range(self.at, len(self.tokens)):
+            token = self.tokens[at]
+            if token in SIGNS:
+                operand = False
+            elif token == "(":
+                if not depth and operand:
+                    break
+                depth += 1
+            elif token == ")":
+                if not depth:
+                    break
+                depth -= 1
+                operand = True
+            elif token != "\n":
+                if not depth and (operand or token == "-"):
+                    break
+                operand = token != "-"
+        else:
+            raise Unreadable("the text ends inside an expression")
+        found = self.tokens[start:at]
+        ends = found.count("\n")
+        self.at, self.line = at, self.line + ends
+        return [token for token in found if token != "\n"] if ends else found
 
-    def factor(self):
-        """A number, a word, or what stands in parentheses."""
-        if self.has("("):
-            inner = self.expression()
-            inner = ("-", [inner, self.expression()]) if self.has("-") else inner
-            self.want(")")
-            return inner
-        spelling = self.take()
-        if not spelling[0].isdigit():
-            return spelling
-        return int(spelling, 16) if spelling.startswith("0x") else int(spelling)
+
+def condensed(text):
+    """A statement with its sums and products of numbers replaced by their values; the ends of lines stay."""
+    known = {}
+
+    def value_of(words):
+        if words not in known:
+            known[words] = f" {value(TOKENS.findall(words.replace(chr(10), ' ')), OUTSIDE)} " + "\n" * words.count("\n")
+        return known[words]
+
+    def sum_of(hit):
+        before, after = text[:hit.start()].rstrip()[-1:], text[hit.end():hit.end() + 64].lstrip()[:1]
+        return hit.group() if "*" in (before, after) else sum_text(hit.group())
+
+    if "(" in text:
+        text = INNER.sub(lambda hit: value_of(hit.group()), text)
+    return SUM.sub(sum_of, text)
+
+
+def sum_text(words):
+    """The value of a sum of products of numbers, as a text with the ends of its lines."""
+    total = 0
+    for term, count in collections.Counter(words.split("+")).items():
+        total += value([part.strip() for part in re.split(r"(\*)", term)], OUTSIDE) * count
+    return f" {total} " + "\n" * words.count("\n")
+
+
+def number_of(token, scope):
+    """The value of a token: a number, or a variable."""
+    if token[0].isdigit():
+        return int(token, 16) if token[:2] == "0x" else int(token)
+    if token not in scope.numbers:
+        raise Unreadable(f"{token} is no variable here")
+    return scope.numbers[token]
 
 
 def value(expression, scope):
-    """The value of an expression."""
-    if isinstance(expression, int):
-        return expression
+    """The value of an expression. A value that is past what is allowed may be any such value."""
     if isinstance(expression, str):
-        if expression not in scope.numbers:
-            raise Unreadable(f"{expression} is no variable here")
-        return scope.numbers[expression]
-    sign, members = expression
-    total, *rest = [value(member, scope) for member in members]
-    for number in rest:
-        total = total + number if sign == "+" else total * number if sign == "*" else total - number
-    return total
+        return number_of(expression, scope)
+    counts = collections.Counter(expression)
+    numbers = {token: number_of(token, scope) for token in counts if token not in "+*()-"}
+    if counts.keys().isdisjoint("*(-"):
+        return sum(numbers[token] * count for token, count in counts.items() if token != "+")
+    total, product, left, outside = 0, 1, None, []
+    for token in expression:
+        if token in numbers:
+            product *= numbers[token]
+            if product > LARGE:
+                product = LARGE
+        elif token == "+":
+            total, product = total + product, 1
+        elif token == "(":
+            outside.append((total, product, left))
+            total, product, left = 0, 1, None
+        elif token == "-":
+            total, product, left = 0, 1, total + product
+        elif token == ")":
+            inner = total + product if left is None else left - total - product
+            total, product, left = outside.pop()
+            product = min(product * inner, LARGE)
+    return total + product
 
 
 def spelled(name, scope):
@@ -450,6 +587,10 @@ def node_of(statement, scope):
     return node
 
 
+OUTSIDE = Scope("", {}, {}, 0, ())
+"""The scope of commands, which see no variable."""
+
+
 def nodes_of(text):
     """The nodes of a description by their full names, in order; its commands are not looked at."""
     return noted_nodes_of(text)[0]
@@ -461,17 +602,19 @@ def noted_nodes_of(text):
     A comment `//@ NAME is TEXT` is a note on the node of that full name, wherever it stands. Any other comment `//@ TEXT` is
     one on the node, or on each node of the use, whose statement holds it or ended before it on its line; or else on the next
     such statement."""
-    reader, expansion = Reader(text), Expansion()
-    expansion.run(reader.body(False), Scope("", {}, {}, 1 << 64, ()))
+    read, notes, expansion = Text(text), notes_in(text), Expansion()
+    body = statements_of(read)
+    left = {(line, place) for line, place, _ in give_notes(notes, body, read)}
+    expansion.run(body, Scope("", {}, {}, 1 << 64, ()))
     nodes = expansion.nodes
     for node in nodes.values():
         node.notes = [note for note in dict.fromkeys(node.notes) if node_named_by(note, nodes) is None]
     lost = []
-    for line, _, note in notes_in(text):
+    for line, place, note in notes:
         named = node_named_by(note, nodes)
         if named:
             named.notes.append(NAMED.fullmatch(note)["note"])
-        elif (line, note) in {(left[0], left[2]) for left in reader.notes}:
+        elif (line, place) in left:
             lost.append((line, note))
     return nodes, lost
 
@@ -483,16 +626,15 @@ def node_named_by(note, nodes):
 
 
 def declarations_of(text):
-    """What of a description stands before `begin`."""
-    reader = Reader(text)
-    reader.body(False)
-    return text[:reader.tokens[reader.at][3]] if reader.peek() else text
+    """What of a description stands before `begin`; its comments are left out where commands follow."""
+    read = Text(text)
+    return read.plain[:read.end] if read.end < len(read.plain) else text
 
 
-def commands_of(text):
-    """The commands of a description, in order."""
-    reader, outside = Reader(text), Scope("", {}, {}, 0, ())
-    reader.body(False)
-    return [Command(word, line, title, [spelled(name, outside) for name in names],
-                    [value(expression, outside) for expression in expressions], access)
-            for word, line, title, names, expressions, access in reader.commands()]
+def commands_of(text, words=tuple(COMMANDS)):
+    """The commands of a description that begin with one of the words, in order."""
+    read = Text(text)
+    wanted = re.compile(rf"(?<=;)[ \t\r\n]*(?P<whole>(?P<word>{'|'.join(words)})\b[ \t\r\n]*(?P<title>\w*)[^;]*;)", re.A)
+    titled = {word for word, form in COMMANDS.items() if form[0]}
+    return [Command(read, word, title if word in titled else "", whole, hit.start(1))
+            for hit in wanted.finditer(read.plain, read.commands) for whole, word, title in (hit.groups(),)]

@@ -66,6 +66,8 @@ def run(word, text):
 
 def read(name):
     """The bytes of a file, or those of standard input where the name is `-`."""
+    if name == "-" and sys.stdin is None:
+        raise Trouble("-: standard input is closed")
     try:
         return sys.stdin.buffer.read() if name == "-" else pathlib.Path(name).read_bytes()
     except OSError as error:
@@ -109,6 +111,14 @@ def views_of(output):
                 known[rows] = [row_of(line) for line in rows]
             views[view["agent"]] = known[rows]
     return views
+
+
+def shortened(text, width):
+    """A text in at most `width` characters, with its middle left out where it is longer."""
+    if len(text) <= width:
+        return text
+    behind = (width - 1) * 2 // 3
+    return text[:width - 1 - behind] + "…" + text[-behind:]
 
 
 def size_text(size):

@@ -11,9 +11,11 @@ The modules, in the order in which a tree goes through them:
 - ``phandles``: references between nodes, and cycles of them
 - ``units``: the tables of IOMMUs, and what of them and of message-signalled interrupts cannot be said
 - ``masters``: the way of each master's own accesses
+- ``interrupts``: the interrupt lines of devices, and the messages that an ITS makes interrupts of
 - ``naming``: a readable name for each node
 - ``platform``: the whole of one tree
 - ``writing``: the text of a description
+- ``mtree``: the flat views of QEMU, for machines without a device tree
 - ``explain``: where a processor sees each device
 - ``command``: the words of the program
 """

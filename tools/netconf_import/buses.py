@@ -7,11 +7,14 @@ from dataclasses import dataclass, field
 from typing import NamedTuple
 
 from . import cells
+from .fault import Fault
 from .naming import register_suffixes
 from .net import Claim, NetNode, settle
 from .spans import TOP, meet, shifted, text, union, without
 
 ROOT_SPACES = {"": [(0, TOP)]}
+MAX_WINDOWS = 16384
+"""How many windows of registers are read; a description has far fewer nodes."""
 
 
 def why_unmapped(bus):
@@ -73,6 +76,7 @@ class Reader:
         self.keeps = keeps
         self.notes = []
         self.reserved = []
+        self.windows = 0
 
     def note(self, node, reason):
         """Keeps what cannot be said of a node, where the node is wanted."""
@@ -144,6 +148,9 @@ class Reader:
     def _read_registers(self, bus, child):
         """Makes a node of each window of a device that can be reached, and claims its span of the bus."""
         found = cells.registers(child)
+        self.windows += len(found)
+        if self.windows > MAX_WINDOWS:
+            raise Fault(f"the tree has more than {MAX_WINDOWS} windows of registers; take a part of it with --only")
         suffixes = register_suffixes(child, len(found))
         for register in found:
             suffix = suffixes[register.index]

@@ -8,10 +8,12 @@ cell is a tag (of a target, as a memory or a bus); tags that are not 0 are space
 from typing import NamedTuple
 
 from .fault import Fault
-from .spans import TOP, union, without
+from .spans import TOP, Taken
 
 PCI_SPACES = ("config", "io", "memory", "memory")
 MAX_CELLS = 4
+MAX_ENTRIES = 16384
+"""How many entries a property may have: as many as the parts of a description."""
 
 
 class Register(NamedTuple):
@@ -98,6 +100,8 @@ def _groups(node, name, widths):
     if words and (total == 0 or len(words) % total):
         sums = " + ".join(str(part) for part in widths)
         raise Fault(f"{node.path}: {name} has {len(words)} cells, no multiple of {total} ({sums})")
+    if words and len(words) // total > MAX_ENTRIES:
+        raise Fault(f"{node.path}: {name} has {len(words) // total} entries, and at most {MAX_ENTRIES} are read")
     for start in range(0, len(words), total or 1):
         group, at = [], start
         for part in widths:
@@ -148,11 +152,9 @@ def pieces(entries, say):
             say(entry.index, "has size 0")
             continue
         whole = (entry.first, entry.first + entry.size - 1)
-        before = taken.get(entry.space, [])
-        free = without([whole], before)
+        free = taken.setdefault(entry.space, Taken()).take(*whole)
         if free != [whole]:
             say(entry.index, "is shadowed by an earlier entry" + (" in part" if free else ""))
-        taken[entry.space] = union(before + [whole])
         for first, last in free:
             outer = entry.outer + first - entry.first
             highest = min(last, TOP, TOP - outer + first)

@@ -6,6 +6,8 @@ from .fault import Fault
 from .spans import meet, shifted, text, union, without
 
 MAX_DESTINATIONS = 8
+MAX_CLAIMS = 64
+"""How many windows may claim one address of a bus, also where nothing is in most of them."""
 
 
 @dataclass(eq=False)
@@ -22,6 +24,7 @@ class NetNode:
     entries: list = field(default_factory=list)
     over: "NetNode" = None
     agent: bool = False
+    vectors: bool = False
     unit: object = None
     name: str = ""
     _decoded: list = None
@@ -109,11 +112,10 @@ def settle(claims, identities, where):
         for first, last in claim.target.decoded():
             written.append(Claim(first, last, claim.target, first, claim.source))
     entries = []
-    for first, last, ways in _segments(written):
+    for first, last, ways in _segments(written, where):
         if len(ways) > MAX_DESTINATIONS:
-            sources = ", ".join(way.source for way in ways)
             raise Fault(f"{text(first, last)} on {where} has {len(ways)} claimants, and an entry has at most "
-                        f"{MAX_DESTINATIONS} destinations: {sources}")
+                        f"{MAX_DESTINATIONS} destinations: {_sources(ways)}")
         if over and all(way.target is over.target and way.place(first) == first for way in ways):
             continue
         entries.append(Entry(first, last, ways))
@@ -136,7 +138,14 @@ def _goes_on(before, after):
     return [(way.target, way.place(after.first)) for way in before.ways] == after.destinations()
 
 
-def _segments(claims):
+def _sources(claims):
+    """Whose claims these are; of many the first ones."""
+    shown = [claim.source for claim in claims[:2 * MAX_DESTINATIONS]]
+    more = len(claims) - len(shown)
+    return ", ".join(shown) + (f" and {more} more" if more else "")
+
+
+def _segments(claims, where):
     """The spans of a bus with the claims that hold in each, in order."""
     order = {id(claim): number for number, claim in enumerate(claims)}
     waiting = sorted(claims, key=lambda claim: claim.first, reverse=True)
@@ -146,6 +155,9 @@ def _segments(claims):
         active = [claim for claim in active if claim.last >= first]
         while waiting and waiting[-1].first <= first:
             active.append(waiting.pop())
+        if len(active) > MAX_CLAIMS:
+            raise Fault(f"{text(first, end - 1)} on {where} is claimed {len(active)} times, and at most {MAX_CLAIMS} claims "
+                        f"are compared: {_sources(active)}")
         active.sort(key=lambda claim: order[id(claim)])
         if len(active) == 1:
             yield first, end - 1, tuple(active)

@@ -49,15 +49,17 @@ def _refuse_cycle(following, name):
     """Refuses a cycle in a graph of nodes, and shows it."""
     clean = set()
     for start in following:
-        way, ahead = [start], [iter(following[start])]
+        way, ahead, open_nodes = [start], [iter(following[start])], {start}
         while way and start not in clean:
             target = next(ahead[-1], None)
             if target is None:
-                clean.add(way.pop())
+                clean.add(way[-1])
+                open_nodes.discard(way.pop())
                 ahead.pop()
-            elif target in way:
+            elif target in open_nodes:
                 shown = " -> ".join(place.path for place in way[way.index(target):] + [target])
                 raise Fault(f"a cycle of {name}: {shown}")
             elif target not in clean:
                 way.append(target)
+                open_nodes.add(target)
                 ahead.append(iter(following[target]))

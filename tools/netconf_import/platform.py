@@ -2,6 +2,7 @@
 from . import naming, phandles, units
 from .buses import Reader
 from .fault import Fault
+from .interrupts import Interrupts
 from .masters import Ways, is_master
 from .net import NetNode
 
@@ -15,10 +16,11 @@ class Platform:
     """What a description says of a tree.
 
     ``root`` is the root bus, with all others in it; ``processors`` and ``masters`` are the agents; ``ways`` are the
-    nodes over which masters go, and ``units`` the tables of IOMMUs. ``notes`` have what cannot be said, ``reserved`` the
+    nodes over which masters go, and ``units`` the tables of IOMMUs. ``lines`` are what ``interrupts`` asks for: vectors,
+    lines of devices, and ``senders``, the agents that send messages. ``notes`` have what cannot be said, ``reserved`` the
     reserved memory, and ``remarks`` the lines on IOMMUs without units and on message-signalled interrupts."""
 
-    def __init__(self, tree, only=None):
+    def __init__(self, tree, only=None, interrupts=False):
         phandles.check_cycles(tree)
         self.tree = tree
         keeps = _keeper(tree, only)
@@ -28,11 +30,16 @@ class Platform:
         self.processors = [NetNode(node, "", node.path, over=self.system, agent=True) for node in _processors(tree)]
         ways = Ways(tree, reader, self.system)
         ways.read(MAX_AGENTS - len(self.processors), MAX_UNITS)
-        self.ways, self.units, self.masters = ways.buses, ways.units, ways.agents
+        self.ways, self.units, self.masters, self.senders = ways.buses, ways.units, ways.agents, []
+        self.lines, senders = [], ()
+        if interrupts:
+            found = Interrupts(tree, reader, MAX_AGENTS - len(self.agents()), MAX_UNITS - len(self.units))
+            self.lines, senders = found.nodes + found.agents, found.said
+            self.senders = found.agents
         self.notes, self.reserved = reader.notes, reader.reserved
-        self.remarks = units.comments(tree, keeps, ways.translated, ways.reasons)
-        naming.assign(tree, self.net_nodes())
+        self.remarks = units.comments(tree, keeps, ways.translated, ways.reasons, senders)
         self._check_limits()
+        naming.assign(tree, self.net_nodes())
 
     def buses(self):
         """All buses with something in them, from the root inwards, in the order of the tree."""
@@ -48,8 +55,8 @@ class Platform:
             yield from bus.devices
 
     def agents(self):
-        """The processors, and then the masters."""
-        return self.processors + self.masters
+        """The processors, then the masters, and then the devices that send messages."""
+        return self.processors + self.masters + self.senders
 
     def net_nodes(self):
         """All nodes of the description, in its order."""
@@ -57,7 +64,7 @@ class Platform:
         for bus in self.buses():
             nodes += bus.nodes.values()
             nodes += [device.net_node for device in bus.devices]
-        return nodes + self.processors + self.ways + self.units + self.masters
+        return nodes + self.processors + self.ways + self.units + self.masters + self.lines
 
     def agent(self, called):
         """The agent of a name, or of a node of the tree that is given by its path, its alias or its label."""
@@ -81,7 +88,7 @@ class Platform:
         nodes = self.net_nodes()
         parts = sum(len(node.accept) + len(node.entries) + (node.over is not None) for node in nodes)
         for needed, limit, what in ((len(nodes), MAX_NODES, "nodes"), (len(self.agents()), MAX_AGENTS, "agents"),
-                                    (len(self.units), MAX_UNITS, "units"), (parts, MAX_PARTS, "parts")):
+                                    (sum(node.unit is not None for node in nodes), MAX_UNITS, "units"), (parts, MAX_PARTS, "parts")):
             if needed > limit:
                 raise Fault(f"the tree needs {needed} {what}, and a description has at most {limit}; "
                             "take a part of it with --only")

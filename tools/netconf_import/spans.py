@@ -1,6 +1,24 @@
 """Sets of addresses, as sorted lists of spans ``(first, last)`` with both ends included."""
 
+from bisect import bisect_left, bisect_right
+
 TOP = 2**56 - 1
+
+
+class Taken:
+    """Addresses that are taken span by span: sorted spans that do not touch, in two lists of their ends."""
+
+    def __init__(self):
+        self.firsts, self.lasts = [], []
+
+    def take(self, first, last):
+        """Takes a span, and answers which parts of it were free."""
+        low, high = bisect_left(self.lasts, first - 1), bisect_right(self.firsts, last + 1)
+        free = without([(first, last)], list(zip(self.firsts[low:high], self.lasts[low:high])))
+        if low < high:
+            first, last = min(first, self.firsts[low]), max(last, self.lasts[high - 1])
+        self.firsts[low:high], self.lasts[low:high] = [first], [last]
+        return free
 
 
 def union(spans):

@@ -1,10 +1,11 @@
 """What of a tree are units of the language, and what would be but cannot be said, as comments.
 
-An IOMMU of Arm's architecture (SMMU) translates by tables that software fills, one for each stream of accesses. The
-streams of one master share a table, as in Linux, and so do masters that have a stream in common. So each such group of
-masters has a unit, and each master of it is an agent that comes to the unit. How large a table is, a tree does not say:
-a unit has ``SLOTS`` pages of 4 KiB, for the first addresses that its masters use. What it sends out are addresses of
-the root, with as many bits as an entry of a table holds.
+An IOMMU translates by tables that software fills. One of Arm's architecture (SMMU) has a table for each stream of
+accesses. The streams of one master share a table, as in Linux, and so do masters that have a stream in common. Others
+have one table for all masters that they are named by, whatever the number behind the name says of a port or a TLB. So
+each such group of masters has a unit, and each master of it is an agent that comes to the unit. How large a table is, a
+tree does not say: a unit has ``SLOTS`` pages of 4 KiB, for the first addresses that its masters use. What it sends out
+are addresses of the root, with as many bits as an entry of a table holds.
 
 Comments are left of other IOMMUs and masters, and of message-signalled interrupts (``msi-parent``, ``msi-map``), of
 which a tree has neither the lines nor the vectors.
@@ -12,30 +13,73 @@ which a tree has neither the lines nor the vectors.
 from typing import NamedTuple
 
 from . import cells
+from .fault import Fault
 from .phandles import mapped, references
-from .spans import meet, text, union
+from .spans import meet, text, union, without
 
-OUTPUT_BITS = {"arm,smmu-v1": 40, "arm,mmu-400": 40, "arm,mmu-401": 40, "arm,smmu-v2": 48, "arm,mmu-500": 48,
-               "cavium,smmu-v2": 48, "nvidia,smmu-500": 48, "qcom,smmu-v2": 48, "arm,smmu-v3": 48}
-"""The kinds of IOMMUs that are known, by ``compatible``, with the bits of an address in an entry for a page of 4 KiB."""
+
+class Kind(NamedTuple):
+    """A kind of IOMMU: the bits of an address in an entry for a page of 4 KiB, and whether it has one table for all."""
+
+    bits: int
+    one_table: bool
+
+
+STREAMS_40, STREAMS_48 = Kind(40, False), Kind(48, False)
+"""A table for each stream: the cell is its number; of ``qcom,msm-iommu-v1`` that of a context bank, which has a table."""
+TABLE_32, TABLE_33, TABLE_35, TABLE_40 = (Kind(bits, True) for bits in (32, 33, 35, 40))
+"""One table: no cell, or one that is a port (MediaTek), a micro-TLB (Renesas) or a master's number (Allwinner)."""
+
+KINDS = {
+    "arm,smmu-v1": STREAMS_40, "arm,mmu-400": STREAMS_40, "arm,mmu-401": STREAMS_40, "arm,smmu-v2": STREAMS_48,
+    "arm,mmu-500": STREAMS_48, "cavium,smmu-v2": STREAMS_48, "nvidia,smmu-500": STREAMS_48, "qcom,smmu-v2": STREAMS_48,
+    "arm,smmu-v3": STREAMS_48, "qcom,msm-iommu-v1": STREAMS_40,
+    "rockchip,iommu": TABLE_32, "rockchip,rk3568-iommu": TABLE_40, "samsung,exynos-sysmmu": TABLE_32,
+    "ti,omap2-iommu": TABLE_32, "ti,omap4-iommu": TABLE_32, "ti,dra7-iommu": TABLE_32, "ti,dra7-dsp-iommu": TABLE_32,
+    "allwinner,sun50i-h6-iommu": TABLE_32, "mediatek,mt2701-m4u": TABLE_32, "mediatek,mt2712-m4u": TABLE_33,
+    "mediatek,mt6795-m4u": TABLE_33, "mediatek,mt8173-m4u": TABLE_33, "mediatek,mt6779-m4u": TABLE_35,
+    "mediatek,mt8167-m4u": TABLE_35, "mediatek,mt8183-m4u": TABLE_35, "mediatek,mt8186-iommu-mm": TABLE_35,
+    "mediatek,mt8188-iommu-vdo": TABLE_35, "mediatek,mt8188-iommu-vpp": TABLE_35, "mediatek,mt8192-m4u": TABLE_35,
+    "mediatek,mt8195-iommu-vdo": TABLE_35, "mediatek,mt8195-iommu-vpp": TABLE_35,
+}
+"""The kinds of IOMMUs that are known, by ``compatible``. The bits are those that the drivers of Linux write."""
+RENESAS = "renesas,ipmmu-"
+"""The first letters of the IPMMUs of Renesas, of which each chip has a name of its own; they have one table as in Linux."""
 
 PAGE = 12
 SLOTS = 65536
 REQUESTERS = 65536
 """How many requesters a PCI bus can have: its functions, by bus, device and function."""
+MAX_STREAMS = 1024
+"""How many streams of masters are compared at most: each with each other one."""
 
 
 class Unit(NamedTuple):
-    """The shape of a unit of the kind ``pages``: slots of 2^page addresses, sent to addresses of a node below 2^reach."""
+    """The shape of a unit: slots of 2^page addresses, sent to addresses of a node below 2^reach."""
 
     page: int
     slots: int
     reach: int
     port: object
+    kind: str = "pages"
+
+
+def agrees(first, last, number, loose):
+    """Whether some number from ``first`` to ``last`` is ``number`` but for the bits of ``loose``."""
+    number &= ~loose
+    if first == last:
+        return first & ~loose == number
+    high = 1 << (first ^ last).bit_length() - 1
+    low = high - 1
+    if (first ^ number) & ~loose & ~(high | low):
+        return False
+    below = not number & high and first & low <= (number | loose) & low
+    above = (number | loose) & high and number & low <= last & low
+    return bool(below or above)
 
 
 class Streams(NamedTuple):
-    """The streams from ``first`` to ``last``, where the bits of ``mask`` do not count."""
+    """The streams from ``first`` to ``last``; or the one stream ``first``, where the bits of ``mask`` do not count."""
 
     first: int
     last: int
@@ -43,10 +87,11 @@ class Streams(NamedTuple):
 
     def meets(self, other):
         """Whether some stream is among both."""
-        if not self.mask | other.mask:
-            return self.first <= other.last and other.first <= self.last
-        return any(not (one ^ two) & ~(self.mask | other.mask) for one in range(self.first, self.last + 1)
-                   for two in range(other.first, other.last + 1))
+        if self.mask:
+            return agrees(other.first, other.last, self.first, self.mask | other.mask)
+        if other.mask:
+            return agrees(self.first, self.last, other.first, other.mask)
+        return self.first <= other.last and other.first <= self.last
 
     def text(self):
         """The streams in words."""
@@ -67,15 +112,20 @@ class Master(NamedTuple):
 
     def text(self):
         """The master in words. What is behind a PCI host bridge is one function, with one of the streams."""
+        if kind_of(self.iommu).one_table:
+            return self.tree_node.path
         streams = " and ".join(part.text() for part in self.streams)
         if self.tree_node.has("iommu-map"):
             return f"a function behind {self.tree_node.path}, a stream of {streams}"
         return f"{self.tree_node.path}, stream {streams}"
 
 
-def output_bits(iommu):
-    """How many bits an output of an IOMMU has, or None where its kind is not known."""
-    return next((OUTPUT_BITS[name] for name in iommu.strings("compatible") if name in OUTPUT_BITS), None)
+def kind_of(iommu):
+    """The kind of an IOMMU, or None where it is not known."""
+    names = iommu.strings("compatible")
+    if any(name.startswith(RENESAS) for name in names):
+        return TABLE_40
+    return next((KINDS[name] for name in names if name in KINDS), None)
 
 
 def _is_enabled(node):
@@ -93,12 +143,14 @@ def master_of(tree, node, bus):
     if len(iommus) > 1 or (named and entries):
         return None, "which has several IOMMUs"
     iommu = next(iter(iommus), None)
-    if iommu is None or not _is_enabled(iommu) or output_bits(iommu) is None:
+    if iommu is None or not _is_enabled(iommu) or kind_of(iommu) is None:
         return None, ""
     if entries and not _has_all_requesters(node, entries):
         return None, "which has other requesters too"
     if not _is_passed_on(bus):
         return None, "whose bus does not pass the first addresses on as they are"
+    if kind_of(iommu).one_table:
+        return Master(node, iommu, (Streams(0, 0, 0),)), ""
     streams = [_named_streams(iommu, numbers) for _target, numbers in named]
     streams += [Streams(number, number + length - 1, 0) for _first, _target, number, length in entries if length]
     return Master(node, iommu, tuple(streams)), ""
@@ -116,10 +168,8 @@ def _named_streams(iommu, numbers):
 def _has_all_requesters(node, entries):
     """Whether the entries of ``iommu-map`` have each requester of a bus."""
     mask = node.word("iommu-map-mask") if node.has("iommu-map-mask") else REQUESTERS - 1
-    left = {requester & mask for requester in range(REQUESTERS)}
-    for first, _target, _number, length in entries:
-        left -= set(range(first, min(first + length, REQUESTERS)))
-    return not left
+    said = union([(first, first + length - 1) for first, _target, _number, length in entries if length])
+    return not any(agrees(first, last, 0, mask) for first, last in without([(0, REQUESTERS - 1)], said))
 
 
 def _is_passed_on(bus):
@@ -138,7 +188,11 @@ def _is_passed_on(bus):
 
 def groups(masters):
     """The masters in groups: in each group every master has a stream in common with another one of it, or it is alone."""
-    found = []
+    masters, found = list(masters), []
+    count = sum(len(master.streams) for master in masters)
+    if count > MAX_STREAMS:
+        raise Fault(f"the tree names {count} streams at IOMMUs, and at most {MAX_STREAMS} are compared; "
+                    "take a part of it with --only")
     for master in masters:
         joined = [group for group in found if any(master.shares(other) for other in group)]
         home = joined[0] if joined else []
@@ -155,7 +209,7 @@ def _state(node):
     """What a comment says behind the path of an IOMMU that is not enabled, or whose kind is not known."""
     if node.status() != "okay":
         return f" ({node.status()})"
-    return "" if output_bits(node) else " (its tables are not known here)"
+    return "" if kind_of(node) else " (its tables are not known here)"
 
 
 def _numbers(first, length):
@@ -163,16 +217,18 @@ def _numbers(first, length):
     return text(first, first + length - 1) if length else f"none from {first:#x}"
 
 
-def comments(tree, keeps, said, reasons):
+def comments(tree, keeps, said, reasons, senders=()):
     """The lines on what no unit says: each IOMMU with the masters that it would translate for, and each way of messages.
 
-    ``said`` are the nodes of the masters that have units; ``reasons`` has for others why they have none."""
+    ``said`` are the nodes of the masters that have units; ``reasons`` has for others why they have none. ``senders`` are
+    the nodes whose messages a unit has."""
     masters, messages = {}, []
     for node in tree.root.walk():
         if keeps(node) and node.status() == "okay":
             if node not in said:
                 _add_streams(tree, node, masters, reasons.get(node, ""))
-            messages += _message_lines(tree, node)
+            if node not in senders:
+                messages += _message_lines(tree, node)
     lines = []
     for target, streams in masters.items():
         if target is None:

@@ -11,7 +11,22 @@ def described(platform, source, views=False, agent=None):
 
     ``source`` is the name of the file that the tree came from, ``views`` asks for the view of each agent, and
     ``agent`` asks where one agent sees each thing (and for its view alone)."""
-    lines = _head(platform, source) + _body(platform) + _remarks(platform) + _questions(platform, views, agent)
+    return _whole(_head(platform, source) + _body(platform) + _remarks(platform) + _questions(platform, views, agent))
+
+
+def machine_described(machine, source, views=False, agent=None):
+    """The description of a machine of QEMU, with what is asked of it."""
+    lines = ["// A machine of QEMU", f"// from {_clean(source)} by netconf-import", ""]
+    for node in machine.statements():
+        lines += statement(node)
+    lines += [""] * bool(machine.notes) + [f"// left out: {_clean(note)}" for note in machine.notes]
+    asked = [agent] if agent else machine.agents
+    lines += ["", "begin;", *(f"view {node.name};" for node in asked)] if views or agent else []
+    return _whole(lines)
+
+
+def _whole(lines):
+    """The text of some lines, which must not be longer than a description may be."""
     whole = "\n".join(lines) + "\n"
     size = len(whole.encode("utf-8", "backslashreplace"))
     if size > MAX_BYTES:
@@ -51,13 +66,16 @@ def _body(platform):
         lines.append("")
     for node in agents:
         lines += statement(node)
+    lines += [""] if platform.lines else []
+    for node in platform.lines:
+        lines += statement(node)
     return lines
 
 
 def unit_statement(node):
     """The line of a unit."""
     shape = node.unit
-    return _commented(f"unit {node.name} kind pages page {shape.page} slots {shape.slots} reach {shape.reach} "
+    return _commented(f"unit {node.name} kind {shape.kind} page {shape.page} slots {shape.slots} reach {shape.reach} "
                       f"to {shape.port.name};", node.source)
 
 
@@ -65,7 +83,7 @@ def statement(node):
     """The lines of one statement, with the tree's path as a comment."""
     if node.unit:
         return [unit_statement(node)]
-    head = ("agent " if node.agent else "") + f"{node.name} is"
+    head = ("agent " if node.agent else "vectors " if node.vectors else "") + f"{node.name} is"
     if node.accept:
         head += " accept [" + ", ".join(text(*span) for span in node.accept) + "]"
     tail = f" over {node.over.name};" if node.over else ";"

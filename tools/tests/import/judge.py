@@ -2,7 +2,9 @@
 
 This is the judge of the importer, and shares no code with it: it reads the blob over libfdt, and follows ``reg``,
 ``ranges`` and ``dma-ranges`` address by address, from a device outwards, as Linux does (the first entry that fits).
-It knows a node of the description only by the comment behind its statement.
+Which bus says the window of a master is written from the text of Linux (``of_dma_get_range`` and
+``__of_get_dma_parent`` in drivers/of/address.c, 6.1). Each master has an agent or a line, and each with a window has
+an agent. It knows a node of the description only by the comment behind its statement.
 
 Of the masters that an IOMMU translates for it says by the blob which these are, and which of them share a table. All come
 to nothing, and each that shares none can be granted a page.
@@ -18,7 +20,13 @@ NAMED = re.compile(r"^(agent )?(\S+) is(?: .*?)?\s// (/.*)$")
 REPLY = re.compile(r"^(\S+)@(0x[0-9a-f]+): (.*)$")
 BEHIND = re.compile(r"^agent (\S+) is map \[\s+// (/\S*)\n    0x0-0xfffffff to (\S+) at 0x0 ", re.M)
 UNIT = re.compile(r"^unit (\S+) kind pages page 12 slots 65536 reach (\d+) to (\S+); // ", re.M)
-SMMU = re.compile(rb"(?:arm,(?:smmu-v[123]|mmu-(?:400|401|500))|(?:cavium|qcom),smmu-v2|nvidia,smmu-500)\0")
+SMMU = re.compile(rb"(?:arm,(?:smmu-v[123]|mmu-(?:400|401|500))|(?:cavium|qcom),smmu-v2|nvidia,smmu-500|qcom,msm-iommu-v1)\0")
+ONE_TABLE = re.compile(rb"(?:rockchip,(?:rk3568-)?iommu|samsung,exynos-sysmmu|ti,(?:omap[24]|dra7(?:-dsp)?)-iommu|allwinner,sun50i-h6-iommu"
+                       rb"|mediatek,mt(?:2701|2712|6779|6795|8167|8173|8183|8192)-m4u|mediatek,mt(?:8186-iommu-mm|81(?:88|95)-iommu-v(?:do|pp)))\0"
+                       rb"|renesas,ipmmu-")
+LEFT_OUT = re.compile(r"^// left out: (/\S*): no agent for its own accesses: ", re.M)
+SIGNS = ("iommus", "iommu-map", "dma-coherent", "dma-noncoherent", "#dma-cells", "memory-region")
+NAMES = ("dma", "dma-controller", "ethernet", "gpu", "mmc", "pci", "pcie", "sata", "usb")
 INPUTS = 1 << 28
 MOST_AGENTS = 64
 
@@ -138,8 +146,9 @@ def at_root(blob, bus, name, space, first, last):
     if blob.parent[bus] is None:
         return [(first, first, last - first + 1)]
     found = []
+    outer = dma_parent(blob, bus) if name == "dma-ranges" else blob.parent[bus]
     for low, high, outside, to in outward(blob, bus, name, space, first, last):
-        for start, root, count in at_root(blob, blob.parent[bus], name, outside, to, to + high - low):
+        for start, root, count in at_root(blob, outer, name, outside, to, to + high - low):
             found.append((low + start - to, root, count))
     return found
 
@@ -235,25 +244,69 @@ def edges(spans):
     return sorted(place for place in near if 0 <= place <= TOP)
 
 
-def master_bus(blob, node):
-    """The bus that a master's accesses go over, and whether the master is a host bridge for what is behind it."""
-    if blob.is_pci(node) and blob.value(node, "dma-ranges"):
-        return node
-    words, names = blob.cells(node, "interconnects"), blob.value(node, "interconnect-names") or b""
-    if names.split(b"\0")[0] == b"dma-mem":
-        return blob.fdt.node_offset_by_phandle(words[0])
+def dma_parent(blob, node):
+    """The bus over which the accesses of a node go, as `__of_get_dma_parent` finds it."""
+    names = (blob.value(node, "interconnect-names") or b"").split(b"\0")
+    if b"dma-mem" in names:
+        words, at = blob.cells(node, "interconnects"), 0
+        for _skipped in range(names.index(b"dma-mem")):
+            target = blob.at_phandle(words[at]) if at < len(words) else None
+            at += 1 + ((blob.cells(target, "#interconnect-cells") or [0])[0] if target is not None else 0)
+        target = blob.at_phandle(words[at]) if at < len(words) else None
+        if target is not None:
+            return target
     return blob.parent[node]
+
+
+def window_bus(blob, master):
+    """The bus whose `dma-ranges` Linux takes for a master; the root where all are 1:1; or None where there is no window.
+
+    `of_dma_get_range`, begun at a host bridge for what is behind it, and else at the bus of the device. Where no bus has
+    more than an empty `dma-ranges`, Linux has no window, and the addresses are those of the root."""
+    node, found, one_to_one = master if blob.is_pci(master) else dma_parent(blob, master), False, False
+    while node is not None:
+        ranges = blob.value(node, "dma-ranges")
+        if ranges:
+            return node
+        if found and ranges is None:
+            return node if one_to_one and blob.parent[node] is None else None
+        one_to_one = one_to_one or ranges is not None
+        found, node = True, dma_parent(blob, node)
+    return None
+
+
+def is_master(blob, node):
+    """Whether a node is an enabled one that accesses memory by itself, by the signs of the manual page."""
+    if blob.parent[node] is None or not blob.enabled(node):
+        return False
+    if blob.is_pci(node):
+        return not blob.is_pci(blob.parent[node])
+    properties = blob.properties[node]
+    named = blob.base(node) in NAMES and "ranges" not in properties and "compatible" in properties and "reg" in properties
+    return named or any(sign in properties for sign in SIGNS)
+
+
+def wrong_masters(blob, agents, left_out):
+    """What is wrong with who is an agent of its own accesses, and who is a line."""
+    shown = {path.split(" ")[0] for path in agents.values()}
+    for node in blob.order:
+        path = blob.path[node]
+        if not is_master(blob, node):
+            continue
+        if (path in shown) == (path in left_out):
+            yield f"{path} has {'both an agent and a line' if path in shown else 'no agent and no line'}"
+        elif path in left_out and window_bus(blob, node) is not None and len(agents) < MOST_AGENTS \
+                and not blob.is_pci(dma_parent(blob, node)):
+            yield f"{path} has a window and no agent"
 
 
 def master_questions(blob, node):
     """Addresses of a master and where each is at the root, or None where it is nowhere."""
-    bus = master_bus(blob, node)
+    bus = window_bus(blob, node)
     space = "memory" if blob.is_pci(bus) else "plain"
-    place, spans = bus, [(0, TOP)]
-    while blob.parent[place] is not None and not blob.value(place, "dma-ranges"):
-        place = blob.parent[place]
-    if blob.parent[place] is not None:
-        spans = [(low, low + size - 1) for _in, low, _out, _to, size in blob.entries(place, "dma-ranges") if size]
+    spans = [(0, TOP)]
+    if blob.parent[bus] is not None:
+        spans = [(low, low + size - 1) for _in, low, _out, _to, size in blob.entries(bus, "dma-ranges") if size]
     asked = set(edges(spans)) | {(first + last) // 2 for first, last in spans} | {0x80000000, 0x1000}
     for address in sorted(asked):
         found = at_root(blob, bus, "dma-ranges", space, address, address)
@@ -281,7 +334,8 @@ def streams_of(blob, node):
     if len(iommus) != 1 or None in iommus:
         return None
     iommu = iommus.pop()
-    if not blob.enabled(iommu) or not SMMU.search(blob.value(iommu, "compatible") or b""):
+    compatible = blob.value(iommu, "compatible") or b""
+    if not blob.enabled(iommu) or not SMMU.search(compatible) and not ONE_TABLE.search(compatible):
         return None
     words = blob.cells(node, "iommu-map")
     if words:
@@ -289,11 +343,13 @@ def streams_of(blob, node):
         in_map = {number for at in range(0, len(words), 4) for number in range(words[at], words[at] + words[at + 3])}
         if blob.value(node, "iommus") or {number & mask for number in range(0x10000)} - in_map:
             return None
-    bus = node if blob.is_pci(node) else master_bus(blob, node)
+    bus = node if blob.is_pci(node) else dma_parent(blob, node)
     space = "memory" if blob.is_pci(bus) else "plain"
     passed = at_root(blob, bus, "dma-ranges", space, 0, INPUTS - 1)
     if any(first != root for first, root, _count in passed) or sum(count for *_ends, count in passed) != INPUTS:
         return None
+    if ONE_TABLE.search(compatible):
+        return iommu, {0}
     streams = set()
     for _iommu, numbers in found:
         mask = numbers[1] if len(numbers) > 1 else (blob.cells(iommu, "stream-match-mask") or [0])[0]
@@ -358,6 +414,9 @@ def questions(blob, description, behind):
     for name, path in agents.items():
         if not path.startswith("/cpus/") and path not in behind:
             node = blob.at[path.split(" ")[0]]
+            if window_bus(blob, node) is None:
+                yield f"resolve {name} 0;", {f"{path} has an agent and no window"}
+                continue
             for address, root in master_questions(blob, node):
                 due = expected(rows, names, root) if root is not None else set()
                 yield f"resolve {name} {address:#x};", due
@@ -374,7 +433,8 @@ def wrong(data, description, run):
     """What is wrong with a description of a blob: lines, none where all is right. ``run`` gives the program's output."""
     blob, shapes = Blob(data), {name: reach for name, reach, _port in UNIT.findall(description)}
     behind = {path: (agent, unit) for agent, path, unit in BEHIND.findall(description) if unit in shapes}
-    lines = list(wrong_units(blob, statements(description)[1], behind))
+    agents = statements(description)[1]
+    lines = list(wrong_units(blob, agents, behind)) + list(wrong_masters(blob, agents, set(LEFT_OUT.findall(description))))
     if lines or len(shapes) != len({unit for _agent, unit in behind.values()}):
         return lines or [f"units are {sorted(shapes)}"]
     asked = list(questions(blob, description, behind))

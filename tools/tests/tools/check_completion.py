@@ -1,6 +1,7 @@
 """The completion of bash: sourced in a shell, and asked for the words that it would offer."""
 
 import pathlib
+import re
 import tempfile
 
 from checks import TOOLS, outcome
@@ -14,7 +15,7 @@ words=($(complete -p "$1"))
 "${words[2]}" "$1" "${COMP_WORDS[COMP_CWORD]}" "${COMP_WORDS[COMP_CWORD - 1]}"
 printf '%s\n' "${COMPREPLY[@]}" | sort
 """
-IMPORT = ["--agent", "--explain", "--help", "--only", "--strict", "--views"]
+IMPORT = ["--agent", "--explain", "--help", "--interrupts", "--mtree", "--only", "--strict", "--views"]
 CASES = [
     (["netconf", ""], ["check", "demo", "run"]),
     (["netconf", "r"], ["run"]),
@@ -24,11 +25,11 @@ CASES = [
     (["netconf", "run", "<", ""], ["boards", "four.net"]),
     (["netconf", "run", "<", "fo"], ["four.net"]),
     (["netconf", "run", "<", "four.net", ">", "o"], ["old.txt"]),
-    (["netconf-draw", "-"], ["--agent", "--help", "--svg", "--views", "--write"]),
+    (["netconf-draw", "-"], ["--agent", "--compare", "--help", "--maps", "--svg", "--views", "--write"]),
     (["netconf-draw", "--v"], ["--views"]),
     (["netconf-draw", "--agent", ""], []),
     (["netconf-draw", "--svg", ""], ["boards", "four.net"]),
-    (["netconf-draw", "--svg", "four.net", ">", ""], ["board.dtb", "board.dts", "boards", "four.net", "old.txt"]),
+    (["netconf-draw", "--svg", "four.net", ">", ""], ["board.claims", "board.dtb", "board.dts", "boards", "four.net", "old.txt"]),
     (["netconf-lint", "--"], ["--help"]),
     (["netconf-lint", "four.net", ""], ["boards", "four.net"]),
     (["netconf-layout", "-"], ["--c", "--help", "--json", "--prefix"]),
@@ -40,6 +41,16 @@ CASES = [
     (["netconf-import", "-"], IMPORT),
     (["netconf-import", "--only", "/soc"], []),
     (["netconf-import", "--views", "b"], ["board.dtb", "board.dts", "boards"]),
+    (["netconf-query", ""], ["--help", "diff", "test", "where", "who"]),
+    (["netconf-query", "wh"], ["where", "who"]),
+    (["netconf-query", "who", ""], ["boards", "four.net"]),
+    (["netconf-query", "who", "--json", "f"], ["four.net"]),
+    (["netconf-query", "who", "four.net", ""], []),
+    (["netconf-query", "who", "four.net", "dram", "0", "for", ""], ["read", "write"]),
+    (["netconf-query", "diff", "four.net", ""], ["boards", "four.net"]),
+    (["netconf-query", "diff", "four.net", "four.net", ""], []),
+    (["netconf-query", "test", "four.net", ""], ["board.claims", "boards", "four.net"]),
+    (["netconf-query", "test", "-"], ["--help", "--json"]),
 ]
 """The words of a command line, the last one being completed, and what is offered."""
 
@@ -47,7 +58,7 @@ CASES = [
 def run(checks):
     """All of this part."""
     with tempfile.TemporaryDirectory() as folder:
-        for name in ("four.net", "old.txt", "board.dtb", "board.dts"):
+        for name in ("four.net", "old.txt", "board.dtb", "board.dts", "board.claims"):
             pathlib.Path(folder, name).touch()
         pathlib.Path(folder, "boards").mkdir()
         for words, wanted in CASES:
@@ -58,5 +69,5 @@ def run(checks):
         options = outcome("bash", "-c", f'source "$1"; declare -f {function}', "ask", TOOLS / "completion/netconf")[1]
         help_text = outcome(TOOLS / tool, "--help")[1]
         offered = [word.strip("'") for word in options.split() if word.strip("'").startswith("--")]
-        named = {word for word in help_text.replace(",", " ").replace("[", " ").replace("]", " ").split() if word.startswith("--")}
+        named = {word for word in re.sub(r"[][,;]", " ", help_text).split() if word.startswith("--")}
         checks.equal(sorted(set(offered)), sorted(named), f"completion: the options of {tool} are those of its help")

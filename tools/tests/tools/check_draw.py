@@ -116,6 +116,80 @@ def check_units(checks):
         checks.equal([t for t in texts if t.startswith("1 row")], ["1 row for writing" if options else "1 row"], f"draw: the access of a map {options}")
 
 
+BUS = """soc is map [0x0-0x3ffff to regs at 0x0 and devices at 0x0, 0x100000-0x10ffff to ram at 0x0];
+regs is accept [0x0-0x3ffff];
+devices is map [0x10000-0x1ffff to uart at 0x0, 0x30000-0x30fff to timer at 0x0];
+uart is accept [0x0-0xffff];
+timer is accept [0x0-0xfff];
+ram is accept [0x0-0xffff];
+agent cpu is over soc;
+agent dma is map [0x0-0xfff to iommu at 0x0];
+unit iommu kind pages page 12 slots 1 reach 32 to soc;
+begin; grant ring dma ram 0x1000 0x1000 for read;
+"""
+
+
+def check_bars(checks):
+    """A bus whose registers cover its window is one bar beside its devices, and is no name in their rows."""
+    status, picture, errors = outcome(DRAW, "--views", "--agent", "cpu", "-", text=BUS)
+    texts, _ = texts_of(picture)
+    checks.equal((status, errors, [text for text in texts if text.startswith("regs")], [text for text in texts if "@0x0" in text]),
+                 (0, "", ["regs@0x0"], ["regs@0x0", "uart@0x0", "timer@0x0", "ram@0x0"]), "draw: a bus is drawn once, as a bar")
+    titles = [element.text for element in tree.fromstring(picture).iter(f"{SVG}title")]
+    checks.that("0x10000-0x1ffff regs@0x10000, uart@0x0 (64 KiB)" in titles, "draw: a row with a bar has all its names in its title", titles)
+
+
+def check_comparison(checks):
+    """Two agents on one scale: their rows, a line for what they share by what both may do, and the same height for an address."""
+    status, picture, errors = outcome(DRAW, "--compare", "cpu", "dma", "-", text=BUS)
+    texts, _ = texts_of(picture)
+    titles = [element.text for element in tree.fromstring(picture).iter(f"{SVG}title")]
+    checks.equal((status, errors), (0, ""), "draw: a comparison")
+    checks.that({"cpu", "dma", "0x100000-0x10ffff", "0x0-0xfff", "ram@0x1000 (read)", "both read there, and not both write"} <= set(texts),
+                "draw: what a comparison says", texts)
+    checks.equal([title for title in titles if "both" in title], ["ram@0x1000-0x1fff: both read there, and not both write"], "draw: the lines of a comparison")
+    status, picture, _ = outcome(DRAW, "--compare", "cpu", "cpu", "-", text=BUS)
+    lines = [(line.get("y1"), line.get("y2")) for line in tree.fromstring(picture).iter(f"{SVG}line") if line.get("stroke-width")]
+    checks.that(status == 0 and len(lines) > 4 and all(first == second for first, second in lines[1:]), "draw: an agent beside itself has level lines", lines)
+    checks.equal(outcome(DRAW, "--compare", "cpu", "gpu", "-", text=BUS),
+                 (1, "", "netconf-draw: -: gpu is no agent; the agents are: cpu, dma\n"), "draw: a comparison with no agent")
+
+
+def check_links(checks):
+    """The box of an agent leads to its map, also from a table of agents."""
+    text = "".join(f"agent c[{number}] is over m;\n" for number in range(8)) + "m is accept [0x0-0xff]; agent d.x is map [0x0 to m at 0x1];\n"
+    _, dot, _ = outcome(DRAW, "--maps", "views.svg", "-", text=text)
+    _, picture, _ = outcome(DRAW, "--views", "-", text=text)
+    wanted = {f"map-c_5b{number}_5d" for number in range(8)} | {"map-d_2ex"}
+    checks.equal((set(re.findall(r'views\.svg#([^"]+)"', dot)), {element.get("id") for element in tree.fromstring(picture).iter(f"{SVG}g")} - {None}),
+                 (wanted, wanted), "draw: links from boxes to maps")
+    if checks.has("dot", "graphviz"):
+        _, picture, _ = outcome(DRAW, "--svg", "--maps", "views.svg", "-", text=text)
+        checks.equal(len(re.findall(r'xlink:href="views\.svg#map-', picture)), 9, "draw: links in the picture of Graphviz")
+
+
+def check_large(checks):
+    """What is too large to be looked at is drawn, and said; a very long name is cut in pictures and in messages."""
+    text = "".join(f"n{number} is accept [0x0-0xf];\na{number} is map [0x0-0xf to n{number} at 0x0] over n{number + 1};\n" for number in range(300)) + "n300 is accept [0x0];\n"
+    status, dot, errors = outcome(DRAW, "-", text=text)
+    checks.that(status == 0 and dot and errors == "netconf-draw: -: the graph has 601 boxes and 600 edges, too many to look at; --agent NAME draws "
+                "what one agent leads to, and netconf-query who says who sees an address\n", "draw: a note on a large net", errors)
+    text = ("bus is map [" + ", ".join(f"{32 * number:#x}-{32 * number + 15:#x} to m at {16 * number:#x}" for number in range(700))
+            + "]; m is accept [0x0-0xffff]; agent a is over bus;")
+    status, picture, errors = outcome(DRAW, "--views", "-", text=text)
+    checks.that(status == 0 and picture and errors.startswith("netconf-draw: -: the maps have 700 rows, too many"), "draw: a note on large maps", errors)
+    status, picture, errors = outcome(DRAW, "--compare", "a", "a", "-", text=text)
+    checks.that(status == 0 and picture and errors.startswith("netconf-draw: -: the comparison has 1400 rows, too many"), "draw: a note on a large comparison", errors)
+    name = "n" * 100000
+    for options in ([], ["--svg"], ["--views"], ["--compare", "a", "a"]):
+        if options != ["--svg"] or checks.has("dot", "graphviz"):
+            status, picture, errors = outcome(DRAW, *options, "-", text=f"{name} is accept [0x0-0xff]; agent a is over {name};")
+            checks.that((status, errors) == (0, "") and len(picture) < 40000, f"draw: a name of 100,000 letters {options}", (status, errors, len(picture)))
+    for text in (f"{name} is accept [0x1-0x0];", f"agent {name} is;"):
+        _, _, errors = outcome(DRAW, "--agent", name[:-1], "-", text=text)
+        checks.that(errors.startswith("netconf-draw: -: ") and len(errors) < 500, "draw: a message without the whole of a long name", errors[:600])
+
+
 def check_readable(checks):
     """Black text stands out on each colour, colours are those of the names, and the scale shows small beside large."""
     def part(value):
@@ -171,8 +245,12 @@ def run(checks):
         check_graph(checks, path)
         check_views(checks, path)
     check_units(checks)
+    check_bars(checks)
+    check_comparison(checks)
+    check_large(checks)
     check_readable(checks)
     check_stable(checks)
     with tempfile.TemporaryDirectory() as folder:
         check_board(checks, folder)
+        check_links(checks)
         check_troubles(checks, folder)

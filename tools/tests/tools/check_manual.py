@@ -16,7 +16,8 @@ NAMED = {
                        "NoAgent", "NoTarget", "NotAccepted", "NoPlacement"],
     "netconf-layout.1": ["--json", "--c", "--prefix", "--help", "NETCONF", "//@"],
     "netconf-dump2bin.1": ["--changes", "--dump", "--output", "--help", "fence"],
-    "netconf-draw.1": ["--svg", "--views", "--write", "--agent", "--help", "NETCONF"],
+    "netconf-draw.1": ["--svg", "--views", "--write", "--agent", "--compare", "--help", "NETCONF"],
+    "netconf-query.1": ["who", "where", "diff", "test", "--json", "--help", "NETCONF", "never", "only", "all", "alone", "same", "//!"],
 }
 
 
@@ -78,8 +79,22 @@ def check_page(checks):
     manual = (TOP / "docs/netconf-lint.1").read_text()
     path, output = re.search(r"^\$ netconf-lint (\S+)\n(.*?)^\.Ed", manual, re.S | re.M).groups()
     checks.equal(outcome(TOOLS / "netconf-lint", path, folder=TOP / "examples"), (1, output, ""), "manual: what netconf-lint prints")
+    check_query_page(checks)
     picture = outcome(TOOLS / "netconf-draw", "--views", "examples/first_board.net")[1]
     checks.that(picture == (TOP / "docs/pictures/first_board.views.svg").read_text(), "documents: the picture of the first board")
+
+
+def check_query_page(checks):
+    """What the page of netconf-query shows is what it prints; its claims stand in a file as the page has them."""
+    shown = re.findall(r"^\.Bd -literal.*?\n(.*?)^\.Ed", (TOP / "docs/netconf-query.1").read_text(), re.S | re.M)
+    command, output = shown[0].split("\n", 1)
+    checks.equal(outcome(TOOLS / "netconf-query", *command.split()[2:], folder=TOP / "examples"), (0, output, ""), "manual: what netconf-query who prints")
+    claims, rest = shown[1].split("$ cat first_board.claims\n")[1].split("$ netconf-query ")
+    command, output = rest.split("\n", 1)
+    with tempfile.TemporaryDirectory() as folder:
+        pathlib.Path(folder, "first_board.claims").write_text(claims)
+        pathlib.Path(folder, "first_board.net").write_text((TOP / "examples/first_board.net").read_text())
+        checks.equal(outcome(TOOLS / "netconf-query", *command.split(), folder=folder), (1, output, ""), "manual: what netconf-query test prints")
 
 
 def run(checks):

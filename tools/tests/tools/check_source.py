@@ -1,5 +1,7 @@
 """The small reader of the tools against the program: both expand a description to the same nodes, and read its commands alike."""
 
+import time
+
 import netconf_text
 from checks import descriptions
 from netconf_source import COMMANDS, Unreadable, commands_of, declarations_of, nodes_of
@@ -24,6 +26,9 @@ TEXTS = {
         "module m(node i); for i in 1..2; a[i] is over i; end; end; t is; use m(node t) as c;",
 }
 """Descriptions that ask how names, variables and arguments are replaced."""
+
+HEAD = "m is accept [0x0-0xffff]; agent a is over m;\n"
+"""A small description, to which much is added."""
 
 SCRIPT = ("for i in 0..1; agent a[i] is map [0x0-0xfff to u[i] at 0x0, 0x2000 to irt at i]; unit u[i] kind pages page 12 slots 1 reach 16 "
           "to m; end; m is accept [0x0-0xffff]; vectors v is accept [0x20-0x21]; unit irt kind vectors page 0 slots 2 reach 8 to v; "
@@ -63,6 +68,28 @@ def compare_commands(checks, what, text):
     checks.equal(answers[1], answers[0], f"the reader of the tools: the commands of {what}")
 
 
+LARGE = {
+    "commands that only ask": (HEAD + "begin;\n", "resolve a 0x10;\n", "", 2),
+    "commands that change tables": (HEAD + "begin;\n", "revoke x;\n", "", 6),
+    "a body that is never used": (HEAD + "module m();\n", "b is map [0x0-0xff to c at 0x0] over d;\n", "end;\n", 3),
+    "comments": (HEAD, "// a comment; begin;\n", "", 2),
+    "a long sum": (HEAD + "b is accept [0x0-0x0", "+0x1", "];\n", 5),
+    "a long sum of products": (HEAD + "b is accept [0x0-0x0", "+(1*2)", "];\n", 8),
+}
+"""Texts of 4 MiB: what stands before, what is repeated, what stands behind, and how many seconds the reader may take."""
+
+
+def check_speed(checks):
+    """Large texts are read in a few seconds: what nobody asks for is not read."""
+    for what, (head, part, tail, most) in LARGE.items():
+        text = head + part * ((4194304 - len(head) - len(tail)) // len(part)) + tail
+        before = time.thread_time()
+        nodes, commands = nodes_of(text), commands_of(text, ("grant", "route", "revoke"))
+        titles = {command.id for command in commands}
+        taken = time.thread_time() - before
+        checks.that("m" in nodes and titles <= {"x"} and taken < most, f"the reader of the tools: 4 MiB of {what} in {most} s", taken)
+
+
 def run(checks):
     """Compares the two over the texts above and the examples, and looks at the lines of a node and of commands."""
     for what, text in TEXTS.items():
@@ -70,6 +97,7 @@ def run(checks):
     for path in descriptions():
         compare(checks, path.name, path.read_text("latin-1"))
         compare_commands(checks, path.name, path.read_text("latin-1"))
+    check_speed(checks)
     compare_commands(checks, "a description with each command", SCRIPT)
     checks.equal({command.word for command in commands_of(SCRIPT)}, set(COMMANDS), "each command stands in a description")
     checks.equal([(c.line, c.id, c.access) for c in commands_of(SCRIPT)][:3], [(2, "", "write"), (3, "write", "read"), (3, "r", "")],

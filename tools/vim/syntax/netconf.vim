@@ -23,9 +23,12 @@ syntax match netconfOperator "[+*]\|\.\."
 
 syntax keyword netconfTodo contained TODO FIXME XXX
 syntax match netconfComment "//.*$" contains=netconfTodo,@Spell
+" A claim, which netconf-query judges.
+syntax match netconfClaim "//!.*$"
 
 highlight default link netconfDeclaration Statement
 highlight default link netconfPart Keyword
+highlight default link netconfClaim PreProc
 highlight default link netconfSort Type
 highlight default link netconfAccess Keyword
 highlight default link netconfCommand Function
