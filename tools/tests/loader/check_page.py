@@ -33,7 +33,7 @@ def check_shown(checks, folder):
     page = (TOP / "docs/tools.md").read_text()
     wanted = re.search(r"^\$ tools/netconf-layout (\S+)\n(.*?)^```", page, re.S | re.M)
     checks.equal(outcome(TOOLS / "netconf-layout", wanted[1]), (0, wanted[2], ""), "docs/tools.md: what netconf-layout prints")
-    wanted = re.search(r"^\$ netconf run < (\S+) \| tools/netconf-dump2bin > tables.bin\n\$ tools/netconf-dump2bin --changes tables.bin\n(.*?)^```",
+    wanted = re.search(r"^\$ \S*netconf run < (\S+) \| tools/netconf-dump2bin > tables.bin\n\$ tools/netconf-dump2bin --changes tables.bin\n(.*?)^```",
                        page, re.S | re.M)
     answers = outcome(os.environ["NETCONF"], "run", text=(TOP / wanted[1]).read_text())[1]
     checks.equal(outcome(TOOLS / "netconf-dump2bin", "--changes", text=answers), (0, wanted[2], ""), "docs/tools.md: what netconf-dump2bin prints")
