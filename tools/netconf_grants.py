@@ -3,7 +3,7 @@
 The program answers them; the notes on a refusal are read off the description, and say where to look."""
 
 from netconf_graph import covered, reached
-from netconf_source import commands_of, declarations_of, nodes_of
+from netconf_source import CommandRows, commands_of, declarations_of, nodes_of
 from netconf_text import Trouble, run
 
 CHANGES = ("grant", "route", "revoke")
@@ -31,14 +31,21 @@ def changes_of(text):
 
 def replies_to(text, commands):
     """What the program replies to commands that change tables, over the declarations of a description."""
-    asked = declarations_of(text) + "begin;\n" + "\n".join(command.source for command in commands) + "\n"
+    return replied(text, [(command.source, command.word, command.id) for command in commands])
+
+
+def replied(text, rows):
+    """The same, of commands as (source, word, id)."""
+    if not rows:
+        return []
+    asked = declarations_of(text) + "begin;\n" + "\n".join([source for source, _, _ in rows]) + "\n"
     _, output = run("run", asked.encode("latin-1"))
-    replies, titles = output.split("\n")[:-1], [f"{command.id} " for command in commands]
+    replies, titles = output.split("\n")[:-1], [title + " " for _, _, title in rows]
     if not all(map(str.startswith, replies, titles)):
-        command, reply = next((command, reply) for command, reply in zip(commands, replies) if not reply.startswith(f"{command.id} "))
-        raise Trouble(f"netconf printed no reply to {command}, but {reply[:60]!r}")
-    if len(replies) != len(commands):
-        raise Trouble(f"netconf replied to {len(replies)} of {len(commands)} commands")
+        source, reply = next((row[0], reply) for row, reply in zip(rows, replies) if not reply.startswith(row[2] + " "))
+        raise Trouble(f"netconf printed no reply to {source}, but {reply[:60]!r}")
+    if len(replies) != len(rows):
+        raise Trouble(f"netconf replied to {len(replies)} of {len(rows)} commands")
     return [reply[len(title):] for reply, title in zip(replies, titles)]
 
 
@@ -61,18 +68,19 @@ def refused_in(data, most):
 
     Behind the first `most` commands that are refused comes how many more there are."""
     text = data.decode("latin-1")
-    commands, live, found, net = changes_of(text), {}, 0, None
-    for command, reply in zip(commands, replies_to(text, commands) if commands else []):
+    commands, live, found, net = CommandRows(text, CHANGES), {}, 0, None
+    for index, reply in enumerate(replied(text, commands.rows)):
+        _, word, title = commands.rows[index]
         if reply.startswith("refused: "):
             found += 1
             if found <= most:
-                fault = reply.removeprefix("refused: ")
+                command, fault = commands.command(index), reply.removeprefix("refused: ")
                 net = net or Net(nodes_of(text))
                 yield command, fault, list(notes_of(command, fault.split(" ")[0], net, live))
-        elif command.word == "revoke":
-            live.pop(command.id)
+        elif word == "revoke":
+            live.pop(title)
         else:
-            live[command.id] = command
+            live[title] = commands.command(index)
     if found > most:
         yield found - most
 

@@ -631,10 +631,25 @@ def declarations_of(text):
     return read.plain[:read.end] if read.end < len(read.plain) else text
 
 
+class CommandRows:
+    """The commands of a description that begin with one of the words, in order, as (source, word, word after it); each
+    is made a `Command` where it is asked for, since a text may have half a million of which few are."""
+
+    def __init__(self, text, words):
+        self._read = Text(text)
+        wanted = re.compile(rf"(?<=;)[ \t\r\n]*(?P<whole>(?P<word>{'|'.join(words)})\b[ \t\r\n]*(?P<title>\w*)[^;]*;)", re.A)
+        self.rows = wanted.findall(self._read.plain, self._read.commands)
+        self._starts, self._hits = [], wanted.finditer(self._read.plain, self._read.commands)
+
+    def command(self, index):
+        """The command of a row."""
+        missing = index + 1 - len(self._starts)
+        self._starts += [hit.start(1) for hit in itertools.islice(self._hits, max(missing, 0))]
+        source, word, title = self.rows[index]
+        return Command(self._read, word, title if COMMANDS[word][0] else "", source, self._starts[index])
+
+
 def commands_of(text, words=tuple(COMMANDS)):
     """The commands of a description that begin with one of the words, in order."""
-    read = Text(text)
-    wanted = re.compile(rf"(?<=;)[ \t\r\n]*(?P<whole>(?P<word>{'|'.join(words)})\b[ \t\r\n]*(?P<title>\w*)[^;]*;)", re.A)
-    titled = {word for word, form in COMMANDS.items() if form[0]}
-    return [Command(read, word, title if word in titled else "", whole, hit.start(1))
-            for hit in wanted.finditer(read.plain, read.commands) for whole, word, title in (hit.groups(),)]
+    found = CommandRows(text, words)
+    return [found.command(index) for index in range(len(found.rows))]

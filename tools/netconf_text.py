@@ -6,6 +6,7 @@ import re
 import shutil
 import subprocess
 import sys
+import tempfile
 from dataclasses import dataclass
 from typing import NamedTuple
 
@@ -54,14 +55,21 @@ def program():
 
 
 def run(word, text):
-    """The status and the output of `netconf WORD` over a text of bytes."""
+    """The status and the output of `netconf WORD` over a text of bytes.
+
+    Both go through files: a pipe takes a few hundred bytes at a time, and the program writes each reply by itself."""
     try:
-        done = subprocess.run([program(), word], input=text, capture_output=True, check=False)
+        with tempfile.TemporaryFile() as source, tempfile.TemporaryFile() as sink:
+            source.write(text)
+            source.seek(0)
+            done = subprocess.run([program(), word], stdin=source, stdout=sink, stderr=subprocess.DEVNULL, check=False)
+            sink.seek(0)
+            output = sink.read()
     except OSError as error:
         raise Trouble(f"netconf does not start: {error.strerror}") from error
     if done.returncode not in (0, 4):
         raise Trouble(f"netconf {word} ended with status {done.returncode}")
-    return done.returncode, done.stdout.decode("latin-1")
+    return done.returncode, output.decode("latin-1")
 
 
 def read(name):
