@@ -58,7 +58,7 @@ class Board:
         if status != 0:
             raise Trouble(f"{name}: {shortened(self.net.strip(), 300)} (netconf-lint shows the place)")
         self.agents = AGENT.findall(self.net)
-        self._views = {}
+        self._views, self._refused = {}, []
 
     @functools.cached_property
     def script(self):
