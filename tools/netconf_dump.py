@@ -13,6 +13,13 @@ MOST_WORDS = 4
 STEP = 65536
 """How many lines of a dump are read at once."""
 
+MOST_BYTES = 1 << 30
+"""How many bytes are read of an image or of an output: the largest image has 256 MiB, and its dump somewhat more than twice
+as many."""
+
+MOST_DIGITS = 10
+"""How many digits a number of bytes has at most that is looked at."""
+
 
 @dataclass
 class Table:
@@ -25,6 +32,8 @@ class Table:
 
 def image_in(data, number=0):
     """The image that data is, or the dump of this number in it, counted from 1; 0 is the last."""
+    if len(data) > MOST_BYTES:
+        raise Trouble(f"more than {MOST_BYTES:,} bytes, and no more are read")
     if data.startswith(MARK):
         if number:
             raise Trouble("this is an image, and holds no dumps to choose from")
@@ -40,6 +49,8 @@ def image_in(data, number=0):
 
 def dumped(data, heading, line):
     """The bytes of the dump that a heading in a line begins: 32 in each line of hexadecimal, and fewer in the last."""
+    if len(heading[1]) > MOST_DIGITS:
+        raise Trouble(f"the dump of line {line} says a number of bytes of {len(heading[1]):,} digits")
     size, image = int(heading[1]), bytearray()
     at, width = heading.end(), 64 + len(heading[2])
     while len(image) < size:
@@ -114,6 +125,11 @@ def changes(before, after):
             raise Trouble(f"the images have the versions {old_version} and {version}: their words do not mean the same")
     if [(old.node, old.words, old.slots) for old in olds] != [(new.node, new.words, new.slots) for new in tables]:
         raise Trouble("the images are of two nets: their units are not the same")
+    return writes_between(olds, tables)
+
+
+def writes_between(olds, tables):
+    """The writes and fences between tables of the same shapes."""
     cleared = False
     for old, table in zip(olds, tables):
         for slot, was, _ in slots_that_differ(old, table):

@@ -1,8 +1,10 @@
 """Runs netconf and reads what it prints: refusals and views."""
 
+import functools
 import os
 import pathlib
 import re
+import resource
 import shutil
 import subprocess
 import sys
@@ -14,6 +16,12 @@ UNITS = ("B", "KiB", "MiB", "GiB", "TiB", "PiB")
 REFUSED = re.compile(r"refused: (?:line (?P<line>\d+) )?(?P<rule>\w+)(?: (?P<detail>.*))?\n?")
 VIEW = re.compile(r"view (?P<agent>\S+)(?: for (?:read|write))? rows (?P<rows>\d+)")
 ROW = re.compile(r"(?P<lo>0x[0-9a-f]+)-(?P<hi>0x[0-9a-f]+) (?P<names>.+)")
+
+MOST_BYTES = 1 << 22
+"""How many bytes a description may have."""
+
+MOST_PRINTED = {"check": 1 << 26, "run": 1 << 29}
+"""How many bytes of what the program prints are read, by its word: a small text can be one with a net of gigabytes."""
 
 
 class Trouble(Exception):
@@ -29,6 +37,28 @@ class Row(NamedTuple):
     def text(self):
         """The names as they are printed."""
         return ", ".join(f"{node}@{at:#x}" for node, at in self.names)
+
+
+class Piece(NamedTuple):
+    """Adjacent addresses of an agent that come to adjacent addresses of a node: `lo` to `hi`, and `at` for `lo`."""
+    lo: int
+    hi: int
+    node: str
+    at: int
+
+    @property
+    def at_last(self):
+        """The last address in the node."""
+        return self.at + self.hi - self.lo
+
+    def text(self):
+        """The piece as a row of a view."""
+        return f"{self.lo:#x}-{self.hi:#x} {self.node}@{self.at:#x}"
+
+    def within(self, first, last):
+        """The part of the piece that comes to addresses `first` to `last` of its node, or nothing."""
+        low, high = max(self.at, first), min(self.at_last, last)
+        return Piece(self.lo + low - self.at, self.lo + high - self.at, self.node, low) if low <= high else None
 
 
 @dataclass
@@ -54,30 +84,71 @@ def program():
     return found
 
 
-def run(word, text):
-    """The status and the output of `netconf WORD` over a text of bytes.
+def printed(word, text):
+    """The status of `netconf WORD` over a text of bytes, the first bytes that it prints, and whether these are all.
 
-    Both go through files: a pipe takes a few hundred bytes at a time, and the program writes each reply by itself."""
+    Both go through files: a pipe takes a few hundred bytes at a time, and the program writes each reply by itself. The
+    program is ended where it prints more than is read."""
+    most = MOST_PRINTED[word]
+    path = program()
     try:
         with tempfile.TemporaryFile() as source, tempfile.TemporaryFile() as sink:
             source.write(text)
             source.seek(0)
-            done = subprocess.run([program(), word], stdin=source, stdout=sink, stderr=subprocess.DEVNULL, check=False)
+            status = ended_status([path, word], source, sink, most + 1)
             sink.seek(0)
-            output = sink.read()
+            output = sink.read(most)
+            is_whole = not sink.read(1)
+    except OSError as error:
+        raise Trouble(f"the files for netconf cannot be written in {tempfile.gettempdir()}: {error.strerror}") from error
+    if is_whole and status not in (0, 4):
+        raise Trouble(f"netconf {word} ended with status {status}")
+    return status, output, is_whole
+
+
+def ended_status(command, source, sink, size):
+    """The status with which a command ends, between two files. A write that makes the second longer than `size` ends it."""
+    try:
+        process = subprocess.Popen(command, stdin=source, stdout=sink, stderr=subprocess.DEVNULL)
     except OSError as error:
         raise Trouble(f"netconf does not start: {error.strerror}") from error
-    if done.returncode not in (0, 4):
-        raise Trouble(f"netconf {word} ended with status {done.returncode}")
-    return done.returncode, output.decode("latin-1")
+    with process:
+        try:
+            soft, hard = resource.prlimit(process.pid, resource.RLIMIT_FSIZE)
+            least = min(limit for limit in (size, soft, hard) if limit != resource.RLIM_INFINITY)
+            resource.prlimit(process.pid, resource.RLIMIT_FSIZE, (least, hard))
+        except ProcessLookupError:
+            # It has ended already.
+            pass
+        return process.wait()
 
 
-def read(name):
-    """The bytes of a file, or those of standard input where the name is `-`."""
+def run(word, text):
+    """The status and the output of `netconf WORD` over a text of bytes."""
+    status, output, is_whole = printed(word, text)
+    if not is_whole:
+        raise Trouble(f"netconf {word} prints more than {MOST_PRINTED[word]:,} bytes, and no more are read")
+    return status, output.decode("latin-1")
+
+
+def refusal_in(text):
+    """The refusal of a description, or nothing where it is taken. Its net is not kept, and may be of any size."""
+    status, output, is_whole = printed("check", text)
+    if is_whole and status == 0 or not is_whole and not output.startswith(b"refused: "):
+        return None
+    return refusal_of(output.decode("latin-1"))
+
+
+def read(name, most=MOST_BYTES):
+    """The bytes of a file, or those of standard input where the name is `-`; of one with more bytes than `most` the first
+    `most` + 1, which are too many for whoever gets them."""
     if name == "-" and sys.stdin is None:
         raise Trouble("-: standard input is closed")
     try:
-        return sys.stdin.buffer.read() if name == "-" else pathlib.Path(name).read_bytes()
+        if name == "-":
+            return sys.stdin.buffer.read(most + 1)
+        with open(name, "rb") as file:
+            return file.read(most + 1)
     except OSError as error:
         raise Trouble(f"{name}: {error.strerror}") from error
 
@@ -102,6 +173,15 @@ def row_of(line):
     if row is None:
         raise Trouble(f"netconf printed no row, but {line[:60]!r}")
     return Row(int(row["lo"], 16), int(row["hi"], 16), tuple(name_of(name) for name in row["names"].split(", ")))
+
+
+row_at = functools.lru_cache(maxsize=None)(row_of)
+
+
+def pieces_of(line):
+    """The pieces of a row: one for each of its names."""
+    row = row_at(line)
+    return [Piece(row.lo, row.hi, node, at) for node, at in row.names]
 
 
 def views_of(output):
