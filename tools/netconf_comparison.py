@@ -8,8 +8,7 @@ from typing import NamedTuple
 
 from netconf_map import BOX, HOLE, LETTER, LINE, MARGIN, MONO, NAMES, ROWS, SANS, Picture, colour_of, height_of, shortened
 from netconf_source import TOP
-from netconf_text import size_text
-from netconf_views import row_at
+from netconf_text import row_at, size_text
 
 MIDDLE = 280
 """The room between the two columns, for the lines."""

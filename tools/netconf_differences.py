@@ -3,7 +3,8 @@
 from collections import defaultdict
 from typing import NamedTuple
 
-from netconf_views import ACCESSES, Piece, pieces_of
+from netconf_text import Piece, pieces_of
+from netconf_views import ACCESSES
 
 
 class Difference(NamedTuple):

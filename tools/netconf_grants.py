@@ -3,7 +3,7 @@
 The program answers them; the notes on a refusal are read off the description, and say where to look."""
 
 from netconf_graph import covered, reached
-from netconf_source import CommandRows, commands_of, declarations_of, nodes_of
+from netconf_source import CommandRows, commands_of, nodes_of, script_of
 from netconf_text import Trouble, run
 
 CHANGES = ("grant", "route", "revoke")
@@ -38,12 +38,11 @@ def replied(text, rows):
     """The same, of commands as (source, word, id)."""
     if not rows:
         return []
-    asked = declarations_of(text) + "begin;\n" + "\n".join([source for source, _, _ in rows]) + "\n"
-    _, output = run("run", asked.encode("latin-1"))
+    _, output = run("run", script_of(text, [source for source, _, _ in rows]).encode("latin-1"))
     replies, titles = output.split("\n")[:-1], [title + " " for _, _, title in rows]
     if not all(map(str.startswith, replies, titles)):
         source, reply = next((row[0], reply) for row, reply in zip(rows, replies) if not reply.startswith(row[2] + " "))
-        raise Trouble(f"netconf printed no reply to {source}, but {reply[:60]!r}")
+        raise Trouble(f"netconf printed no reply to {source[:60]}, but {reply[:60]!r}")
     if len(replies) != len(rows):
         raise Trouble(f"netconf replied to {len(replies)} of {len(rows)} commands")
     return [reply[len(title):] for reply, title in zip(replies, titles)]

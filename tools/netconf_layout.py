@@ -86,12 +86,20 @@ def checked_nodes(text):
     except Unreadable as error:
         raise Trouble(f"what netconf check takes is not read here: {error}") from error
     if lost:
-        raise Trouble(f"line {lost[0][0]}: no node has this note: {lost[0][1]}")
+        raise Trouble(f"line {lost[0][0]}: no node has this note: {read_note(lost[0][1])}")
     if list(nodes) != list(noted):
         raise Trouble("the nodes of the description are not found in what netconf check prints")
     for name, node in noted.items():
-        nodes[name].notes = node.notes
+        nodes[name].notes = [read_note(note) for note in node.notes]
     return list(nodes.values())
+
+
+def read_note(note):
+    """The text of a note, whose bytes are given as letters of Latin-1: in UTF-8, or else in Latin-1."""
+    try:
+        return note.encode("latin-1").decode("utf-8")
+    except UnicodeDecodeError:
+        return note
 
 
 def units_as_memories(nodes, viewed):
@@ -132,19 +140,31 @@ def rows_of(nodes, wanted):
     return rows
 
 
-def viewer_of(number, node, rows, nodes, places):
-    """A node as a viewer: rows that come to a unit are windows, and each name of any other row is a place."""
-    viewer = Viewer(number, node.name, node.notes)
+def seen_in(rows, name, nodes, units):
+    """The windows and the places in the rows of a node: rows that come to a unit are windows, and each name of any other row
+    is a place."""
+    windows, places = [], []
     for row in rows:
-        named = [(int(name[1:]), at) for name, at in row.names]
-        if any(nodes[other].role == "unit" for other, _ in named):
+        named = [(int(other[1:]), at) for other, at in row.names]
+        if any(other in units for other, _ in named):
             if len(named) > 1:
-                raise Trouble(f"{node.name}@{row.lo:#x} comes to a unit and to other names too")
-            viewer.windows.append(Window(row.lo, row.hi, places[named[0][0]], named[0][1]))
+                raise Trouble(f"{name}@{row.lo:#x} comes to a unit and to other names too")
+            windows.append(Window(row.lo, row.hi, units[named[0][0]], named[0][1]))
         else:
-            viewer.places += [Place(other, nodes[other].name, at, at + row.hi - row.lo, row.lo) for other, at in named]
-    viewer.places.sort(key=lambda place: (place.node, place.first, place.address))
-    return viewer
+            places += [Place(other, nodes[other].name, at, at + row.hi - row.lo, row.lo) for other, at in named]
+    places.sort(key=lambda place: (place.node, place.first, place.address))
+    return windows, places
+
+
+def viewers_in(nodes, wanted, units):
+    """Each of the wanted nodes as a viewer, by its number. Those that see the same share their windows and places."""
+    viewers, known = {}, {}
+    for number, rows in rows_of(nodes, wanted).items():
+        node = nodes[number]
+        if id(rows) not in known:
+            known[id(rows)] = rows, seen_in(rows, node.name, nodes, units)
+        viewers[number] = Viewer(number, node.name, node.notes, *known[id(rows)][1])
+    return viewers
 
 
 def layout_of(text):
@@ -155,8 +175,7 @@ def layout_of(text):
     agents = [number for number, node in enumerate(nodes) if node.role == "agent"]
     ports = {numbers[port] for number in units for port in nodes[number].ports}
     places = {number: place for place, number in enumerate(units)}
-    viewers = {number: viewer_of(number, nodes[number], rows, nodes, places)
-               for number, rows in rows_of(nodes, ports | set(agents)).items()}
+    viewers = viewers_in(nodes, ports | set(agents), places)
     found, at = [], 8
     for number in units:
         node = nodes[number]

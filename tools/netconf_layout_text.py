@@ -1,7 +1,10 @@
 """Prints a layout: as a table, as JSON, and as a header in C for the loader."""
 
+import collections
 import json
 import re
+
+from netconf_ending import plain
 
 LINE = 100
 """About how long a line of the header is at most."""
@@ -19,17 +22,16 @@ def table(layout):
                      [[unit.name, number, port.name, port.node, note_of(port)] for unit in layout.units
                       for number, port in enumerate(unit.ports)])
     parts += columns(["agent", "node", "note"], [[agent.name, agent.node, note_of(agent)] for agent in layout.agents])
-    parts += columns(["window of", "addresses", "unit", "input"],
-                     [[name, span(window), layout.units[window.unit].name, f"{window.input:#x}"]
-                      for name, viewer in viewers for window in viewer.windows])
-    parts += columns(["place of", "node", "its addresses", "at"],
-                     [[name, place.name, span(place), f"{place.address:#x}"] for name, viewer in viewers for place in viewer.places])
+    parts += grouped(["window of", "addresses", "unit", "input"], [(name, viewer.windows) for name, viewer in viewers],
+                     lambda window: (span(window), layout.units[window.unit].name, f"{window.input:#x}"))
+    parts += grouped(["place of", "node", "its addresses", "at"], [(name, viewer.places) for name, viewer in viewers],
+                     lambda place: (place.name, span(place), f"{place.address:#x}"))
     return "".join(parts)
 
 
 def note_of(node):
-    """The notes on a node in one line."""
-    return ", ".join(node.notes)
+    """The notes on a node in one line, without what a terminal would obey."""
+    return plain(", ".join(node.notes))
 
 
 def span(block):
@@ -46,22 +48,54 @@ def columns(titles, rows):
     return ["\n", *("  ".join(cell.ljust(width) for cell, width in zip(row, widths)).rstrip() + "\n" for row in rows)]
 
 
+def grouped(titles, groups, cells_of):
+    """A table whose rows are the items of lists, each after the name of its list. A list that stands under several names is
+    made text once."""
+    known = {id(items): [cells_of(item) for item in items] for _, items in groups}
+    named = [(name, id(items)) for name, items in groups if items]
+    if not named:
+        return []
+    first = max(map(len, [titles[0], *(name for name, _ in named)]))
+    widths = [max(map(len, column)) for column in zip(titles[1:], *(cells for rows in known.values() for cells in rows))]
+    form = "  ".join(f"{{:<{width}}}" for width in widths)
+    lines = {key: [form.format(*cells).rstrip() + "\n" for cells in rows] for key, rows in known.items()}
+    return ["\n", f"{titles[0]:<{first}}  {form.format(*titles[1:]).rstrip()}\n",
+            *(f"{name:<{first}}  {line}" for name, key in named for line in lines[key])]
+
+
 def as_json(layout):
-    """A layout as JSON. Addresses are texts in hexadecimal, as the program prints them; other numbers are numbers."""
-    units = [{"name": unit.name, "node": unit.node, "notes": unit.notes, "kind": unit.kind, "page": unit.page, "slots": unit.slots,
-              "reach": unit.reach, "words": unit.words, "from byte": unit.begins,
-              "ports": [viewed(port, layout) for port in unit.ports]} for unit in layout.units]
-    agents = [viewed(agent, layout) for agent in layout.agents]
-    return json.dumps({"nodes": layout.nodes, "bytes": layout.bytes, "units": units, "agents": agents}, indent=1) + "\n"
+    """A layout as JSON, with a line for each window and place. Addresses are texts in hexadecimal, as the program prints
+    them; other numbers are numbers."""
+    known = {}
+    units = [inner({"name": unit.name, "node": unit.node, "notes": unit.notes, "kind": unit.kind, "page": unit.page, "slots": unit.slots,
+                    "reach": unit.reach, "words": unit.words, "from byte": unit.begins},
+                   ports=listed([viewed(port, layout, known) for port in unit.ports])) for unit in layout.units]
+    agents = [viewed(agent, layout, known) for agent in layout.agents]
+    return inner({"nodes": layout.nodes, "bytes": layout.bytes}, units=listed(units), agents=listed(agents)) + "\n"
 
 
-def viewed(viewer, layout):
-    """An agent or a port as JSON has it."""
-    windows = [{"first": f"{window.first:#x}", "last": f"{window.last:#x}", "unit": layout.units[window.unit].name,
-                "input": f"{window.input:#x}"} for window in viewer.windows]
-    places = [{"node": place.node, "name": place.name, "first": f"{place.first:#x}", "last": f"{place.last:#x}",
-               "address": f"{place.address:#x}"} for place in viewer.places]
-    return {"name": viewer.name, "node": viewer.node, "notes": viewer.notes, "windows": windows, "places": places}
+def inner(head, **lists):
+    """An object as JSON, with lists whose texts are given after its other members."""
+    return json.dumps(head)[:-1] + "".join(f', "{name}": {text}' for name, text in lists.items()) + "}"
+
+
+def listed(texts):
+    """A list as JSON, with a line for each of its texts."""
+    return "[" + "".join(f"{',' * bool(place)}\n{text}" for place, text in enumerate(texts)) + "]"
+
+
+def viewed(viewer, layout, known):
+    """An agent or a port as JSON has it; `known` keeps the texts of lists, which viewers may share."""
+    if id(viewer.windows) not in known:
+        known[id(viewer.windows)] = listed([
+            f'{{"first": "{window.first:#x}", "last": "{window.last:#x}", "unit": "{layout.units[window.unit].name}", '
+            f'"input": "{window.input:#x}"}}' for window in viewer.windows])
+    if id(viewer.places) not in known:
+        known[id(viewer.places)] = listed([
+            f'{{"node": {place.node}, "name": "{place.name}", "first": "{place.first:#x}", "last": "{place.last:#x}", '
+            f'"address": "{place.address:#x}"}}' for place in viewer.places])
+    return inner({"name": viewer.name, "node": viewer.node, "notes": viewer.notes}, windows=known[id(viewer.windows)],
+                 places=known[id(viewer.places)])
 
 
 def header(layout, prefix):
@@ -73,15 +107,18 @@ def header(layout, prefix):
     lines += numbered(prefix, "agent", [(agent.name, agent.node, place) for place, agent in enumerate(layout.agents)])
     named = {place.node: place.name for viewer in viewers_of(layout) for place in viewer.places}
     lines += numbered(prefix, "node", [(named[node], node, node) for node in sorted(named)])
+    known = {}
     for viewer in viewers_of(layout):
-        lines += array("netconf_window", f"{prefix}_windows_{viewer.node}",
-                       [f"{number(w.first)}, {number(w.last)}, {number(w.input)}, {w.unit}" for w in viewer.windows])
-        lines += array("netconf_place", f"{prefix}_places_{viewer.node}",
-                       [f"{number(p.first)}, {number(p.last)}, {number(p.address)}, {p.node}" for p in viewer.places])
+        if id(viewer.windows) not in known:
+            known[id(viewer.windows)] = [f"{number(w.first)}, {number(w.last)}, {number(w.input)}, {w.unit}" for w in viewer.windows]
+        if id(viewer.places) not in known:
+            known[id(viewer.places)] = [f"{number(p.first)}, {number(p.last)}, {number(p.address)}, {p.node}" for p in viewer.places]
+        lines += array("netconf_window", f"{prefix}_windows_{viewer.node}", known[id(viewer.windows)])
+        lines += array("netconf_place", f"{prefix}_places_{viewer.node}", known[id(viewer.places)])
     for place, unit in enumerate(layout.units):
         lines += array("netconf_view", f"{prefix}_ports_{place}", [view(prefix, port) for port in unit.ports])
     lines += array("netconf_unit", f"{prefix}_units",
-                   [f"{quoted(unit.name)}, {quoted(note_of(unit))}, {prefix}_ports_{place}, {unit.slots}, {unit.node}, "
+                   [f"{quoted(unit.name)}, {quoted_notes(unit)}, {prefix}_ports_{place}, {unit.slots}, {unit.node}, "
                     f"NETCONF_{unit.kind.upper()}, {unit.page}, {unit.reach}, {len(unit.ports)}"
                     for place, unit in enumerate(layout.units)])
     lines += array("netconf_view", f"{prefix}_agents", [view(prefix, agent) for agent in layout.agents])
@@ -100,7 +137,8 @@ def viewers_of(layout):
 def numbered(prefix, what, items):
     """An enumeration of names with their numbers; a name that another has too is followed by the node's number."""
     words = [re.sub(r"\W+", "_", name).strip("_") for name, _, _ in items]
-    words = [word if words.count(word) == 1 else f"{word}_node_{node}" for word, (_, node, _) in zip(words, items)]
+    count = collections.Counter(words)
+    words = [word if count[word] == 1 else f"{word}_node_{node}" for word, (_, node, _) in zip(words, items)]
     if not items:
         return []
     return [f"enum {prefix}_{what} {{",
@@ -119,7 +157,7 @@ def view(prefix, viewer):
     """An agent or a port as an initializer."""
     windows, places = (f"{prefix}_{what}_{viewer.node}" if some else "NULL"
                        for what, some in (("windows", viewer.windows), ("places", viewer.places)))
-    return (f"{quoted(viewer.name)}, {quoted(note_of(viewer))}, {windows}, {places}, {len(viewer.windows)}, {len(viewer.places)}, "
+    return (f"{quoted(viewer.name)}, {quoted_notes(viewer)}, {windows}, {places}, {len(viewer.windows)}, {len(viewer.places)}, "
             f"{viewer.node}")
 
 
@@ -128,7 +166,12 @@ def number(value):
     return f"UINT64_C({value:#x})"
 
 
+def quoted_notes(node):
+    """The notes on a node as a string in C."""
+    return quoted(", ".join(node.notes))
+
+
 def quoted(text):
-    """A text of bytes as a string in C."""
-    plain = "".join(char if " " <= char <= "~" and char not in '"\\?' else f"\\{ord(char):03o}" for char in text)
-    return f'"{plain}"'
+    """A text as a string in C, whose bytes are in UTF-8."""
+    letters = "".join(chr(byte) if 32 <= byte <= 126 and byte not in b'"\\?' else f"\\{byte:03o}" for byte in text.encode("utf-8"))
+    return f'"{letters}"'

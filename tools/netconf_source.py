@@ -181,7 +181,7 @@ def notes_in(text):
         note = NOTE.fullmatch(hit.group())
         if note:
             line, seen = line + text.count("\n", seen, hit.start()), hit.start()
-            found.append((line, hit.start() - removed, note[1].rstrip()))
+            found.append((line, hit.start() - removed, note[1].rstrip(" \t")))
         removed += len(hit.group())
     return found
 
@@ -626,9 +626,15 @@ def node_named_by(note, nodes):
 
 
 def declarations_of(text):
-    """What of a description stands before `begin`; its comments are left out where commands follow."""
+    """What of a description stands before `begin`, without its comments."""
     read = Text(text)
-    return read.plain[:read.end] if read.end < len(read.plain) else text
+    return read.plain[:read.end]
+
+
+def script_of(text, sources):
+    """The declarations of a description with commands, each as it stands in a text. Nothing is put between them, so that
+    with the commands of the description alone it is no longer than the description."""
+    return declarations_of(text) + "begin;" + "".join(sources)
 
 
 class CommandRows:

@@ -4,48 +4,28 @@ The program is asked once for the views of all agents that are wanted. A row is 
 agents that see the same share their rows."""
 
 import functools
+import itertools
 import re
-from typing import NamedTuple
+from bisect import bisect_right
 
 from netconf_grants import changes_of
-from netconf_source import TOP, Unreadable, declarations_of, nodes_of
-from netconf_text import VIEW, Trouble, read, row_of, run, shortened
+from netconf_rows import Rows
+from netconf_source import TOP, Unreadable, nodes_of, script_of
+from netconf_text import MOST_BYTES, VIEW, Trouble, pieces_of, read, run, shortened
 
 ACCESSES = ("read", "write")
 AGENT = re.compile(r"^agent (\S+) is", re.M)
+NAME = re.compile(r"^(?:(?:agent|vectors|unit) )?(\S+) (?:is|kind)\b", re.M)
+"""The name of a node at the beginning of its line in a printed net."""
+
+MOST_AGENTS = 64
+"""How many agents a description may have."""
+
+MOST_ROWS = 1001
+"""How many rows in which two agents differ are found of each."""
+
 SHOWN = 12
 """How many names an error lists."""
-
-
-class Piece(NamedTuple):
-    """Adjacent addresses of an agent that come to adjacent addresses of a node: `lo` to `hi`, and `at` for `lo`."""
-    lo: int
-    hi: int
-    node: str
-    at: int
-
-    @property
-    def at_last(self):
-        """The last address in the node."""
-        return self.at + self.hi - self.lo
-
-    def text(self):
-        """The piece as a row of a view."""
-        return f"{self.lo:#x}-{self.hi:#x} {self.node}@{self.at:#x}"
-
-    def within(self, first, last):
-        """The part of the piece that comes to addresses `first` to `last` of its node, or nothing."""
-        low, high = max(self.at, first), min(self.at_last, last)
-        return Piece(self.lo + low - self.at, self.lo + high - self.at, self.node, low) if low <= high else None
-
-
-row_at = functools.lru_cache(maxsize=None)(row_of)
-
-
-def pieces_of(line):
-    """The pieces of a row: one for each of its names."""
-    row = row_at(line)
-    return [Piece(row.lo, row.hi, node, at) for node, at in row.names]
 
 
 class Board:
@@ -58,7 +38,7 @@ class Board:
         if status != 0:
             raise Trouble(f"{name}: {shortened(self.net.strip(), 300)} (netconf-lint shows the place)")
         self.agents = AGENT.findall(self.net)
-        self._views, self._refused = {}, []
+        self._views, self._known, self._rows, self._refused = {}, {}, {}, []
 
     @functools.cached_property
     def script(self):
@@ -66,7 +46,7 @@ class Board:
         source = self.text.decode("latin-1")
         try:
             changes = changes_of(source)
-            script = declarations_of(source) + "\nbegin;\n" + "".join(change.source + "\n" for change in changes)
+            script = script_of(source, [change.source for change in changes])
         except Unreadable as error:
             raise Trouble(f"{self.name}: the commands are not found: {error}") from error
         return script.encode("latin-1"), changes
@@ -77,10 +57,38 @@ class Board:
         self.views(self.agents[:1])
         return self._refused
 
+    @functools.cached_property
+    def _places(self):
+        """The place in the printed net at which the line of each node begins, by the nodes' names."""
+        return {hit[1]: hit.start() for hit in NAME.finditer(self.net)}
+
+    @functools.lru_cache(maxsize=None)
     def statement(self, name):
         """The printed statement of a node as it is read, or nothing where there is no such node."""
-        hit = re.search(rf"^(?:(?:agent|vectors) )?{re.escape(name)} is[^\n]*;$|^unit {re.escape(name)} kind [^\n]*;$", self.net, re.M)
-        return nodes_of(hit.group())[name] if hit else None
+        place = self._places.get(name)
+        return None if place is None else nodes_of(self.net[place:self.net.index("\n", place)])[name]
+
+    @functools.lru_cache(maxsize=None)
+    def accepts(self, name):
+        """The addresses that a node accepts, as sorted spans that do not touch: their first addresses and their last."""
+        firsts, lasts = [], []
+        for block in merged(self.statement(name).accepts):
+            if lasts and block.lo <= lasts[-1] + 1:
+                lasts[-1] = block.hi
+            else:
+                firsts.append(block.lo)
+                lasts.append(block.hi)
+        return firsts, lasts
+
+    def want_accepted(self, node, first, last, why):
+        """Refuses a node that there is not, and addresses that a node does not accept; `why` says what wants them."""
+        if self.statement(node) is None:
+            raise Trouble(f"{self.name}: there is no node {shown(node)}")
+        firsts, lasts = self.accepts(node)
+        at = bisect_right(firsts, first) - 1
+        free = first if at < 0 or lasts[at] < first else lasts[at] + 1
+        if free <= last:
+            raise Trouble(f"{self.name}: {shown(node)} does not accept {free:#x}: {why}")
 
     def want_agent(self, name):
         """Refuses a name that is no agent's."""
@@ -96,8 +104,8 @@ class Board:
         if missing:
             accesses = ACCESSES if "\nunit " in "\n" + self.net else ACCESSES[:1]
             script, changes = self.script
-            asked = "".join(f"view {agent} for {access};\n" for agent in missing for access in accesses)
-            _, output = run("run", script + asked.encode("latin-1"))
+            questions = [f"view {agent} for {access};" for agent in missing for access in accesses]
+            output = with_questions(self.name, script.decode("latin-1"), questions)
             self._read(output.split("\n"), changes, missing, accesses)
         return {(agent, access): self._views[agent, access] for agent in agents for access in ACCESSES}
 
@@ -112,9 +120,27 @@ class Board:
                 if hit is None or hit["agent"] != agent:
                     raise Trouble(f"{self.name}: netconf gave no view of {shown(agent)}: {shortened(''.join(lines[at:at + 1]), 60)!r}")
                 count = int(hit["rows"])
-                self._views[agent, access] = lines[at + 1:at + 1 + count]
+                rows = lines[at + 1:at + 1 + count]
+                self._views[agent, access] = self._known.setdefault(tuple(rows), rows)
                 at += 1 + count
             self._views.setdefault((agent, "write"), self._views[agent, "read"])
+
+    def rows(self, agent, access):
+        """The rows of an agent's view in an order in which they are found without going over all of them."""
+        lines = self.views([agent])[agent, access]
+        if id(lines) not in self._rows:
+            self._rows[id(lines)] = Rows(lines)
+        return self._rows[id(lines)]
+
+    @functools.lru_cache(maxsize=None)
+    def differing(self, one, other, access):
+        """The rows that one of two agents has and the other has not, each with its agent and the access; at most so many
+        of each as are ever looked at."""
+        mine, its = self.rows(one, access), self.rows(other, access)
+        rows = []
+        for agent, here, there in ((one, mine, its), (other, its, mine)) if mine is not its else ():
+            rows += itertools.islice(((agent, access, line) for line in here.lines if line not in there.members), MOST_ROWS)
+        return rows
 
     def pieces(self, agent, access, node):
         """The pieces of an agent's view that come to a node."""
@@ -151,14 +177,29 @@ class Board:
         return list(dict.fromkeys(found))
 
     def _lines_of(self, node):
-        """The rows of what the addresses of a node come to: of an agent, or of an agent that is put over it."""
+        """The rows of what the addresses of a node come to: of an agent by its views, of another by the view that it has
+        as an agent. Where the net has all the agents that it may have, its first is none in what is asked."""
         if node in self.agents:
             views = self.views([node])
             return views[node, "read"] + views[node, "write"]
-        status, output = run("run", f"{self.net}agent netconf_query is over {node};\nbegin; view netconf_query;\n".encode("latin-1"))
-        if status != 0:
+        if self.statement(node).role:
+            return []
+        place, net = self._places[node], self.net
+        first = self._places[self.agents[0]] if len(self.agents) >= MOST_AGENTS else None
+        for at in sorted((at for at in (place, first) if at is not None), reverse=True):
+            net = net[:at] + (f"agent {net[at:]}" if at == place else net[at:].removeprefix("agent "))
+        output = with_questions(self.name, net + "begin;", [f"view {node};"])
+        if not output.startswith(f"view {node} "):
             raise Trouble(f"{self.name}: {shown(node)} does not accept these addresses; name the node that does, or an agent")
         return output.splitlines()[1:]
+
+
+def with_questions(name, script, questions):
+    """What `netconf run` prints of a script and then of questions for views; `name` is what an error calls the script."""
+    text = (script + "".join(questions)).encode("latin-1")
+    if len(text) > MOST_BYTES:
+        raise Trouble(f"{name}: with the questions for views it is longer than a text may be, {MOST_BYTES:,} bytes")
+    return run("run", text)[1]
 
 
 def merged(blocks):

@@ -115,7 +115,7 @@ def check_header(checks, folder, path):
         command = [compiler, *words, "-Wall", "-Wextra", "-Wpedantic", "-Werror", f"-I{folder}", f"-I{LOADER}", HERE / "echo.c", "-o", folder / "echo"]
         checks.equal(built(command), "", f"layout: {compiler} compiles the header of {path.name}")
         done = subprocess.run([str(folder / "echo")], capture_output=True, check=False)
-        checks.equal(done.stdout.decode("latin-1"), echo(layout), f"layout: the header of {path.name} by {compiler}")
+        checks.equal(done.stdout.decode("utf-8"), echo(layout), f"layout: the header of {path.name} by {compiler}")
 
 
 def addresses_of(layout, chance):

@@ -8,8 +8,9 @@ import tempfile
 
 from checks import TOOLS, descriptions, outcome
 from netconf_differences import compared
+from netconf_text import pieces_of
 from netconf_text import run as program_output
-from netconf_views import ACCESSES, Board, pieces_of
+from netconf_views import ACCESSES, Board
 
 QUERY = TOOLS / "netconf-query"
 
@@ -71,9 +72,9 @@ ANSWERS = [
     (["test", "old.net"], 0, "claims that hold: 5, that do not: 0\n"),
     (["test", "new.net"], 1, BROKEN),
     (["test", "old.net", "more.claims"], 1,
-     "more.claims:2: does not hold: all cpu0 dram 0x0-0x40000000\n"
-     "more.claims:2: note: cpu0 for read: nothing is dram@0x40000000-0x40000000\n"
-     "more.claims:2: note: cpu0 for write: nothing is dram@0x40000000-0x40000000\n"
+     "more.claims:2: does not hold: all display dram 0x0-0x10000000\n"
+     "more.claims:2: note: display for read: nothing is dram@0x10000000-0x10000000\n"
+     "more.claims:2: note: display for write: nothing is dram@0x10000000-0x10000000\n"
      "more.claims:4: does not hold: alone dma dram 0x9000\n"
      "more.claims:4: note: cpu0 for read: 0x80009000-0x80009000 dram@0x9000\n"
      "more.claims:4: note: cpu0 for write: 0x80009000-0x80009000 dram@0x9000\n"
@@ -85,7 +86,7 @@ ANSWERS = [
 ]
 """Questions, each with its status and its answer, worked out by hand."""
 
-MORE = "//! dma dram@0x9000 at 0x0 for read\nall cpu0 dram 0x0-0x40000000\n// no claim\nalone dma dram 0x9000 // and why\nall dma dram 0xa000-0xafff\n"
+MORE = "//! dma dram@0x9000 at 0x0 for read\nall display dram 0x0-0x10000000\n// no claim\nalone dma dram 0x9000 // and why\nall dma dram 0xa000-0xafff\n"
 
 
 def check_answers(checks, folder):

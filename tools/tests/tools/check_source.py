@@ -102,6 +102,6 @@ def run(checks):
     checks.equal({command.word for command in commands_of(SCRIPT)}, set(COMMANDS), "each command stands in a description")
     checks.equal([(c.line, c.id, c.access) for c in commands_of(SCRIPT)][:3], [(2, "", "write"), (3, "write", "read"), (3, "r", "")],
                  "the lines, ids and accesses of commands")
-    checks.equal((commands_of("a is;"), declarations_of("a is; // begin\n")), ([], "a is; // begin\n"), "a description without commands")
+    checks.equal((commands_of("a is;"), declarations_of("a is; // begin\n")), ([], "a is; \n"), "a description without commands")
     node = nodes_of("module m();\na is\naccept [0x0,\n0x8-0x9];\nend;\n\nuse m()\nas x;")["x.a"]
     checks.equal((node.line, [b.line for b in node.accepts], node.uses), (2, [3, 4], ((7, "m", "x"),)), "the lines of a node")
