@@ -3,6 +3,8 @@ import argparse
 import os
 import sys
 
+from netconf_ending import ended, tell
+
 from .explain import explained
 from .fault import Fault
 from .mtree import read_machine
@@ -48,7 +50,7 @@ def refuse_conflicts(platform):
         sides = " and by ".join(entry.sources())
         shown.append(f"{text(entry.first, entry.last)} on {bus} is claimed by {sides}")
     if shown:
-        raise Fault("\n".join(shown))
+        raise Fault(*shown)
 
 
 def source_of(arguments):
@@ -85,36 +87,32 @@ def run(arguments):
         else:
             output = described(platform, source_of(arguments), arguments.views, agent)
     except Fault as fault:
-        raise Fault("\n".join(f"{arguments.tree}: {line}" for line in str(fault).split("\n"))) from None
+        raise Fault(*(f"{arguments.tree}: {line}" for line in fault.args)) from None
     return output, [f"{arguments.tree}: {note.path}: {note.reason}" for note in platform.notes]
 
 
 def say(lines):
     """Writes lines to standard error, each with the program's name."""
     for line in lines:
-        print(f"netconf-import: {line}", file=sys.stderr)
+        tell("netconf-import", line)
 
 
-def main(given):
-    """Runs the program over its words, and gives its status."""
-    for stream in (sys.stdout, sys.stderr):
-        stream.reconfigure(errors="backslashreplace")
+def convert(given):
+    """Writes what the words ask for, and gives the status."""
+    sys.stdout.reconfigure(errors="backslashreplace")
     try:
         output, notes = run(words().parse_args(given))
     except Fault as fault:
-        say(str(fault).split("\n"))
+        say(map(str, fault.args))
         return 1
     except RecursionError:
         say(["the tree is nested too deep"])
         return 1
     say(notes)
-    try:
-        sys.stdout.write(output)
-        sys.stdout.flush()
-    except BrokenPipeError:
-        os.dup2(os.open(os.devnull, os.O_WRONLY), sys.stdout.fileno())
-        return 1
-    except OSError as error:
-        say([f"standard output: {error.strerror}"])
-        return 1
+    sys.stdout.write(output)
     return 0
+
+
+def main(given):
+    """Runs the program over its words, and gives its status."""
+    return ended("netconf-import", lambda: convert(given), 1, Fault)

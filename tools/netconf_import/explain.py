@@ -1,4 +1,6 @@
 """Where a processor sees each device, step by step through the ``ranges`` of the buses."""
+from netconf_ending import plain
+
 from .spans import meet, text
 
 
@@ -7,9 +9,9 @@ def explained(platform):
     lines = []
     for device in platform.devices():
         register = device.register
-        lines.append(f"{device.net_node.source} ({device.net_node.name}), {register.size:#x} bytes")
+        lines.append(plain(f"{device.net_node.source} ({device.net_node.name}), {register.size:#x} bytes"))
         for steps in outward(device.bus, register.space, register.first, register.first + register.size - 1):
-            lines.append("    " + ", ".join(steps))
+            lines.append("    " + plain(", ".join(steps)))
     return "\n".join(lines) + "\n" if lines else ""
 
 

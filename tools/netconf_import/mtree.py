@@ -9,15 +9,15 @@ import re
 from dataclasses import dataclass, field
 
 from .fault import Fault
-from .naming import word
+from .naming import Names, word
 from .net import Claim, Entry, NetNode
 from .platform import MAX_AGENTS, MAX_NODES, MAX_PARTS
 from .spans import TOP, text, union
 from .tree import read_bytes
 
-VIEW = re.compile(r"^FlatView #(\d+)\s*$")
+VIEW = re.compile(r"^FlatView #([0-9]{1,9})$")
 SPACE = re.compile(r'^ AS "(.*)", root: (.*)$')
-ROW = re.compile(r"^  ([0-9a-f]{16})-([0-9a-f]{16}) \(prio (-?\d+), ([^)]+)\): (.*?)(?: @([0-9a-f]{16}))?(?: KVM)?\s*$")
+ROW = re.compile(r"^  ([0-9a-f]{16})-([0-9a-f]{16}) \(prio (-?\d+), ([^)]+)\): (.*?)(?: @([0-9a-f]{16}))?(?: KVM)?$")
 MEMORY = ("ram", "rom", "romd", "ramd", "nv-ram", "nv-rom", "nv-romd")
 """The sorts of regions that are memory, of which rows with one name are one."""
 
@@ -34,7 +34,7 @@ class FlatView:
 def flat_views(data, path):
     """The flat views of a text; lines that are none of theirs are passed over."""
     views = []
-    for line in data.decode("utf-8", "replace").replace("\r", "").split("\n"):
+    for line in map(str.rstrip, data.decode("utf-8", "replace").replace("\r", "").split("\n")):
         view, space, row = VIEW.match(line), SPACE.match(line), ROW.match(line)
         if view:
             views.append(FlatView(int(view[1])))
@@ -54,7 +54,7 @@ class Machine:
 
     def __init__(self, views):
         self.regions, self.maps, self.agents, self.notes = {}, [], [], []
-        self.taken = set()
+        self.names = Names()
         for view in views:
             if view.rows:
                 self._read(view)
@@ -66,7 +66,7 @@ class Machine:
     def _read(self, view):
         """Makes the nodes of a flat view and the agents over it."""
         node = NetNode(None, "", f"FlatView #{view.number}")
-        node.name = self._free(f"view_{view.number}")
+        node.name = self.names.free(f"view_{view.number}")
         for first, last, sort, name, offset in view.rows:
             if first > TOP or offset + last - first > TOP:
                 self.notes.append(f"FlatView #{view.number}: {text(first, last)} {name} has addresses past {TOP:#x}")
@@ -81,7 +81,7 @@ class Machine:
                 self.notes.append(f"address space {space}: the description has all the agents that it may have")
                 continue
             agent = NetNode(None, "", f'address space "{space}"', over=node, agent=True)
-            agent.name = self._free(word(space))
+            agent.name = self.names.free(word(space))
             self.agents.append(agent)
 
     def _region(self, sort, name, base):
@@ -91,14 +91,6 @@ class Machine:
             self.regions[key] = NetNode(None, "", f"{name}, {sort}")
         return self.regions[key]
 
-    def _free(self, wanted):
-        """A name that nothing else has."""
-        name, number = wanted, 2
-        while name in self.taken:
-            name, number = f"{wanted}_{number}", number + 1
-        self.taken.add(name)
-        return name
-
     def _name_regions(self):
         """Names the regions: those that share a name by where they begin."""
         count = {}
@@ -106,7 +98,7 @@ class Machine:
             count[name] = count.get(name, 0) + 1
         for (name, base), node in self.regions.items():
             place = f"_{base:x}" if count[name] > 1 and base is not None and base >= 0 else ""
-            node.name = self._free(word(name) + place)
+            node.name = self.names.free(word(name) + place)
             node.accept = union(node.accept)
 
     def _check_limits(self):

@@ -24,6 +24,24 @@ def word(text):
     return plain + "_" if plain in RESERVED else plain
 
 
+class Names:
+    """Names that are given out, each once: where one is taken a number follows it, from 2 on."""
+
+    def __init__(self):
+        self.taken, self._next = set(), {}
+
+    def free(self, wanted):
+        """A name that nothing else has. Numbers that were tried for a name are not tried again."""
+        name = wanted
+        if name in self.taken:
+            number = self._next.get(wanted, 2)
+            while (name := f"{wanted}_{number}") in self.taken:
+                number += 1
+            self._next[wanted] = number + 1
+        self.taken.add(name)
+        return name
+
+
 def register_suffixes(node, count):
     """What tells apart the ``count`` windows of a node: nothing for one, else their names, or their numbers."""
     if count == 1:
@@ -39,15 +57,9 @@ def assign(tree, net_nodes):
     """Gives each node of the description its name; all names differ."""
     tree_nodes = list(dict.fromkeys(node.tree_node for node in net_nodes))
     bases = _bases(tree, tree_nodes)
-    taken = set()
+    names = Names()
     for node in net_nodes:
-        name = wanted = bases[node.tree_node] + _after(node.suffix)
-        number = 2
-        while name in taken:
-            name = f"{wanted}_{number}"
-            number += 1
-        taken.add(name)
-        node.name = name
+        node.name = names.free(bases[node.tree_node] + _after(node.suffix))
 
 
 def _after(suffix):
@@ -69,10 +81,11 @@ def _bases(tree, tree_nodes):
         for name, group in groups.items():
             if len(group) == 1 and name not in used:
                 bases[group[0]] = name
+                used.add(name)
             elif depth < max(len(list(node.above())) for node in group):
                 waiting += group
             else:
-                _number(group, name, bases)
+                _number(group, name, bases, used)
         depth += 1
     return bases
 
@@ -85,11 +98,12 @@ def _base(tree, node, depth):
     return word("_".join(reversed([node.name] + above)))
 
 
-def _number(group, name, bases):
+def _number(group, name, bases, used):
     """Names that nothing else tells apart, by numbers."""
     number = 1
     for node in group:
-        while f"{name}_{number}" in bases.values():
+        while f"{name}_{number}" in used:
             number += 1
         bases[node] = f"{name}_{number}"
+        used.add(bases[node])
         number += 1
