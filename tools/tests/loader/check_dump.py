@@ -27,6 +27,22 @@ def page_example():
     return text, bytes.fromhex(dump.split("\n", 3)[3])
 
 
+def check_output(checks, folder, first, answers):
+    """A file that is written over may be one that is read, keeps its mode, and stays as it was where an input is no image."""
+    path = folder / "over"
+    path.write_bytes(first.read_bytes())
+    path.chmod(0o640)
+    checks.equal(outcome(TOOLS / "netconf-dump2bin", "--changes", "--output", path, path, answers), (0, "", ""), "dump2bin: over an input")
+    checks.equal((path.read_text(), path.stat().st_mode & 0o777), (CHANGES, 0o640), "dump2bin: what stands there, and its mode")
+    for words in (["--changes", "--output", path, first, folder / "none"], ["--changes", "--output", path, first, path], ["--output", path, folder / "none"]):
+        checks.equal(outcome(TOOLS / "netconf-dump2bin", *words)[0], 1, f"dump2bin: {words[-1].name} is no image")
+        checks.equal(path.read_text(), CHANGES, "dump2bin: and what stood there stays")
+    checks.equal(outcome(TOOLS / "netconf-dump2bin", "--changes", "--output", "/dev/stdout", first), (0, FIRST, ""), "dump2bin: a device is written as it is")
+    status, _, errors = outcome(TOOLS / "netconf-dump2bin", "--output", "/dev/full", first)
+    checks.equal((status, errors), (1, "netconf-dump2bin: /dev/full: No space left on device\n"), "dump2bin: a full disk")
+    checks.equal([name.name for name in folder.glob(".netconf-*")], [], "dump2bin: nothing is left beside it")
+
+
 def run_checks(checks, folder, _):
     """All of this part."""
     text, image = page_example()
@@ -61,6 +77,11 @@ def run_checks(checks, folder, _):
         words = ["--dump", "3"] if "dump 3" in message else []
         status, shown, errors = outcome(TOOLS / "netconf-dump2bin", *words, path)
         checks.equal((status, shown, errors), (1, "", f"netconf-dump2bin: {path}: {message}\n"), f"dump2bin: {message}")
+    path = folder / "digits"
+    path.write_text(f"dump bytes {'9' * 5000}\n444e494d\n")
+    checks.equal(outcome(TOOLS / "netconf-dump2bin", path), (1, "", f"netconf-dump2bin: {path}: the dump of line 1 says a number of bytes of 5,000 digits\n"),
+                 "dump2bin: a heading with 5,000 digits")
+    check_output(checks, folder, first, answers)
     other = folder / "other.bin"
     other.write_bytes(image.replace(b"\4\0\0\0", b"\3\0\0\0", 1)[:40] + image[48:])
     status, _, errors = outcome(TOOLS / "netconf-dump2bin", "--changes", first, other)

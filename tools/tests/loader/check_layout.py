@@ -97,6 +97,15 @@ def check_forms(checks, folder):
     wanted = ["#ifndef NETCONF_LAYOUT_MY_BOARD_H", "    my_board_agent_a_b_node_1 = 0,", "    my_board_agent_a_b_node_2 = 1",
               'static const struct netconf_layout my_board = {my_board_units, my_board_agents, 2, 2};']
     checks.equal([line for line in wanted if line not in lines.splitlines()], [], "layout: names in the header")
+    source.write_text("dram is accept [0x0-0xff]; //@ caf\u00e9 \u00e0\nagent a is over dram;", "utf-8")
+    checks.that("caf\u00e9 \u00e0\n" not in outcome(TOOLS / "netconf-layout", source)[1], "layout: a node that is no agent has no note here")
+    source.write_text("dram is accept [0x0-0xff];\nagent a is over dram; //@ caf\u00e9 \u00e0", "utf-8")
+    checks.that("a      1     caf\u00e9 \u00e0\n" in outcome(TOOLS / "netconf-layout", source)[1], "layout: a note in UTF-8")
+    shown = json.loads(outcome(TOOLS / "netconf-layout", "--json", source)[1])
+    checks.equal(shown["agents"][0]["notes"], ["caf\u00e9 \u00e0"], "layout: a note in UTF-8, as JSON")
+    checks.that("caf\\303\\251 \\303\\240" in outcome(TOOLS / "netconf-layout", "--c", source)[1], "layout: a note in UTF-8, in the header")
+    missing = folder / "missing.net"
+    checks.equal(outcome(TOOLS / "netconf-layout", missing)[2], f"netconf-layout: {missing}: No such file or directory\n", "layout: a file is named once")
     for words, status, message in (
             (("--prefix", "1x", source), 2, "'1x' is no name in C that begins with a letter"),
             ((EXAMPLES / "looping_bridge.net",), 1, "refused: Loop bus@0x80000000 -> bridge@0x0 -> bus@0x80000000"),

@@ -181,10 +181,17 @@ def check_troubles(checks, folder):
         (["test", "old.net", "wrong.claims"], "wrong.claims:1: no claim: 'cpu0 sees all' (netconf-query(1) has their forms)"),
         (["test", "old.net", "gpu.claims"], "gpu.claims:2: old.net: gpu is no agent; the agents are: cpu0, cpu1, display, dma"),
         (["test", "old.net", "none.claims"], "none.claims: No such file or directory"),
+        (["where", "old.net", "cpu0", "bus", "0x10000000"], "old.net: bus does not accept 0x10000000: name the node that does, or ask `who`"),
     ]
     for name, text in (("refused.net", "a is;\na is;\n"), ("bare.net", "agent a is;\n"), ("wrong.claims", "cpu0 sees all\n"),
                        ("gpu.claims", "\nnever gpu dram 0x0\n")):
         pathlib.Path(folder, name).write_text(text)
+    for claim, node, free in (("never cpu0 bus 0x80000000-0x80ffffff", "bus", 0x80000000), ("only cpu0 dram 0x3fffffff-0x40000000", "dram", 0x40000000),
+                              ("all cpu0 uart 0x1000", "uart", 0x1000), ("alone cpu0 iommu 0x0", "iommu", 0), ("cpu0 uart@0x1000 at 0x10001000", "uart", 0x1000),
+                              ("cpu0 bus at 0x0 for read", "bus", 0)):
+        name = f"{claim.split()[0]}_{node}.claims"
+        pathlib.Path(folder, name).write_text(f"// It would hold, or never hold, whatever the agent sees.\n{claim}\n")
+        troubles.append((["test", "old.net", name], f"{name}:2: old.net: {node} does not accept {free:#x}: a claim is on addresses that a node accepts"))
     for words, error in troubles:
         checks.equal(outcome(QUERY, *words, folder=folder), (2, "", f"netconf-query: {error}\n"), f"query: {' '.join(words)}")
     status, output, errors = outcome(QUERY, folder=folder)
