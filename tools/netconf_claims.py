@@ -16,15 +16,13 @@ from typing import NamedTuple
 
 from netconf_source import TOP
 from netconf_text import Trouble, pieces_of
-from netconf_views import ACCESSES, number, span
+from netconf_views import ACCESSES, MOST_ROWS, number, span
 
 ROWS = 8
 """How many rows are shown of what breaks a claim."""
 
-MOST_ROWS = 1000
-"""How many rows that break a claim are looked for."""
-
 WHY = "a claim is on addresses that a node accepts"
+"""Why a claim on other addresses is refused."""
 
 
 class Claim(NamedTuple):

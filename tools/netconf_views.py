@@ -21,8 +21,8 @@ NAME = re.compile(r"^(?:(?:agent|vectors|unit) )?(\S+) (?:is|kind)\b", re.M)
 MOST_AGENTS = 64
 """How many agents a description may have."""
 
-MOST_ROWS = 1001
-"""How many rows in which two agents differ are found of each."""
+MOST_ROWS = 1000
+"""How many rows that break a claim are looked for."""
 
 SHOWN = 12
 """How many names an error lists."""
@@ -134,12 +134,12 @@ class Board:
 
     @functools.lru_cache(maxsize=None)
     def differing(self, one, other, access):
-        """The rows that one of two agents has and the other has not, each with its agent and the access; at most so many
-        of each as are ever looked at."""
+        """The rows that one of two agents has and the other has not, each with its agent and the access; of each at most
+        one more than are looked for."""
         mine, its = self.rows(one, access), self.rows(other, access)
         rows = []
         for agent, here, there in ((one, mine, its), (other, its, mine)) if mine is not its else ():
-            rows += itertools.islice(((agent, access, line) for line in here.lines if line not in there.members), MOST_ROWS)
+            rows += itertools.islice(((agent, access, line) for line in here.lines if line not in there.members), MOST_ROWS + 1)
         return rows
 
     def pieces(self, agent, access, node):
