@@ -4,6 +4,7 @@ import os
 import sys
 
 from netconf_ending import ended, tell
+from netconf_version import add_version
 
 from .explain import explained
 from .fault import Fault
@@ -40,6 +41,7 @@ def words():
     parser.add_argument("--explain", action="store_true",
                         help="write instead where a processor sees each device, step by step")
     parser.add_argument("--strict", action="store_true", help="refuse a tree in which two devices claim one address")
+    add_version(parser)
     return parser
 
 

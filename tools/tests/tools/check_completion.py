@@ -15,7 +15,7 @@ words=($(complete -p "$1"))
 "${words[2]}" "$1" "${COMP_WORDS[COMP_CWORD]}" "${COMP_WORDS[COMP_CWORD - 1]}"
 printf '%s\n' "${COMPREPLY[@]}" | sort
 """
-IMPORT = ["--agent", "--explain", "--help", "--interrupts", "--mtree", "--only", "--strict", "--views"]
+IMPORT = ["--agent", "--explain", "--help", "--interrupts", "--mtree", "--only", "--strict", "--version", "--views"]
 CASES = [
     (["netconf", ""], ["check", "demo", "run"]),
     (["netconf", "r"], ["run"]),
@@ -25,14 +25,14 @@ CASES = [
     (["netconf", "run", "<", ""], ["boards", "four.net"]),
     (["netconf", "run", "<", "fo"], ["four.net"]),
     (["netconf", "run", "<", "four.net", ">", "o"], ["old.txt"]),
-    (["netconf-draw", "-"], ["--agent", "--compare", "--help", "--maps", "--svg", "--views", "--write"]),
-    (["netconf-draw", "--v"], ["--views"]),
+    (["netconf-draw", "-"], ["--agent", "--compare", "--help", "--maps", "--svg", "--version", "--views", "--write"]),
+    (["netconf-draw", "--vi"], ["--views"]),
     (["netconf-draw", "--agent", ""], []),
     (["netconf-draw", "--svg", ""], ["boards", "four.net"]),
     (["netconf-draw", "--svg", "four.net", ">", ""], ["board.claims", "board.dtb", "board.dts", "boards", "four.net", "old.txt"]),
-    (["netconf-lint", "--"], ["--help"]),
+    (["netconf-lint", "--"], ["--help", "--version"]),
     (["netconf-lint", "four.net", ""], ["boards", "four.net"]),
-    (["netconf-layout", "-"], ["--c", "--help", "--json", "--prefix"]),
+    (["netconf-layout", "-"], ["--c", "--help", "--json", "--prefix", "--version"]),
     (["netconf-layout", "--c", "--prefix", ""], []),
     (["netconf-layout", "--c", ""], ["boards", "four.net"]),
     (["netconf-dump2bin", "--changes", "o"], ["old.txt"]),
@@ -41,7 +41,7 @@ CASES = [
     (["netconf-import", "-"], IMPORT),
     (["netconf-import", "--only", "/soc"], []),
     (["netconf-import", "--views", "b"], ["board.dtb", "board.dts", "boards"]),
-    (["netconf-query", ""], ["--help", "diff", "test", "where", "who"]),
+    (["netconf-query", ""], ["--help", "--version", "diff", "test", "where", "who"]),
     (["netconf-query", "wh"], ["where", "who"]),
     (["netconf-query", "who", ""], ["boards", "four.net"]),
     (["netconf-query", "who", "--json", "f"], ["four.net"]),

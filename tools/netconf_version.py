@@ -1,0 +1,36 @@
+"""The version of the tools, which stands in the file VERSION, and the option that prints it."""
+
+import argparse
+import os
+import pathlib
+import sys
+
+HERE = pathlib.Path(__file__).resolve().parent
+
+
+def version():
+    """The version: of the file beside this module, as it is installed, or of the one at the top of the tree."""
+    for path in (HERE / "VERSION", HERE.parent / "VERSION"):
+        try:
+            return path.read_text(encoding="ascii").strip()
+        except OSError:
+            continue
+    return "of no known version: the file VERSION is missing"
+
+
+class PrintVersion(argparse.Action):
+    """Prints the name of the tool and its version, and stops; status 1 where standard output takes no line."""
+
+    def __call__(self, parser, namespace, values, option_string=None):
+        try:
+            print(parser.prog, version(), flush=True)
+        except OSError as error:
+            # Python writes what is left once more when it ends, and that must not fail again.
+            os.dup2(os.open(os.devnull, os.O_WRONLY), sys.stdout.fileno())
+            parser.exit(1, f"{parser.prog}: standard output: {error.strerror}\n")
+        parser.exit()
+
+
+def add_version(parser):
+    """Gives a reader of words the option --version."""
+    parser.add_argument("--version", action=PrintVersion, nargs=0, help="print the version, and stop")
