@@ -12,12 +12,13 @@ NAMED = {
     "netconf.1": ["run", "check", "demo", "accept", "map", "over", "agent", "vectors", "unit", "module", "use", "for", "begin", "resolve", "lookup",
                   "view", "dump", "split", "absorb", "grant", "route", "revoke", "IdUsed", "NoAgent", "NoTarget", "NotAccepted", "BookFull",
                   "NoPlacement", "NoGrant"],
-    "netconf-lint.1": ["--help", "NETCONF", "Overlap", "Range", "Repeat", "VectorSpace", "Loop", "Deep", "Duplicate", "warning", "IdUsed",
+    "netconf-lint.1": ["--help", "--version", "NETCONF", "Overlap", "Range", "Repeat", "VectorSpace", "Loop", "Deep", "Duplicate", "warning", "IdUsed",
                        "NoAgent", "NoTarget", "NotAccepted", "NoPlacement"],
-    "netconf-layout.1": ["--json", "--c", "--prefix", "--help", "NETCONF", "//@"],
-    "netconf-dump2bin.1": ["--changes", "--dump", "--output", "--help", "fence"],
-    "netconf-draw.1": ["--svg", "--views", "--write", "--agent", "--compare", "--help", "NETCONF"],
-    "netconf-query.1": ["who", "where", "diff", "test", "--json", "--help", "NETCONF", "never", "only", "all", "alone", "same", "//!"],
+    "netconf-layout.1": ["--json", "--c", "--prefix", "--help", "--version", "NETCONF", "//@"],
+    "netconf-dump2bin.1": ["--changes", "--dump", "--output", "--help", "--version", "fence"],
+    "netconf-import.1": ["--agent", "--explain", "--help", "--interrupts", "--mtree", "--only", "--strict", "--version", "--views"],
+    "netconf-draw.1": ["--svg", "--views", "--write", "--agent", "--compare", "--help", "--version", "NETCONF"],
+    "netconf-query.1": ["who", "where", "diff", "test", "--json", "--help", "--version", "NETCONF", "never", "only", "all", "alone", "same", "//!"],
 }
 
 
@@ -97,9 +98,18 @@ def check_query_page(checks):
         checks.equal(outcome(TOOLS / "netconf-query", *command.split(), folder=folder), (1, output, ""), "manual: what netconf-query test prints")
 
 
+def check_see_also(checks):
+    """Each page names all others under SEE ALSO."""
+    pages = sorted((TOP / "docs").glob("*.1"))
+    for page in pages:
+        named = re.findall(r"^\.\w\w (netconf\S*) Ns", page.read_text().split(".Sh SEE ALSO\n")[1], re.M)
+        checks.equal(sorted(set(named)), sorted(other.stem for other in pages if other != page), f"manual: what {page.name} says to see too")
+
+
 def run(checks):
     """All of this part."""
     check_statuses(checks)
+    check_see_also(checks)
     check_examples(checks)
     check_documents(checks)
     check_page(checks)
