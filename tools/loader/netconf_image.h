@@ -1,3 +1,4 @@
+/* SPDX-License-Identifier: Apache-2.0 */
 /*
  * Reads images of tables that netconf makes, and says in which order they are written to a machine.
  *
