@@ -73,6 +73,8 @@ def check_answers(checks, package, folder):
     checks.that(f"Files: *\nCopyright: {HOLDER}\n" in copyright, "package: the holder of NOTICE, whoever made the package", copyright)
     lost = [f"{page.name}: {link}" for page in sorted(root.rglob("*.md")) for link in links_of(page) if not (page.parent / link).exists()]
     checks.equal(lost, [], "package: links of the installed pages that lead nowhere")
+    tested = (root / "usr/share/doc/netconf/docs/tested.md").read_text()
+    checks.that("; answers/README.md of the source tree has the form" in tested, "package: where a file is that is not installed")
 
 
 def links_of(page):
