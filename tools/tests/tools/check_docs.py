@@ -1,8 +1,8 @@
-"""The pages that speak of the tree: what they link to, the files and the names that they give, and how long README is."""
+"""The pages that speak of the tree: what they link to, the files, names and version that they give, and how long README is."""
 
 import re
 
-from checks import TOP
+from checks import TOOLS, TOP, outcome
 
 PAGES = ["*.md", "docs/*.md", "bench/*.md", "answers/*.md"]
 FENCE = re.compile(r"^```.*?^```", re.S | re.M)
@@ -79,8 +79,24 @@ def check_readme(checks):
     checks.that(len(text.splitlines()) <= 130 and len(text.encode()) <= 9000, "documents: README has at most 130 lines and 9 kB")
 
 
+def check_version(checks):
+    """The version is one: of the file VERSION, of the newest entry with a day, of what is cited, and of the tools."""
+    version = (TOP / "VERSION").read_text().strip()
+    entries = re.findall(r"^## (.+)$", (TOP / "CHANGELOG.md").read_text(), re.M)
+    checks.equal(entries[0], "Unreleased", "documents: the first heading of CHANGELOG")
+    days = [re.fullmatch(r"(\S+) \(\d{4}-\d\d-\d\d\)", entry) for entry in entries[1:]]
+    checks.that(days and all(days) and days[0][1] == version, "documents: each version of CHANGELOG has its day, and the newest is VERSION", entries)
+    checks.that(f"\nversion: {version}\n" in (TOP / "CITATION.cff").read_text(), "documents: the version that is cited")
+    for name in ("package", "pictures", "try-tests", "machine/run", *(path.name for path in sorted(TOOLS.glob("netconf-*")))):
+        shown = name if name.startswith("netconf-") else f"tools/{name}"
+        checks.equal(outcome(TOOLS / name, "--version"), (0, f"{shown} {version}\n", ""), f"documents: the version of {shown}")
+    full = outcome("bash", "-c", '"$1" --version > /dev/full', "ask", TOOLS / "netconf-lint")
+    checks.equal(full, (1, "", "netconf-lint: standard output: No space left on device\n"), "documents: a version that cannot be written")
+
+
 def run(checks):
     """All of this part."""
+    check_version(checks)
     check_links(checks)
     check_map(checks)
     check_names(checks)
