@@ -122,7 +122,7 @@ def check_refusals(checks, folder):
     copy, folder = pathlib.Path(folder, "copy"), pathlib.Path(folder)
     (copy / ".maintainer").unlink()
     script = TOOLS / "install-needs"
-    cases = [({**NOBODY}, "who maintains the package is not known: this is no git checkout and no archive of `git archive`; set DEBFULLNAME and DEBEMAIL"),
+    cases = [({**NOBODY}, "who maintains the package is not known: no git checkout and no archive of `git archive` says it here; set DEBFULLNAME and DEBEMAIL"),
              ({**PACKAGER, "DEBEMAIL": "nowhere"}, "DEBFULLNAME and DEBEMAIL: 'A Packager <nowhere>' is no name with an address"),
              ({**PACKAGER, "NETCONF": "/nowhere/netconf"}, "/nowhere/netconf: no such program: build it first, or name it by the variable NETCONF"),
              ({**PACKAGER, "NETCONF": str(script)}, f"{script} is no compiled program"),
