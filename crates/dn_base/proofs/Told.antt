@@ -7,7 +7,17 @@ use Rattle.std.proofs.lemmas.Grind.{common_steps}
 use Rattle.std.proofs.lemmas.List.{take_rest, take_at, take-append-drop, length-take-le}
 use Rattle.std.proofs.lemmas.List.Folds.{concat-append}
 use Rattle.std.proofs.Math.Seq.{take-add, take-length}
-use Rattle.dn_base.specs.Outside.{Taken, TakenAtMost, Added, AddedPrefix, AddedLess, AddedPieces, AtEnd, IsWritten, AreWritten}
+use Rattle.dn_base.specs.Outside.{Taken, TakenAtMost, Added, AddedPrefix, AddedLess, AtEnd, IsWritten}
+
+-- so many pieces were added whole, and then a prefix of the next
+abbrev pub AddedPieces : Option (List ℕ) → Option (List ℕ) → List (List ℕ) → Type 0
+AddedPieces before after pieces =
+    (n : ℕ) × (k : ℕ) × Added before after (concat (take n pieces) ++ take k (get_or pieces n []))
+
+-- pieces were written one after the other, and a stop came inside one of them or before one
+pub record AreWritten (before after : Option (List ℕ)) (done failed : Bool) (pieces : List (List ℕ)) : Type 0 where
+  pub joined : IsWritten before after done failed (concat pieces)
+  pub stopped : AddedPieces before after pieces
 
 -- options and results
 

@@ -3,8 +3,8 @@ use Rattle.std.specs.Prelude.{◌≡◌, ℕ, Bool, true, false, if◌then◌els
 use Rattle.std.specs.Option.{option_map}
 use Rattle.dn_base.specs.declared.device.TableEvent.{TableEvent}
 use Rattle.dn_base.specs.declared.device.UnitWords.{UnitWords}
-use Rattle.dn_base.specs.declared.device.MakeFault.{MakeFault}
-use Rattle.dn_base.specs.declared.device.MakeFault.TheVariants.{Device}
+use Rattle.dn_base.specs.declared.device.DeviceOrMemory.{DeviceOrMemory}
+use Rattle.dn_base.specs.declared.device.DeviceOrMemory.TheVariants.{Device}
 use Rattle.dn_base.specs.Memory.{CallState}
 
 -- a unit that was made, and how many words it was given
@@ -42,10 +42,10 @@ with_word (t ∷ ts) unit word value =
 abbrev pub Logged : Option (List TableEvent) → Option (List TableEvent) → List TableEvent → Type 0
 Logged before after events = IsSome after → after ≡ option_map (λ told. told ++ events) before
 
--- a unit was not made by a fault of the device; want of memory is none
-abbrev pub is_make_fault : {A : Type 0} → Result A MakeFault → Bool
-is_make_fault (Err Device) = true
-is_make_fault _ = false
+-- a call ended by a fault of the device; want of memory is none
+abbrev pub is_device_fault : {A : Type 0} → Result A DeviceOrMemory → Bool
+is_device_fault (Err Device) = true
+is_device_fault _ = false
 
 -- tables in memory: the units with their words, the events that were kept, whether they are all, at most how many are
 -- kept, and the calls

@@ -2,7 +2,7 @@
 
 ghost use Rattle.std.specs.Prelude.{◌≡◌, [], ◌∷◌, ◌++◌, true, false, replicate, List, Option, IfSome, OnOk, OnErr, is_err};
 ghost use Rattle.std.specs.Option.{option_map};
-ghost use Rattle.dn_base.specs.Terms.{Faults, IsCounted, Logged, UnitSize, has_unit, has_word, is_make_fault, sizes_of, with_word};
+ghost use Rattle.dn_base.specs.Terms.{Faults, IsCounted, Logged, UnitSize, has_unit, has_word, is_device_fault, sizes_of, with_word};
 ghost use Rattle.dn_base.specs.declared.device.TableEvent.{TableEvent};
 ghost use Rattle.dn_base.specs.declared.device.UnitWords.{UnitWords};
 
@@ -29,13 +29,13 @@ pub struct UnitWords {
     pub words: Filled<u64>,
 }
 
-/// Why a unit was not made.
+/// Why a unit was not made, or a grant not committed.
 #[derive(Clone, Copy, Debug, PartialEq, Eq, Error)]
-pub enum MakeFault {
-    /// The device failed. It counts it.
+pub enum DeviceOrMemory {
+    /// The device failed. It counts its faults.
     #[error("Device")]
     Device,
-    /// There was no memory for the words. It counts as no fault.
+    /// There was no memory. It counts as no fault.
     #[error("OutOfMemory")]
     OutOfMemory,
 }
@@ -69,7 +69,7 @@ pub trait Tables {
     ///
     /// `Device` comes only where the count of faults rose in this call, or stands at the last value
     /// of its counter. `OutOfMemory` comes for want of memory. After both nothing was done.
-    fn make(&mut self, unit: u16, count: u32) -> Result<(), MakeFault>
+    fn make(&mut self, unit: u16, count: u32) -> Result<(), DeviceOrMemory>
         requires { has_unit (units self.old) unit ≡ false }
         ensures units { OnOk result (units self.new
             ≡ units self.old ++ record { unit = unit; words = count } ∷ []) }
@@ -80,7 +80,7 @@ pub trait Tables {
             (Logged (log self.old) (log self.new) (TableEvent.Make unit count ∷ [])) }
         ensures same { OnErr result ((units self.new ≡ units self.old)
             × (words self.new ≡ words self.old) × (log self.new ≡ log self.old)) }
-        ensures counted { IsCounted (faults self.old) (faults self.new) (is_make_fault result) };
+        ensures counted { IsCounted (faults self.old) (faults self.new) (is_device_fault result) };
 
     /// Sets one word of a unit.
     ///

@@ -4,13 +4,13 @@
 //! `fence` together. It keeps its first events, as many as it was given room for.
 
 ghost use Rattle.std.specs.Prelude.{◌≡◌, ◌<◌, ◌≤◌, [], ◌∷◌, ◌++◌, true, false, replicate, Some, OnOk, OnErr, IfOk, is_err, refl};
-ghost use Rattle.dn_base.specs.Terms.{IsCall, IsCounted, KeepsEvent, Logged, PlacedAt, faults_of, has_unit, has_word, is_make_fault, log_told, log_with, no_calls, sizes_of, told_with, with_word, words_of_unit};
+ghost use Rattle.dn_base.specs.Terms.{IsCall, IsCounted, KeepsEvent, Logged, PlacedAt, faults_of, has_unit, has_word, is_device_fault, log_told, log_with, no_calls, sizes_of, told_with, with_word, words_of_unit};
 ghost use Rattle.dn_base.specs.declared.device.TableEvent.{TableEvent};
 ghost use Rattle.dn_base.specs.declared.device.UnitWords.{UnitWords};
 
 use crate::OutOfMemory;
 use crate::calls::Calls;
-use crate::device::{DeviceFault, MakeFault, TableEvent, Tables, UnitWords};
+use crate::device::{DeviceFault, DeviceOrMemory, TableEvent, Tables, UnitWords};
 use crate::filled::Filled;
 use std::alloc::Global;
 use std::marker::Model;
@@ -135,7 +135,7 @@ impl Tables for MemTables {
     ///
     /// `Device` exactly where the call's number is listed; it raises the count of faults by one.
     /// `OutOfMemory` where there is no memory for the words. After both nothing was done.
-    fn make(&mut self, unit: u16, count: u32) -> Result<(), MakeFault>
+    fn make(&mut self, unit: u16, count: u32) -> Result<(), DeviceOrMemory>
         ensures units { OnOk result (sizes_of self.new.tables
             ≡ sizes_of self.old.tables ++ record { unit = unit; words = count } ∷ []) }
         ensures words { OnOk result (self.new.tables ≡ self.old.tables
@@ -145,20 +145,20 @@ impl Tables for MemTables {
         ensures same { OnErr result ((sizes_of self.new.tables ≡ sizes_of self.old.tables)
             × (self.new.tables ≡ self.old.tables) × (log_told self.new ≡ log_told self.old)) }
         ensures counted { IsCounted (faults_of self.old.calls)
-            (faults_of self.new.calls) (is_make_fault result) }
+            (faults_of self.new.calls) (is_device_fault result) }
         ensures kept { KeepsEvent (TableEvent.Make unit count) self.old self.new (is_err result) }
-        ensures called { IsCall self.old.calls self.new.calls (is_make_fault result) }
+        ensures called { IsCall self.old.calls self.new.calls (is_device_fault result) }
     {
         if self.calls.fails() {
-            return Err(MakeFault::Device);
+            return Err(DeviceOrMemory::Device);
         }
         let alloc = *self.tables.allocator();
         let Ok(words) = Filled::new(alloc, 0, count as usize) else {
-            return Err(MakeFault::OutOfMemory);
+            return Err(DeviceOrMemory::OutOfMemory);
         };
         let table = UnitWords { unit, words };
         if self.tables.push(table).is_err() {
-            return Err(MakeFault::OutOfMemory);
+            return Err(DeviceOrMemory::OutOfMemory);
         }
         self.keep(TableEvent::Make { unit, words: count });
         Ok(())

@@ -1,21 +1,30 @@
--- The set of a net with words 0 and no use keeps the book in which no grant lives.
-use Rattle.std.proofs.Common.{◌≡◌, ℕ, zero, suc, ◌+◌, ◌*◌, List, [], ◌∷◌, ◌++◌, replicate, slice_get, slice_index_or, Option, Some, None, refl, sym, ap, ◌∙◌, arith}
+-- The set of a net with words 0 and no use keeps the book in which no grant lives; what the slots of a sound
+-- book hold.
+use Rattle.std.proofs.Common.{◌≡◌, ℕ, zero, suc, ◌+◌, ◌*◌, List, [], ◌∷◌, ◌++◌, length, replicate, slice_get, slice_index_or, Option, Some, None, refl, sym, ap, ◌∙◌, arith}
+use Rattle.std.specs.List.{All, list_any}
 use Rattle.std.proofs.lemmas.List.{replicate-append-replicate}
+use Rattle.std.proofs.lemmas.Bool.{not-true}
 use Rattle.std.proofs.Math.Nat.{suc-mul}
 use Rattle.dn_net.specs.declared.node.NodeDecl.{NodeDecl}
 use Rattle.dn_net.specs.declared.node.Unit.{Unit as UnitPart}
+use Rattle.dn_net.specs.Decode.{unit_at}
 use Rattle.dn_net.specs.Legal.{IsLegalNet}
 use Rattle.dn_kind.specs.declared.unit_kind.Record.{Record}
-use Rattle.dn_kind.specs.Kind.{Meaning}
+use Rattle.dn_kind.specs.Kind.{IsLawful, Meaning}
 use Rattle.dn_kind.specs.Tables.{Held}
+use Rattle.dn_kind.specs.Units.{IsLegalWith}
 use Rattle.dn_tables.specs.declared.table.NodeTable.{NodeTable}
 use Rattle.dn_tables.specs.Set.{FitsNet, fresh_by, fresh_set, no_use, use_in, width_by, words_of}
-use Rattle.dn_book.specs.Book.{records_of}
+use Rattle.dn_book.specs.declared.grant.Grant.{Grant}
+use Rattle.dn_book.specs.Book.{IsSound, owns_slot, records_of, uses_slot}
+use Rattle.dn_book.specs.Kept.{BookIsProper}
 use Rattle.dn_book.specs.Laws.{TablesHoldRecords}
-use Rattle.dn_book.specs.Tables.{IsKept, packed_node, packed_nodes, packed_slot, packed_slots, packed_unit}
+use Rattle.dn_book.specs.Tables.{IsKept, tables_of, packed_node, packed_nodes, packed_slot, packed_slots, packed_unit}
 use Rattle.dn_book.proofs.Faithful.{empty_book_is_faithful}
+use Rattle.dn_book.proofs.Given.{unused_none}
+use Rattle.dn_book.proofs.KeptSlots.{unowned_has_both}
 use Rattle.dn_book.proofs.Live.{book_held}
-use Rattle.dn_book.proofs.Packed.{AreKinds, Holds, set_holds, tables_hold}
+use Rattle.dn_book.proofs.Packed.{AreKindsOf, Holds, IsFull, set_holds, tables_full, tables_hold, tables_many}
 
 -- slots without records have words 0
 zero_slots : (kind : Meaning) (u : UnitPart) (records : ℕ → Option Record) → ((q : ℕ) → records q ≡ None) → (first count : ℕ) → replicate (count * kind.words) 0 ≡ packed_slots kind u records first count
@@ -57,7 +66,7 @@ unused_in kinds (d ∷ net) zero q = by d.unit
     by (Some u) = all u.slots q
 unused_in kinds (d ∷ net) (suc n) q = unused_in kinds net n q
 
-pub begun_kept : (net : List NodeDecl) (kinds : List Meaning) → AreKinds net kinds → IsLegalNet net → (set : List NodeTable) → FitsNet net kinds set → set ≡ fresh_set kinds net → IsKept net kinds [] set
+pub begun_kept : (net : List NodeDecl) (kinds : List Meaning) → AreKindsOf net kinds → IsLegalNet net → (set : List NodeTable) → FitsNet net kinds set → set ≡ fresh_set kinds net → IsKept net kinds [] set
 begun_kept net kinds k legal set fits is = record {
   sound = (empty_book_is_faithful net legal).0;
   fits = fits;
@@ -77,3 +86,19 @@ begun_kept net kinds k legal set fits is = record {
 pub tables_hold_records : TablesHoldRecords
 tables_hold_records net kinds book legal shaped lawful sound node slot =
     tables_hold net kinds (record { lawful = lawful; shaped = shaped }) (records_of net book) (book_held net legal book sound) node slot
+
+-- they have the words of each node, each below 2^64, and no more: as many lists as the net has nodes
+pub book_many : (net : List NodeDecl) (kinds : List Meaning) (book : List Grant) → length (tables_of net kinds book) ≡ length net
+book_many net kinds book = tables_many kinds (records_of net book) 0 net
+
+pub book_full : (net : List NodeDecl) (kinds : List Meaning) (book : List Grant) → IsLegalWith kinds net → All IsLawful kinds → IsSound net book → (node : ℕ) (ws : List ℕ) → slice_get (tables_of net kinds book) node ≡ Some ws → IsFull kinds (unit_at net node) ws
+book_full net kinds book legal lawful sound =
+    tables_full net kinds (record { lawful = lawful; shaped = legal.shaped }) (records_of net book) (book_held net legal.legal book sound)
+
+-- the slots of a sound book are proper
+pub book_is_proper : BookIsProper
+book_is_proper net book legal sound = record {
+  held = book_held net legal book sound;
+  empty = λ node slot free r e. (let f : None ≡ Some r = sym (unused_none net book node slot (not-true (list_any (uses_slot net node slot) book) free)) ∙ e in cc);
+  shared = λ node slot r e free. unowned_has_both net book node slot r e (not-true (list_any (owns_slot net node slot) book) free);
+}

@@ -18,7 +18,7 @@ use Rattle.dn_tables.specs.Set.{IsSet, fits_by, fits_kinds, has_slot, table_on_d
 use Rattle.dn_tables.proofs.Kept.{IsSlot, all_changed, map_changed, slot_in_set, table_of_unit}
 use Rattle.dn_placement.specs.Records.{first_slot, last_slot, hop_record_by, is_taken_by, slot_record}
 use Rattle.dn_book.specs.Book.{is_taken}
-use Rattle.dn_book.specs.Sets.{AreChanged, AreHopsChanged, FitsUnit, changed_by, is_at, put_at}
+use Rattle.dn_book.specs.Sets.{AreChanged, AreHopsChanged, TakesSlots, changed_by, is_at, put_at}
 use Rattle.dn_book.specs.Writes.{Put, hop_slots, hop_slots_by, slots_from}
 use Rattle.dn_book.proofs.Facts.{fit_none, fit_then}
 use Rattle.dn_book.proofs.Hops.{first_before}
@@ -169,7 +169,7 @@ pub record IsUseTurn (a b : List NodeTable) (u : UnitPart) (size : ℕ) (hop : H
   pub is_in : Member (put_at hop.unit q (slot_record u both_rights hop q)) (hop_slots_by (Some u) size both_rights hop)
   pub same : use_in b hop.unit q ≡ use_in a hop.unit q
 
-pub use_turn : (change : SlotUse → SlotUse) (a b : List NodeTable) (u : UnitPart) (size : ℕ) (hop : Hop) (q : ℕ) → unit_in a hop.unit ≡ Some u → FitsUnit u size hop → first_slot u hop ≤ q → q < suc (last_slot u size hop) → AreChanged change (so_far u both_rights hop q) a b → IsUseTurn a b u size hop q
+pub use_turn : (change : SlotUse → SlotUse) (a b : List NodeTable) (u : UnitPart) (size : ℕ) (hop : Hop) (q : ℕ) → unit_in a hop.unit ≡ Some u → TakesSlots u size hop → first_slot u hop ≤ q → q < suc (last_slot u size hop) → AreChanged change (so_far u both_rights hop q) a b → IsUseTurn a b u size hop q
 use_turn change a b u size hop q e f low high x =
     let before : IsTrue (has_slot a hop.unit q) = slot_there a u size hop q e f high in
     let s : Put = put_at hop.unit q (slot_record u both_rights hop q) in
@@ -321,7 +321,7 @@ hops_later net size changes hops i hop a b pairs at x m p e h = x.uses m p h ∙
     none first (k ∷ ks) sub = ap (λ t. if t then changes first (use_in a m p) else changed_by net size changes (suc first) ks m p (use_in a m p)) (apart k (sub k (inl refl))) ∙ none (suc first) ks (λ j n. sub j (inr n))
 
 -- the slots of a hop are there
-pub hop_slot_there : (net : List NodeDecl) (set : List NodeTable) (size : ℕ) (r : Rights) (hop : Hop) → units_of set ≡ map (λ d. d.unit) net → (u : UnitPart) × (unit_at net hop.unit ≡ Some u) × FitsUnit u size hop → (s : Put) → Member s (hop_slots net size r hop) → (s.unit ≡ hop.unit) × IsTrue (has_slot set s.unit s.slot)
+pub hop_slot_there : (net : List NodeDecl) (set : List NodeTable) (size : ℕ) (r : Rights) (hop : Hop) → units_of set ≡ map (λ d. d.unit) net → (u : UnitPart) × (unit_at net hop.unit ≡ Some u) × TakesSlots u size hop → (s : Put) → Member s (hop_slots net size r hop) → (s.unit ≡ hop.unit) × IsTrue (has_slot set s.unit s.slot)
 hop_slot_there net set size r hop units f s m =
     let n : Member s (hop_slots_by (Some f.0) size r hop) = subst (λ o. Member s (hop_slots_by o size r hop)) f.1 m in
     let i = of_hop f.0 r hop (first_slot f.0 hop) (slot_count f.0 size hop) s n in
@@ -333,5 +333,5 @@ hop_slot_there net set size r hop units f s m =
     (e, subst (λ n. IsTrue (has_slot set n s.slot)) (sym e) (slot_there set f.0 size hop s.slot at f.2 (omega arith)))
 
 -- the slots of a hop are in order
-pub hop_ordered : (net : List NodeDecl) (size : ℕ) (hop : Hop) → (u : UnitPart) × (unit_at net hop.unit ≡ Some u) × FitsUnit u size hop → (v : UnitPart) → unit_at net hop.unit ≡ Some v → first_slot v hop ≤ last_slot v size hop
-hop_ordered net size hop f v e = first_before v size hop (subst (λ w. FitsUnit w size hop) (same_Some f.0 v (sym f.1 ∙ e)) f.2)
+pub hop_ordered : (net : List NodeDecl) (size : ℕ) (hop : Hop) → (u : UnitPart) × (unit_at net hop.unit ≡ Some u) × TakesSlots u size hop → (v : UnitPart) → unit_at net hop.unit ≡ Some v → first_slot v hop ≤ last_slot v size hop
+hop_ordered net size hop f v e = first_before v size hop (subst (λ w. TakesSlots w size hop) (same_Some f.0 v (sym f.1 ∙ e)) f.2)

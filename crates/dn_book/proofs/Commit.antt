@@ -35,21 +35,21 @@ use Rattle.dn_book.proofs.Facts.{fit_then, fits_net_kept}
 use Rattle.dn_book.proofs.Frames.{SameFrame, frame_puts, same_flat}
 use Rattle.dn_book.proofs.Given.{GrantGives, by_owns, by_uses, gives_taken, unused_none}
 use Rattle.dn_book.proofs.Live.{book_held, by_place, few_uses, gives_held, no_owner_of, picked_empty, put_gives, put_gives_behind, puts_held, records_granted, used_zero, uses_granted, hop_put_gives}
-use Rattle.dn_book.proofs.Packed.{AreKinds, Holds, empty_there, held_after, kind_of, puts_hold, set_holds, width_is}
+use Rattle.dn_book.proofs.Packed.{AreKindsOf, Holds, empty_there, held_after, kind_of, puts_hold, set_holds, width_is}
 use Rattle.dn_book.proofs.Sound.{comes, granted_sound, placed_fit}
 use Rattle.dn_tables.proofs.Units.{unit_fits}
 
 -- WRITES BY A SET ARE THOSE BY THE NET
 
 -- the width of the table of a unit
-pub width_at : (net : List NodeDecl) (kinds : List Meaning) → AreKinds net kinds → (set : List NodeTable) → FitsNet net kinds set → (node : ℕ) (u : UnitPart) → unit_at net node ≡ Some u → (kind : Meaning) → slice_get kinds u.kind ≡ Some kind → width_in set node ≡ kind.words
+pub width_at : (net : List NodeDecl) (kinds : List Meaning) → AreKindsOf net kinds → (set : List NodeTable) → FitsNet net kinds set → (node : ℕ) (u : UnitPart) → unit_at net node ≡ Some u → (kind : Meaning) → slice_get kinds u.kind ≡ Some kind → width_in set node ≡ kind.words
 width_at net kinds k set f node u e kind at =
     let d = kind_of net kinds k node u e in
     let there = table_of_unit set node u (unit_fits net kinds set f node ∙ e) in
     let same : d.kind ≡ kind = same_Some d.kind kind (sym d.at ∙ at) in
     ap width_of_table there.1 ∙ width_is net kinds set f node u d there.0 there.1 there.2 ∙ ap (λ (m : Meaning). m.words) same
 
-pub put_log_is : (net : List NodeDecl) (kinds : List Meaning) → AreKinds net kinds → (set : List NodeTable) → FitsNet net kinds set → (ss : List Put) → put_log kinds set ss ≡ flat_map (put_events net kinds) ss
+pub put_log_is : (net : List NodeDecl) (kinds : List Meaning) → AreKindsOf net kinds → (set : List NodeTable) → FitsNet net kinds set → (ss : List Put) → put_log kinds set ss ≡ flat_map (put_events net kinds) ss
 put_log_is net kinds k set f ss =
     same_flat (λ (s : Put). write_events s.unit (put_writes kinds set s.unit s.slot s.holds)) (put_events net kinds) one ss
   where
@@ -77,7 +77,7 @@ module _ (net : List NodeDecl) (kinds : List Meaning) (book : List Grant) (g : G
   legal : IsLegalNet net
   legal = c.legal.legal
 
-  k : AreKinds net kinds
+  k : AreKindsOf net kinds
   k = record { lawful = c.lawful; shaped = c.legal.shaped }
 
   sound : IsSound net book

@@ -1,5 +1,5 @@
 -- The hops of a grant in either order, and what is known as the records of one after the other are put.
-use Rattle.std.proofs.Common.{◌≡◌, ◌≢◌, ℕ, zero, suc, ◌+◌, ◌-◌, ◌<◌, ◌≤◌, ◌⊎◌, inl, inr, false, List, [], ◌∷◌, ◌++◌, length, map, take, drop, reverse, slice_get, get_or, Option, Some, None, IsTrue, refl, sym, ap, ◌∙◌, subst, arith, append_assoc, append-nil}
+use Rattle.std.proofs.Common.{◌≡◌, ◌≢◌, ℕ, zero, suc, ◌+◌, ◌-◌, ◌<◌, ◌≤◌, ◌⊎◌, inl, inr, false, List, [], ◌∷◌, ◌++◌, length, take, drop, reverse, slice_get, get_or, Option, Some, None, IsTrue, refl, sym, ap, ◌∙◌, subst, arith, append_assoc, append-nil}
 use Rattle.std.specs.List.{All, AllPairs}
 use Rattle.std.proofs.lemmas.List.{length-reverse, take_more, take_all, take-append-drop, get_or-reverse}
 use Rattle.std.proofs.lemmas.Option.{same_Some, get_or_from_slice_get, slice_get-get_or, slice_get_within}
@@ -10,8 +10,10 @@ use Rattle.dn_net.specs.declared.node.NodeDecl.{NodeDecl}
 use Rattle.dn_net.specs.declared.node.Unit.{Unit as UnitPart}
 use Rattle.dn_net.specs.Chain.{Member}
 use Rattle.dn_net.specs.Decode.{unit_at}
+use Rattle.dn_kind.specs.declared.kinded.KindedNet.{KindedNet}
 use Rattle.dn_kind.specs.declared.rights.Rights.{Rights}
 use Rattle.dn_kind.specs.Kind.{Meaning, IsLawful}
+use Rattle.dn_kind.specs.Kinded.{kinds_of}
 use Rattle.dn_kind.specs.Rights.{are_rights}
 use Rattle.dn_kind.specs.Units.{KeepsUnitShape}
 use Rattle.dn_tables.specs.declared.placement.Hop.{Hop}
@@ -164,9 +166,9 @@ pub record GrantPuts (kinds : List Meaning) (net : List NodeDecl) (set : List No
   pub opened : AreOpen set (joined_slots (grant_slots net g))
 
 -- so it is where they may be put
-pub grant_puts : {K : Type 0} (means : K → Meaning) (items : List K) (net : List NodeDecl) (set : List NodeTable) (g : Grant) (sizes : List UnitSize) (told : Option (List UnitWords)) → IsSet set → MayPutGrant means items net g set sizes told → GrantPuts (map means items) net set g
-grant_puts means items net set g sizes told is_set p = record {
-  lawful = all_of_map means items p.lawful;
+pub grant_puts : {K : Type 0} {V : K → Type 0} (means : (k : K) × V k → Meaning) (on : KindedNet K V) (set : List NodeTable) (g : Grant) (sizes : List UnitSize) (told : Option (List UnitWords)) → IsSet set → MayPutGrant means on g set sizes told → GrantPuts (kinds_of means on.kinds.now) on.net.now set g
+grant_puts means on set g sizes told is_set p = record {
+  lawful = all_of_map _ on.kinds.now.list.items p.lawful;
   is_set = is_set;
   fits = p.fits;
   shaped = p.shaped;

@@ -1,7 +1,7 @@
 -- In a set of tables that keeps a book the words of a slot that holds no record are 0.
 use Rattle.std.proofs.Common.{◌≡◌, ◌∙◌, sym, ap, refl, subst, ℕ, zero, suc, ◌+◌, ◌*◌, ◌<◌, List, [], ◌∷◌, ◌++◌, length, take, drop, replicate, slice_get, Option, Some, None, IsTrue, arith, eqb-true}
-use Rattle.std.specs.List.{All, list_any}
-use Rattle.std.proofs.lemmas.Bool.{and_parts, not-true}
+use Rattle.std.specs.List.{All}
+use Rattle.std.proofs.lemmas.Bool.{and_parts}
 use Rattle.std.proofs.lemmas.List.{length-replicate, take_at}
 use Rattle.std.proofs.Math.Seq.{drop-append-add}
 use Rattle.dn_base.proofs.Lists.{list_all-at}
@@ -18,11 +18,10 @@ use Rattle.dn_tables.specs.Set.{fits_by, fits_kinds, is_wide, unit_in, width_in,
 use Rattle.dn_tables.proofs.Kept.{table_of_unit, unit_of_slot}
 use Rattle.dn_tables.proofs.Units.{unit_by_units}
 use Rattle.dn_book.specs.declared.grant.Grant.{Grant}
-use Rattle.dn_book.specs.Book.{owns_slot, records_of, uses_slot}
+use Rattle.dn_book.specs.Book.{records_of}
 use Rattle.dn_book.specs.Tables.{IsKept, packed_node, packed_nodes, packed_slot, packed_slots, packed_unit}
-use Rattle.dn_book.specs.Kept.{KeptRecordsAreProper, KeptSlotsAreTheBooks}
-use Rattle.dn_book.proofs.KeptSlots.{AreEmptyZero, kept_slots, unowned_has_both}
-use Rattle.dn_book.proofs.Given.{unused_none}
+use Rattle.dn_book.specs.Kept.{KeptSlotsAreTheBooks}
+use Rattle.dn_book.proofs.KeptSlots.{AreEmptyZero, kept_slots}
 
 -- the words of a slot among those of all slots from a number on
 slot_of : (kind : Meaning) (u : UnitPart) (records : ℕ → Option Record) →
@@ -153,12 +152,3 @@ module _ (net : List NodeDecl) (kinds : List Meaning) (book : List Grant) (set :
 pub kept_slots_are_the_books : KeptSlotsAreTheBooks
 kept_slots_are_the_books net kinds book set lawful shaped is kept =
     kept_slots net kinds book set is kept (empty_zero net kinds book set lawful shaped kept)
-
-pub kept_records_are_proper : KeptRecordsAreProper
-kept_records_are_proper net kinds book set lawful kept = (
-  (λ node slot r e. held_records_fit net kinds (words_of set) lawful node slot r
-      (ap (λ o. record_of_unit kinds o (slice_get (words_of set) node) slot) (sym (unit_by_units net set kept.fits.units node))
-      ∙ kept.held node slot ∙ e)),
-  (λ node slot free. unused_none net book node slot (not-true (list_any (uses_slot net node slot) book) free)),
-  (λ node slot r e free. unowned_has_both net book node slot r e (not-true (list_any (owns_slot net node slot) book) free)),
-)

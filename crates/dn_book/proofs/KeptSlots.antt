@@ -71,7 +71,7 @@ pub uses_there : (net : List NodeDecl) (node slot : ℕ) (g : Grant) → IsGrant
 uses_there net node slot g is t =
     let found = any_member (is_taken net g.request.size node slot) g.placement.hops t in
     let joins = (leads_at net _ g.request g.placement.hops found.0 is.placed.leads found.1).1 in
-    let there = taken_there net g.request.size node slot found.0 (unit_at net found.0.unit) joins.unit joins.is_unit is.placed.some joins.within found.2 in
+    let there = taken_there net g.request.size node slot found.0 (unit_at net found.0.unit) joins.unit joins.is_unit is.placed.some joins.fits.within found.2 in
     let here : unit_at net node ≡ Some joins.unit = ap (unit_at net) there.0 ∙ joins.is_unit in
     ap (λ o. has_slot_by o slot) here ∙ lt-ltb _ _ there.1
 

@@ -16,16 +16,17 @@ use Rattle.dn_kind.specs.declared.unit_kind.Record.{Record}
 use Rattle.dn_kind.specs.Rights.{are_rights, both_rights}
 use Rattle.dn_kind.specs.Tables.{AreHeld, Held, IsHeld}
 use Rattle.dn_tables.specs.declared.placement.Hop.{Hop}
+use Rattle.dn_placement.specs.Placement.{IsPlacement}
 use Rattle.dn_placement.specs.Records.{first_slot, hop_record, hop_rights, last_slot, slot_record}
 use Rattle.dn_placement.proofs.Hops.{rights_of}
 use Rattle.dn_book.specs.declared.grant.Grant.{Grant}
-use Rattle.dn_book.specs.Book.{IsGiven, IsSound, is_taken, owner_of, owns_slot, records_of, slots_of, uses_of, uses_slot, without_id}
-use Rattle.dn_book.specs.Laws.{IsGrantFor}
+use Rattle.dn_book.specs.Book.{IsGiven, IsSound, is_taken, open_slots, owner_of, owns_slot, records_of, slots_of, uses_of, uses_slot, without_id}
+use Rattle.dn_book.specs.Laws.{IsGrantFor, RevokeClearsSome}
 use Rattle.dn_book.specs.Sets.{AreFit, changed_by, is_at, hop_owner, one_use_less, one_use_more, put_at}
 use Rattle.dn_book.specs.Tables.{use_of}
 use Rattle.dn_book.specs.Writes.{Put, clears_of, empty_slots, grant_slots, hop_slots, hop_slots_by, is_empty, joined_slots, puts_of}
 use Rattle.dn_book.proofs.Changes.{is_at_parts, is_at_self}
-use Rattle.dn_book.proofs.Given.{GrantGives, between_gives, by_owns, by_uses, given_by, held_in, held_none, hop_gives, in_held, none_unused, owned_used, owns_by, place_of, taken_gives, unused_none}
+use Rattle.dn_book.proofs.Given.{GrantGives, between_gives, by_owns, by_uses, gives_taken, given_by, held_in, held_none, hop_gives, in_held, none_unused, owned_used, owns_by, place_of, taken_gives, unused_none}
 use Rattle.dn_book.proofs.Hops.{first_before, last_there}
 use Rattle.dn_book.proofs.InOrder.{hop_at, hop_member, in_all, joined_member, turn_front, units_apart, from_behind}
 use Rattle.dn_book.proofs.Packed.{after_other, after_there, cleared_other, cleared_there, held_after, held_cleared}
@@ -505,3 +506,41 @@ module _ (net : List NodeDecl) (legal : IsLegalNet net) (book : List Grant) (g :
   some_use n q u =
       let e : uses_of net book n q ≡ uses_of net (without_id g.id book) n q + 1 = fewer_uses n q ∙ ap (λ b. uses_of net (without_id g.id book) n q + (if b then 1 else 0)) u in
       omega arith
+
+  -- A SLOT THAT IS CLEARED
+
+  -- no other grant uses a slot that the grant owns
+  lone : (n q : ℕ) → owns_slot net n q g ≡ true → list_any (uses_slot net n q) (without_id g.id book) ≡ false
+  lone n q owned = by (list_any (uses_slot net n q) (without_id g.id book)) refl
+    where
+      by : (b : Bool) → list_any (uses_slot net n q) (without_id g.id book) ≡ b → b ≡ false
+      by false e = refl
+      by true e =
+          let a = any_member (uses_slot net n q) (without_id g.id book) e in
+          let k = without_in g.id book a.0 a.1 in
+          let c : true ≡ false = sym a.2 ∙ sound.alone g a.0 live k.0 (λ s. k.1 (sym s)) n q owned in
+          cc
+
+  -- so the first slot of its own hop is cleared
+  clears_some : 1 ≤ length (clears_of net book g)
+  clears_some =
+      let place = g.placement.own in
+      let own : Hop = placed.own in
+      let u = goes.units own (hop_member g.placement.hops place own placed.is_own) in
+      let slot : ℕ = first_slot u.0 own in
+      let rights = hop_rights g.request.rights g.placement.own place in
+      let gives = between_gives net g.request.size rights own u.0 slot u.1 (omega arith) (first_before u.0 g.request.size own u.2) in
+      let put = slot_record u.0 rights own slot in
+      let owned : owns_slot net own.unit slot g ≡ true = by_owns net g own.unit slot own placed.is_own (gives_taken net g.request.size rights own own.unit slot put gives) in
+      let empty = unused_none net (without_id g.id book) own.unit slot (lone own.unit slot owned) in
+      let given : GrantGives net g own.unit slot put = record { place = place; hop = own; is_hop = placed.is_own; gives = gives } in
+      let m = in_empty (records_of net (without_id g.id book)) (joined_slots (grant_slots net g)) (put_at own.unit slot put) (gives_put net g own.unit slot put given) empty in
+      let at = place_of (clears_of net book g) (put_at own.unit slot put) m in
+      let l = slice_get_within (clears_of net book g) at.0 (put_at own.unit slot put) at.1 in
+      omega arith
+    where
+      placed : IsPlacement net open_slots g.request g.placement
+      placed = (sound.grants g live).placed
+
+pub revoke_clears_some : RevokeClearsSome
+revoke_clears_some net book g legal sound live = clears_some net legal book g sound live

@@ -1,11 +1,12 @@
 -- Sets whose words are the packed words of records.
-use Rattle.std.proofs.Common.{◌≡◌, ℕ, zero, suc, ◌+◌, ◌*◌, ◌%◌, ◌<◌, ◌≤◌, inl, inr, Bool, true, false, if◌then◌else◌, nat_lt, List, [], ◌∷◌, ◌++◌, length, take, drop, replicate, slice_get, Option, Some, None, IsTrue, refl, sym, ap, ◌∙◌, subst, arith, append_assoc, length-append, ltb-true, ltb-false, eqb-true}
-use Rattle.std.specs.List.{All}
+use Rattle.std.proofs.Common.{◌≡◌, ℕ, zero, suc, ◌+◌, ◌*◌, ◌%◌, ◌^◌, ◌<◌, ◌≤◌, inl, inr, Bool, true, false, if◌then◌else◌, nat_lt, List, [], ◌∷◌, ◌++◌, length, take, drop, replicate, slice_get, Option, Some, None, IsTrue, refl, sym, ap, ◌∙◌, subst, arith, append_assoc, length-append, ltb-true, ltb-false, eqb-true}
+use Rattle.std.specs.List.{All, list_all}
+use Rattle.std.proofs.lemmas.List.Folds.{list_all-append}
 use Rattle.std.proofs.lemmas.List.{length-replicate, take_at}
 use Rattle.std.proofs.lemmas.Option.{same_Some}
 use Rattle.std.proofs.Math.Nat.{suc-mul}
 use Rattle.std.proofs.Math.Seq.{drop-append-add, drop-append_seam, take-append-add}
-use Rattle.dn_base.proofs.Booleans.{and_parts}
+use Rattle.dn_base.proofs.Booleans.{and_from, and_parts}
 use Rattle.dn_base.proofs.Lists.{list_all-at}
 use Rattle.dn_net.specs.declared.node.NodeDecl.{NodeDecl}
 use Rattle.dn_net.specs.declared.node.Unit.{Unit as UnitPart}
@@ -18,7 +19,7 @@ use Rattle.dn_kind.specs.Units.{KeepsUnitShape, fits_shape, unit_shape}
 use Rattle.dn_kind.proofs.Held.{kind_lawful, held_past}
 use Rattle.dn_kind.proofs.Allowed.{gate_of_zeros}
 use Rattle.dn_tables.specs.declared.table.NodeTable.{NodeTable}
-use Rattle.dn_tables.specs.Set.{FitsNet, IsEmpty, fits_by, is_wide, packed_by, packed_for, packed_in, put_over, record_kept, width_in, width_of_table, with_slot, with_table, with_words, words_of, words_of_table}
+use Rattle.dn_tables.specs.Set.{FitsNet, IsEmpty, fits_by, is_wide, packed_by, packed_for, packed_in, put_over, record_kept, width_by, width_in, width_of_table, with_slot, with_table, with_words, words_of, words_of_table}
 use Rattle.dn_tables.proofs.Kept.{table_of_unit}
 use Rattle.dn_tables.proofs.Fresh.{kind_there}
 use Rattle.dn_book.specs.Sets.{after_clears, after_puts, is_at}
@@ -170,7 +171,7 @@ pub record Holds (net : List NodeDecl) (kinds : List Meaning) (h : Held) (set : 
   pub held : AreHeld net h
 
 -- what the kinds are to the net
-pub record AreKinds (net : List NodeDecl) (kinds : List Meaning) : Type 0 where
+pub record AreKindsOf (net : List NodeDecl) (kinds : List Meaning) : Type 0 where
   pub lawful : All IsLawful kinds
   pub shaped : KeepsUnitShape kinds net
 
@@ -182,7 +183,7 @@ pub record IsKind (net : List NodeDecl) (kinds : List Meaning) (u : UnitPart) : 
   pub plain : IsTrue (is_plain_unit_shape (unit_shape u))
   pub fit : IsTrue (kind.fits (unit_shape u))
 
-pub kind_of : (net : List NodeDecl) (kinds : List Meaning) → AreKinds net kinds → (node : ℕ) (u : UnitPart) → unit_at net node ≡ Some u → IsKind net kinds u
+pub kind_of : (net : List NodeDecl) (kinds : List Meaning) → AreKindsOf net kinds → (node : ℕ) (u : UnitPart) → unit_at net node ≡ Some u → IsKind net kinds u
 kind_of net kinds k node u e =
     let s = k.shaped.shaped node u e in
     let parts = and_parts (is_plain_unit_shape (unit_shape u)) (fits_shape (slice_get kinds u.kind) (unit_shape u)) s in
@@ -227,7 +228,7 @@ none_outside net h held node slot e = by (h node slot) refl
     by (Some r) at = let w = (held node slot r at).unit in let c : None ≡ Some w.0 = sym e ∙ w.1 in cc
 
 -- tables that are packed hold exactly the records
-pub tables_hold : (net : List NodeDecl) (kinds : List Meaning) → AreKinds net kinds → (h : Held) → AreHeld net h → (node slot : ℕ) → record_held net kinds (packed_tables net kinds h) node slot ≡ h node slot
+pub tables_hold : (net : List NodeDecl) (kinds : List Meaning) → AreKindsOf net kinds → (h : Held) → AreHeld net h → (node slot : ℕ) → record_held net kinds (packed_tables net kinds h) node slot ≡ h node slot
 tables_hold net kinds k h held node slot = by (unit_at net node) refl
   where
     by : (o : Option UnitPart) → unit_at net node ≡ o → record_of_unit kinds o (slice_get (packed_tables net kinds h) node) slot ≡ h node slot
@@ -249,8 +250,66 @@ tables_hold net kinds k h held node slot = by (unit_at net node) refl
             ∙ ap (λ ws. record_within u (kind.kind.unpack ws)) (slot_at kind.kind kind.law u (h node) p 0 u.slots slot l ∙ ap (λ n. packed_slot kind.kind u (h node n)) z)
             ∙ spelled_slot kind.kind kind.law u (h node slot) (p slot)
 
+-- each word is below 2^64
+abbrev pub are_small : List ℕ → Bool
+are_small ws = list_all (λ w. nat_lt w (2 ^ 64)) ws
+
+zeros_small : (n : ℕ) → IsTrue (are_small (replicate n 0))
+zeros_small zero = refl
+zeros_small (suc n) = zeros_small n
+
+slot_small : (kind : Meaning) → IsLawful kind → (u : UnitPart) (o : Option Record) → ((r : Record) → o ≡ Some r → IsPackable kind (unit_shape u) r) → IsTrue (are_small (packed_slot kind u o))
+slot_small kind law u None p = zeros_small kind.words
+slot_small kind law u (Some r) p = law.small (unit_shape u) r (p r refl)
+
+slots_small : (kind : Meaning) → IsLawful kind → (u : UnitPart) (records : ℕ → Option Record) → ArePackable kind u records → (first count : ℕ) → IsTrue (are_small (packed_slots kind u records first count))
+slots_small kind law u records p first zero = refl
+slots_small kind law u records p first (suc count) =
+    list_all-append (λ w. nat_lt w (2 ^ 64)) (packed_slot kind u (records first)) (packed_slots kind u records (suc first) count)
+    ∙ and_from _ _ (slot_small kind law u (records first) (p first)) (slots_small kind law u records p (suc first) count)
+
+-- the words of a node are those of its slots, each below 2^64; a node that is no unit has none
+pub record IsFull (kinds : List Meaning) (unit : Option UnitPart) (ws : List ℕ) : Type 0 where
+  pub none : unit ≡ None → ws ≡ []
+  pub some : (u : UnitPart) → unit ≡ Some u → length ws ≡ u.slots * width_by (slice_get kinds u.kind)
+  pub small : IsTrue (are_small ws)
+
+node_full : (net : List NodeDecl) (kinds : List Meaning) → AreKindsOf net kinds → (h : Held) → AreHeld net h → (node : ℕ) (o : Option UnitPart) → unit_at net node ≡ o → IsFull kinds o (packed_node kinds o (h node))
+node_full net kinds k h held node None e = record { none = λ s. refl; some = λ u s. cc; small = refl }
+node_full net kinds k h held node (Some u) e =
+    let kind = kind_of net kinds k node u e in
+    let p : ArePackable kind.kind u (h node) = all_packable net kinds h held node u kind e in
+    let is = unit_words net kinds h u kind (h node) in
+    let count : length (packed_node kinds (Some u) (h node)) ≡ u.slots * width_by (slice_get kinds u.kind) =
+    ap length is ∙ slots_length kind.kind kind.law u (h node) p 0 u.slots ∙ ap (λ o. u.slots * width_by o) (sym kind.at) in
+    record {
+      none = λ s. cc;
+      some = λ v s. subst (λ (w : UnitPart). length (packed_node kinds (Some u) (h node)) ≡ w.slots * width_by (slice_get kinds w.kind)) (same_Some u v s) count;
+      small = subst (λ ws. IsTrue (are_small ws)) (sym is) (slots_small kind.kind kind.law u (h node) p 0 u.slots);
+    }
+
+node_packed : (kinds : List Meaning) (h : Held) (first node : ℕ) (net : List NodeDecl) (ws : List ℕ) → slice_get (packed_nodes kinds h first net) node ≡ Some ws → packed_node kinds (unit_at net node) (h (first + node)) ≡ ws
+node_packed kinds h first node [] ws e = cc
+node_packed kinds h first zero (n ∷ net) ws e =
+    let z : first + zero ≡ first = omega arith in
+    ap (λ m. packed_node kinds n.unit (h m)) z ∙ same_Some _ ws e
+node_packed kinds h first (suc node) (n ∷ net) ws e =
+    let f : first + suc node ≡ suc first + node = omega arith in
+    ap (λ m. packed_node kinds (unit_at net node) (h m)) f ∙ node_packed kinds h (suc first) node net ws e
+
+-- tables that are packed have the words of each node, and no more
+pub tables_full : (net : List NodeDecl) (kinds : List Meaning) → AreKindsOf net kinds → (h : Held) → AreHeld net h → (node : ℕ) (ws : List ℕ) → slice_get (packed_tables net kinds h) node ≡ Some ws → IsFull kinds (unit_at net node) ws
+tables_full net kinds k h held node ws e =
+    let z : node ≡ 0 + node = omega arith in
+    let is : packed_node kinds (unit_at net node) (h node) ≡ ws = ap (λ m. packed_node kinds (unit_at net node) (h m)) z ∙ node_packed kinds h 0 node net ws e in
+    subst (IsFull kinds (unit_at net node)) is (node_full net kinds k h held node (unit_at net node) refl)
+
+pub tables_many : (kinds : List Meaning) (h : Held) (first : ℕ) (net : List NodeDecl) → length (packed_nodes kinds h first net) ≡ length net
+tables_many kinds h first [] = refl
+tables_many kinds h first (n ∷ net) = ap (λ k. suc k) (tables_many kinds h (suc first) net)
+
 -- and so does the set
-pub set_holds : (net : List NodeDecl) (kinds : List Meaning) → AreKinds net kinds → (h : Held) (set : List NodeTable) → Holds net kinds h set → (node slot : ℕ) → record_kept kinds set node slot ≡ h node slot
+pub set_holds : (net : List NodeDecl) (kinds : List Meaning) → AreKindsOf net kinds → (h : Held) (set : List NodeTable) → Holds net kinds h set → (node slot : ℕ) → record_kept kinds set node slot ≡ h node slot
 set_holds net kinds k h set s node slot =
     ap (λ o. record_of_unit kinds o (slice_get (words_of set) node) slot) (unit_fits net kinds set s.fits node)
     ∙ ap (λ ws. record_of_unit kinds (unit_at net node) (slice_get ws node) slot) s.words
@@ -273,7 +332,7 @@ words_are net kinds h set s node u kind t e at =
     ∙ unit_words net kinds h u kind (h node)
 
 -- a slot with no record is empty
-pub empty_there : (net : List NodeDecl) (kinds : List Meaning) → AreKinds net kinds → (h : Held) (set : List NodeTable) → Holds net kinds h set → (node slot : ℕ) (u : UnitPart) → unit_at net node ≡ Some u → slot < u.slots → h node slot ≡ None → IsEmpty set node slot
+pub empty_there : (net : List NodeDecl) (kinds : List Meaning) → AreKindsOf net kinds → (h : Held) (set : List NodeTable) → Holds net kinds h set → (node slot : ℕ) (u : UnitPart) → unit_at net node ≡ Some u → slot < u.slots → h node slot ≡ None → IsEmpty set node slot
 empty_there net kinds k h set s node slot u e l none =
     let kind = kind_of net kinds k node u e in
     let there = table_of_unit set node u (unit_fits net kinds set s.fits node ∙ e) in
@@ -291,7 +350,7 @@ empty_there net kinds k h set s node slot u e l none =
     ∙ sym (ap (λ o. replicate (width_of_table o) 0) there.1)
 
 -- one slot gets the words of another record, or of none
-slot_holds : (net : List NodeDecl) (kinds : List Meaning) → AreKinds net kinds → (h h' : Held) (set : List NodeTable) → Holds net kinds h set → (node slot : ℕ) (u : UnitPart) (kind : IsKind net kinds u) → unit_at net node ≡ Some u → slot < u.slots → (vs : List ℕ) → vs ≡ packed_slot kind.kind u (h' node slot) → length vs ≡ kind.kind.words → AreHeld net h' → ((m q : ℕ) → (m ≡ node → q ≡ slot → ⊥) → h' m q ≡ h m q) → Holds net kinds h' (with_slot set node slot vs)
+slot_holds : (net : List NodeDecl) (kinds : List Meaning) → AreKindsOf net kinds → (h h' : Held) (set : List NodeTable) → Holds net kinds h set → (node slot : ℕ) (u : UnitPart) (kind : IsKind net kinds u) → unit_at net node ≡ Some u → slot < u.slots → (vs : List ℕ) → vs ≡ packed_slot kind.kind u (h' node slot) → length vs ≡ kind.kind.words → AreHeld net h' → ((m q : ℕ) → (m ≡ node → q ≡ slot → ⊥) → h' m q ≡ h m q) → Holds net kinds h' (with_slot set node slot vs)
 slot_holds net kinds k h h' set s node slot u kind e l vs is wide held' same =
     let there = table_of_unit set node u (unit_fits net kinds set s.fits node ∙ e) in
     let t : NodeTable = there.0 in
@@ -341,7 +400,7 @@ held_without net h s held m q r e = by (is_at m q s) e
     by false g = held m q r g
 
 -- a record is put
-pub put_holds : (net : List NodeDecl) (kinds : List Meaning) → AreKinds net kinds → (h : Held) (set : List NodeTable) (s : Put) → Holds net kinds h set → IsHeld net s.unit s.slot s.holds → Holds net kinds (with_record h s) (with_slot set s.unit s.slot (packed_in kinds set s.unit s.holds))
+pub put_holds : (net : List NodeDecl) (kinds : List Meaning) → AreKindsOf net kinds → (h : Held) (set : List NodeTable) (s : Put) → Holds net kinds h set → IsHeld net s.unit s.slot s.holds → Holds net kinds (with_record h s) (with_slot set s.unit s.slot (packed_in kinds set s.unit s.holds))
 put_holds net kinds k h set s x here =
     let u = here.unit in
     let kind = kind_of net kinds k s.unit u.0 u.1 in
@@ -355,7 +414,7 @@ put_holds net kinds k h set s x here =
     (λ m q ne. other_slot m q s (Some s.holds) (h m q) ne)
 
 -- a slot is cleared
-pub clear_holds : (net : List NodeDecl) (kinds : List Meaning) → AreKinds net kinds → (h : Held) (set : List NodeTable) (s : Put) → Holds net kinds h set → (u : UnitPart) → unit_at net s.unit ≡ Some u → s.slot < u.slots → Holds net kinds (without_record h s) (with_slot set s.unit s.slot (replicate (width_in set s.unit) 0))
+pub clear_holds : (net : List NodeDecl) (kinds : List Meaning) → AreKindsOf net kinds → (h : Held) (set : List NodeTable) (s : Put) → Holds net kinds h set → (u : UnitPart) → unit_at net s.unit ≡ Some u → s.slot < u.slots → Holds net kinds (without_record h s) (with_slot set s.unit s.slot (replicate (width_in set s.unit) 0))
 clear_holds net kinds k h set s x u e l =
     let kind = kind_of net kinds k s.unit u e in
     let there = table_of_unit set s.unit u (unit_fits net kinds set x.fits s.unit ∙ e) in
@@ -377,13 +436,13 @@ held_cleared h [] = h
 held_cleared h (s ∷ ss) = held_cleared (without_record h s) ss
 
 -- records are put, one after the other
-pub puts_hold : (net : List NodeDecl) (kinds : List Meaning) → AreKinds net kinds → (h : Held) (set : List NodeTable) (ss : List Put) → ((s : Put) → Member s ss → IsHeld net s.unit s.slot s.holds) → Holds net kinds h set → Holds net kinds (held_after h ss) (after_puts kinds set ss)
+pub puts_hold : (net : List NodeDecl) (kinds : List Meaning) → AreKindsOf net kinds → (h : Held) (set : List NodeTable) (ss : List Put) → ((s : Put) → Member s ss → IsHeld net s.unit s.slot s.holds) → Holds net kinds h set → Holds net kinds (held_after h ss) (after_puts kinds set ss)
 puts_hold net kinds k h set [] can x = x
 puts_hold net kinds k h set (s ∷ ss) can x =
     puts_hold net kinds k (with_record h s) (with_slot set s.unit s.slot (packed_in kinds set s.unit s.holds)) ss (λ t i. can t (inr i)) (put_holds net kinds k h set s x (can s (inl refl)))
 
 -- slots are cleared, one after the other
-pub clears_hold : (net : List NodeDecl) (kinds : List Meaning) → AreKinds net kinds → (h : Held) (set : List NodeTable) (ss : List Put) → ((s : Put) → Member s ss → (u : UnitPart) × (unit_at net s.unit ≡ Some u) × (s.slot < u.slots)) → Holds net kinds h set → Holds net kinds (held_cleared h ss) (after_clears set ss)
+pub clears_hold : (net : List NodeDecl) (kinds : List Meaning) → AreKindsOf net kinds → (h : Held) (set : List NodeTable) (ss : List Put) → ((s : Put) → Member s ss → (u : UnitPart) × (unit_at net s.unit ≡ Some u) × (s.slot < u.slots)) → Holds net kinds h set → Holds net kinds (held_cleared h ss) (after_clears set ss)
 clears_hold net kinds k h set [] can x = x
 clears_hold net kinds k h set (s ∷ ss) can x =
     let u = can s (inl refl) in

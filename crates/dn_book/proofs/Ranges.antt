@@ -2,7 +2,7 @@
 use Rattle.std.proofs.Common.{◌≡◌, ℕ, zero, suc, ◌+◌, ◌-◌, ◌*◌, ◌/◌, ◌%◌, ◌^◌, ◌<◌, ◌≤◌, ◌⊎◌, inl, inr, false, ◌==◌, filter, nat_lt, List, [], ◌∷◌, ◌++◌, length, slice_get, Option, Some, IsTrue, refl, sym, ap, ◌∙◌, subst, arith, pow_pos, pow-add, lt-ltb, add-mul, div-add-mod', lt_of_mul-lt-mul_right}
 use Rattle.std.specs.List.{All}
 use Rattle.std.proofs.Math.Nat.{le-div_iff_mul-le}
-use Rattle.std.proofs.lemmas.Option.{same_Some, get_or_from_slice_get}
+use Rattle.std.proofs.lemmas.Option.{same_Some, get_or_from_slice_get, slice_get_within}
 use Rattle.dn_base.proofs.Booleans.{and_parts, and_from}
 use Rattle.dn_net.specs.declared.node.Unit.{Unit as UnitPart}
 use Rattle.dn_base.specs.declared.device.TableEvent.{TableEvent}
@@ -21,7 +21,7 @@ use Rattle.dn_tables.specs.Set.{IsEmpty, IsPackableIn, IsSet, fits_kinds, has_sl
 use Rattle.dn_tables.proofs.Kept.{IsSlot, slot_in_set, table_of_unit}
 use Rattle.dn_tables.proofs.Slots.{IsKindOf, kind_of_slot}
 use Rattle.dn_placement.specs.Records.{first_slot, last_slot, slot_record}
-use Rattle.dn_book.specs.Sets.{AreOpen, ArePut, FitsUnit, after_puts, is_used_by, put_at}
+use Rattle.dn_book.specs.Sets.{AreOpen, ArePut, TakesSlots, after_puts, is_used_by, put_at}
 use Rattle.dn_book.specs.Writes.{Put, hop_slots_by, slots_from}
 use Rattle.dn_book.proofs.Frames.{CanStand, SameFrame, empty_stays, frame_puts}
 use Rattle.dn_book.proofs.Hops.{HasBounds, has_bounds, first_before, last_there}
@@ -90,16 +90,16 @@ page_below p y x q size reach pos same low high some l =
     omega arith
 
 -- the record of a slot is one that the unit can hold
-pub record_within : (u : UnitPart) (r : Rights) (hop : Hop) (size q : ℕ) → FitsUnit u size hop → first_slot u hop ≤ q → q ≤ last_slot u size hop → IsTrue (is_within (unit_shape u) (slot_record u r hop q))
+pub record_within : (u : UnitPart) (r : Rights) (hop : Hop) (size q : ℕ) → TakesSlots u size hop → first_slot u hop ≤ q → q ≤ last_slot u size hop → IsTrue (is_within (unit_shape u) (slot_record u r hop q))
 record_within u r hop size q f low high =
     let b : HasBounds u = has_bounds u f.plain in
     let o = b.order in
     let s : u.reach - u.page + u.page ≡ u.reach = omega arith in
     let w : 2 ^ u.reach ≡ 2 ^ (u.reach - u.page) * 2 ^ u.page = ap (λ n. 2 ^ n) (sym s) ∙ pow-add 2 (u.reach - u.page) u.page in
-    let l : (hop.y / 2 ^ u.page + (q - hop.x / 2 ^ u.page)) * 2 ^ u.page < 2 ^ u.reach = page_below (2 ^ u.page) hop.y hop.x q size (2 ^ u.reach) (pow_pos u.page) f.agree low high f.some f.reached in
+    let l : (hop.y / 2 ^ u.page + (q - hop.x / 2 ^ u.page)) * 2 ^ u.page < 2 ^ u.reach = page_below (2 ^ u.page) hop.y hop.x q size (2 ^ u.reach) (pow_pos u.page) f.fits.agree low high f.some f.fits.reached in
     let m : (hop.y / 2 ^ u.page + (q - hop.x / 2 ^ u.page)) * 2 ^ u.page < 2 ^ (u.reach - u.page) * 2 ^ u.page = subst (λ n. (hop.y / 2 ^ u.page + (q - hop.x / 2 ^ u.page)) * 2 ^ u.page < n) w l in
     and_from (nat_lt hop.port (length u.ports)) (nat_lt (hop.y / 2 ^ u.page + (q - hop.x / 2 ^ u.page)) (2 ^ (u.reach - u.page)))
-    (lt-ltb hop.port (length u.ports) f.port)
+    (lt-ltb hop.port (length u.ports) (slice_get_within u.ports hop.port f.fits.node f.fits.is_port))
     (lt-ltb (hop.y / 2 ^ u.page + (q - hop.x / 2 ^ u.page)) (2 ^ (u.reach - u.page)) (lt_of_mul-lt-mul_right (2 ^ u.page) m))
 
 -- a record that may be put into a slot of a set
@@ -135,7 +135,7 @@ packed_length kinds set node slot r lawful is_set fits there u e packable =
     ∙ sym (ap width_of_table k.1)
 
 -- the record of a slot of a hop may be put there
-pub fits_put : (kinds : List Meaning) (set : List NodeTable) (u : UnitPart) (r : Rights) (hop : Hop) (size q : ℕ) → All IsLawful kinds → IsSet set → IsTrue (fits_kinds kinds set) → unit_in set hop.unit ≡ Some u → IsTrue (is_shaped kinds u) → FitsUnit u size hop → IsTrue (are_rights r) → first_slot u hop ≤ q → q ≤ last_slot u size hop → FitsPut kinds set (put_at hop.unit q (slot_record u r hop q))
+pub fits_put : (kinds : List Meaning) (set : List NodeTable) (u : UnitPart) (r : Rights) (hop : Hop) (size q : ℕ) → All IsLawful kinds → IsSet set → IsTrue (fits_kinds kinds set) → unit_in set hop.unit ≡ Some u → IsTrue (is_shaped kinds u) → TakesSlots u size hop → IsTrue (are_rights r) → first_slot u hop ≤ q → q ≤ last_slot u size hop → FitsPut kinds set (put_at hop.unit q (slot_record u r hop q))
 fits_put kinds set u r hop size q lawful is_set fits e shaped f rights low high =
     record { there = there; packable = packable; can = can_stand kinds set hop.unit q is_set there (packed_in kinds set hop.unit (slot_record u r hop q)) (packed_length kinds set hop.unit q (slot_record u r hop q) lawful is_set fits there u e packable) u e }
   where
@@ -165,7 +165,7 @@ pub record HopPuts (kinds : List Meaning) (set : List NodeTable) (u : UnitPart) 
   pub fits : IsTrue (fits_kinds kinds set)
   pub at : unit_in set hop.unit ≡ Some u
   pub shaped : IsTrue (is_shaped kinds u)
-  pub fit : FitsUnit u size hop
+  pub fit : TakesSlots u size hop
   pub rights : IsTrue (are_rights r)
   pub opened : AreOpen set (hop_slots_by (Some u) size r hop)
 
@@ -276,7 +276,7 @@ rest_of_hop u size r hop q low high =
     (slots_from u r hop (first_slot u hop + k) n, ap (slots_from u r hop (first_slot u hop)) e ∙ slots_split u r hop (first_slot u hop) k n ∙ ap (λ (l : List Put). l ++ slots_from u r hop (first_slot u hop + k) n) (so_far_more u r hop q low))
 
 -- what a hop shares with all of its slots that are there
-pub slot_there : (set : List NodeTable) (u : UnitPart) (size : ℕ) (hop : Hop) (q : ℕ) → unit_in set hop.unit ≡ Some u → FitsUnit u size hop → q < suc (last_slot u size hop) → IsTrue (has_slot set hop.unit q)
+pub slot_there : (set : List NodeTable) (u : UnitPart) (size : ℕ) (hop : Hop) (q : ℕ) → unit_in set hop.unit ≡ Some u → TakesSlots u size hop → q < suc (last_slot u size hop) → IsTrue (has_slot set hop.unit q)
 slot_there set u size hop q e f high =
     let l = last_there u size hop f in
     subst (λ o. IsTrue (has_slot_by o q)) (sym e) (lt-ltb q u.slots (omega arith))

@@ -27,7 +27,7 @@ use Rattle.dn_book.proofs.Facts.{fit_then, fits_net_kept}
 use Rattle.dn_book.proofs.Frames.{SameFrame, frame_clears}
 use Rattle.dn_book.proofs.Given.{GrantGives, by_uses, gives_taken}
 use Rattle.dn_book.proofs.Live.{book_held, by_place, clears_there, gives_held, hop_put_gives, picked_empty, put_gives, records_revoked, some_use, used_once, uses_revoked}
-use Rattle.dn_book.proofs.Packed.{AreKinds, Holds, IsKind, clears_hold, held_cleared, kind_of, set_holds}
+use Rattle.dn_book.proofs.Packed.{AreKindsOf, Holds, IsKind, clears_hold, held_cleared, kind_of, set_holds}
 use Rattle.dn_book.proofs.Sound.{placed_fit, revoked_sound}
 use Rattle.dn_tables.proofs.Units.{unit_fits}
 
@@ -37,7 +37,7 @@ same_flat_in f g [] e = refl
 same_flat_in {X} {Y} f g (x ∷ xs) e = ap (λ (l : List Y). l ++ flat_map f xs) (e x (inl refl)) ∙ ap (λ (l : List Y). g x ++ l) (same_flat_in f g xs (λ y m. e y (inr m)))
 
 -- the clears by a set are those by the net, where the units are there
-clear_log_is : (net : List NodeDecl) (kinds : List Meaning) → AreKinds net kinds → (set : List NodeTable) → FitsNet net kinds set → (ss : List Put) → ((s : Put) → Member s ss → (u : UnitPart) × (unit_at net s.unit ≡ Some u) × (s.slot < u.slots)) → clear_log set ss ≡ flat_map (clear_events net kinds) ss
+clear_log_is : (net : List NodeDecl) (kinds : List Meaning) → AreKindsOf net kinds → (set : List NodeTable) → FitsNet net kinds set → (ss : List Put) → ((s : Put) → Member s ss → (u : UnitPart) × (unit_at net s.unit ≡ Some u) × (s.slot < u.slots)) → clear_log set ss ≡ flat_map (clear_events net kinds) ss
 clear_log_is net kinds k set f ss there =
     same_flat_in (λ (s : Put). write_events s.unit (clear_writes set s.unit s.slot)) (clear_events net kinds) ss one
   where
@@ -59,7 +59,7 @@ pub record Going (net : List NodeDecl) (kinds : List Meaning) (book : List Grant
   pub live : Member g book
 
 module _ (net : List NodeDecl) (kinds : List Meaning) (book : List Grant) (g : Grant) (set : List NodeTable) (c : Going net kinds book g set) where
-  k : AreKinds net kinds
+  k : AreKindsOf net kinds
   k = record { lawful = c.lawful; shaped = c.legal.shaped }
 
   pub going_fit : AreFit net g.request.size g.placement.hops

@@ -3,7 +3,7 @@ use Rattle.std.proofs.Common.{◌≡◌, ◌≢◌, ℕ, zero, suc, ◌+◌, ◌
 use Rattle.std.specs.List.{AllPairs, list_any}
 use Rattle.std.proofs.lemmas.List.Kept.{AllPairs-filter}
 use Rattle.std.proofs.lemmas.List.Quantifiers.{all_pairs_push}
-use Rattle.std.proofs.lemmas.Option.{same_Some, slice_get_within, slice_get-get_or}
+use Rattle.std.proofs.lemmas.Option.{same_Some, slice_get-get_or}
 use Rattle.dn_base.proofs.Lists.{length-last}
 use Rattle.dn_base.proofs.Members.{member_cases, member_at, member_none}
 use Rattle.dn_base.proofs.Booleans.{cases_Bool, not-true}
@@ -28,7 +28,7 @@ use Rattle.dn_placement.specs.Slots.{Slots}
 use Rattle.dn_book.specs.declared.grant.Grant.{Grant}
 use Rattle.dn_book.specs.Book.{AreOwnAlone, IsGiven, IsGrant, IsSound, has_id, open_slots, owns_slot, records_of, slots_of, uses_slot, without_id}
 use Rattle.dn_book.specs.Laws.{IsGrantFor}
-use Rattle.dn_book.specs.Sets.{AreFit, FitsUnit}
+use Rattle.dn_book.specs.Sets.{AreFit, TakesSlots}
 use Rattle.dn_book.proofs.Given.{GrantGives, HopGives, Uses, by_owns, given_by, gives_taken, hop_gives, in_held, owned_used, owns_by, place_of, taken_gives, uses_by, uses_given}
 use Rattle.dn_book.proofs.InOrder.{units_apart}
 
@@ -38,7 +38,7 @@ use Rattle.dn_book.proofs.InOrder.{units_apart}
 pub record PlacedHop (net : List NodeDecl) (slots : Slots) (size : ℕ) (hop : Hop) : Type 0 where
   pub unit : UnitPart
   pub is_unit : unit_at net hop.unit ≡ Some unit
-  pub fit : FitsUnit unit size hop
+  pub fit : TakesSlots unit size hop
   pub usable : (q : ℕ) → first_slot unit hop ≤ q → q ≤ last_slot unit size hop → IsUsable slots unit hop q
 
 leads_at : (net : List NodeDecl) (slots : Slots) (rq : Request) (hops : List Hop) (j : ℕ) (hop : Hop) → Leads net slots rq hops → slice_get hops j ≡ Some hop → Joins net slots rq hop (drop (suc j) hops)
@@ -55,10 +55,7 @@ placed_hop net legal slots rq p placed j hop at =
       fit = record {
         some = placed.some;
         plain = plain_at net hop.unit l.unit legal.shapes l.is_unit;
-        port = slice_get_within l.unit.ports hop.port l.node l.is_port;
-        agree = l.agree;
-        within = l.within;
-        reached = l.reached;
+        fits = l.fits;
       };
       usable = l.usable;
     }
@@ -67,14 +64,14 @@ placed_hop net legal slots rq p placed j hop at =
 next_leads : (net : List NodeDecl) (slots : Slots) (rq : Request) (a b : Hop) (hops : List Hop) → 1 ≤ rq.size → Joins net slots rq a (b ∷ hops) → LeadsTo net a.unit b.unit
 next_leads net slots rq a b hops some l =
     let m = l.meets 0 (omega arith) in
-    let below : a.y + 0 < 2 ^ l.unit.reach = let r = l.reached in omega arith in
+    let below : a.y + 0 < 2 ^ l.unit.reach = let r = l.fits.reached in omega arith in
     record {
       part = l.unit;
-      port = l.node;
+      port = l.fits.node;
       addr = a.y + 0;
       stop = record { node = b.unit; addr = b.x + 0 };
       is_part = l.is_unit;
-      has_port = member_at l.unit.ports a.port l.node l.is_port;
+      has_port = member_at l.unit.ports a.port l.fits.node l.fits.is_port;
       below = below;
       reaches = (m.1.0, m.1.2);
       is_stop = m.0;
@@ -161,11 +158,7 @@ opened net slots rq (hop ∷ hops) l = (
   record {
     unit = l.0.unit;
     is_unit = l.0.is_unit;
-    node = l.0.node;
-    is_port = l.0.is_port;
-    agree = l.0.agree;
-    within = l.0.within;
-    reached = l.0.reached;
+    fits = l.0.fits;
     usable = λ q a b. is_free refl;
     meets = l.0.meets;
   },

@@ -119,14 +119,14 @@ leads_on net legal h slots rq (hop ∷ hops) node addr i l m leads held =
     let s = m i l in
     let j = leads.0 in
     let before = chain_under net legal h s.1.0 (name_on node addr i) (name_on hop.unit hop.x i) s.1.2 in
-    let step = hop_step net h hop j.unit j.node i j.is_unit j.is_port j.agree (held 0 hop j.unit refl j.is_unit) s.0 in
-    let rest = leads_on net legal h slots rq hops j.node hop.y i l j.meets leads.1 (λ k g u e f. held (suc k) g u e f) in
-    (s.1.0 + suc rest.0, chain_join (StepUnder net h) s.1.0 (suc rest.0) (name_on node addr i) (name_on hop.unit hop.x i) (name_on rq.node rq.base i) before (name_on j.node hop.y i, step, rest.1))
+    let step = hop_step net h hop j.unit j.fits.node i j.is_unit j.fits.is_port j.fits.agree (held 0 hop j.unit refl j.is_unit) s.0 in
+    let rest = leads_on net legal h slots rq hops j.fits.node hop.y i l j.meets leads.1 (λ k g u e f. held (suc k) g u e f) in
+    (s.1.0 + suc rest.0, chain_join (StepUnder net h) s.1.0 (suc rest.0) (name_on node addr i) (name_on hop.unit hop.x i) (name_on rq.node rq.base i) before (name_on j.fits.node hop.y i, step, rest.1))
 
 -- the end of a placement is accepted
 pub leads_accepted : (net : List NodeDecl) (slots : Slots) (rq : Request) (hops : List Hop) (node addr i : ℕ) → i < rq.size → Meets net rq node addr hops → Leads net slots rq hops → IsTrue (is_accepted net (name_on rq.node rq.base i))
 leads_accepted net slots rq [] node addr i l m leads = (((m i l).0 (name_on rq.node rq.base i)).1 refl).0
-leads_accepted net slots rq (hop ∷ hops) node addr i l m leads = let j = leads.0 in leads_accepted net slots rq hops j.node hop.y i l j.meets leads.1
+leads_accepted net slots rq (hop ∷ hops) node addr i l m leads = let j = leads.0 in leads_accepted net slots rq hops j.fits.node hop.y i l j.meets leads.1
 
 -- the way to a hop, and on from it
 pub record WayOver (net : List NodeDecl) (h : Held) (x y s : Name) : Type 0 where
@@ -139,21 +139,21 @@ way_over net legal h slots rq [] node addr i l m leads held j own e = cc
 way_over net legal h slots rq (hop ∷ hops) node addr i l m leads held zero own e =
     let s = m i l in
     let t = leads.0 in
-    let step = hop_step net h hop t.unit t.node i t.is_unit t.is_port t.agree (held 0 hop t.unit refl t.is_unit) s.0 in
-    let rest = leads_on net legal h slots rq hops t.node hop.y i l t.meets leads.1 (λ k g u e f. held (suc k) g u e f) in
+    let step = hop_step net h hop t.unit t.fits.node i t.is_unit t.fits.is_port t.fits.agree (held 0 hop t.unit refl t.is_unit) s.0 in
+    let rest = leads_on net legal h slots rq hops t.fits.node hop.y i l t.meets leads.1 (λ k g u e f. held (suc k) g u e f) in
     subst (λ (w : Hop). WayOver net h (name_on node addr i) (name_on rq.node rq.base i) (name_on w.unit w.x i)) (same_Some hop own e) (record {
       before = (s.1.0, chain_under net legal h s.1.0 (name_on node addr i) (name_on hop.unit hop.x i) s.1.2);
       after = rest.0;
-      chain = (name_on t.node hop.y i, step, rest.1);
+      chain = (name_on t.fits.node hop.y i, step, rest.1);
     })
 way_over net legal h slots rq (hop ∷ hops) node addr i l m leads held (suc j) own e =
     let s = m i l in
     let t = leads.0 in
     let first = chain_under net legal h s.1.0 (name_on node addr i) (name_on hop.unit hop.x i) s.1.2 in
-    let step = hop_step net h hop t.unit t.node i t.is_unit t.is_port t.agree (held 0 hop t.unit refl t.is_unit) s.0 in
-    let r = way_over net legal h slots rq hops t.node hop.y i l t.meets leads.1 (λ k g u e f. held (suc k) g u e f) j own e in
+    let step = hop_step net h hop t.unit t.fits.node i t.is_unit t.fits.is_port t.fits.agree (held 0 hop t.unit refl t.is_unit) s.0 in
+    let r = way_over net legal h slots rq hops t.fits.node hop.y i l t.meets leads.1 (λ k g u e f. held (suc k) g u e f) j own e in
     record {
-      before = (s.1.0 + suc r.before.0, chain_join (StepUnder net h) s.1.0 (suc r.before.0) (name_on node addr i) (name_on hop.unit hop.x i) (name_on own.unit own.x i) first (name_on t.node hop.y i, step, r.before.1));
+      before = (s.1.0 + suc r.before.0, chain_join (StepUnder net h) s.1.0 (suc r.before.0) (name_on node addr i) (name_on hop.unit hop.x i) (name_on own.unit own.x i) first (name_on t.fits.node hop.y i, step, r.before.1));
       after = r.after;
       chain = r.chain;
     }

@@ -1,6 +1,6 @@
 -- The laws on books: a sound and faithful book stays so as grants come and go, and owes what its
 -- records give.
-use Rattle.std.specs.Prelude.{◌≡◌, ℕ, ◌<◌, ◌↔◌, false, List, [], ◌∷◌, ◌++◌, length, slice_get, IsTrue}
+use Rattle.std.specs.Prelude.{◌≡◌, ℕ, ◌<◌, ◌≤◌, ◌↔◌, false, List, [], ◌∷◌, ◌++◌, length, slice_get, IsTrue}
 use Rattle.std.specs.List.{All}
 use Rattle.dn_net.specs.declared.node.Name.{Name}
 use Rattle.dn_net.specs.declared.node.NodeDecl.{NodeDecl}
@@ -17,6 +17,7 @@ use Rattle.dn_placement.specs.Placement.{IsPlacement}
 use Rattle.dn_book.specs.declared.grant.Grant.{Grant}
 use Rattle.dn_book.specs.Book.{IsFaithful, IsSound, Owes, has_id, owed_names, records_of, slots_of, without_id}
 use Rattle.dn_book.specs.Tables.{tables_of}
+use Rattle.dn_book.specs.Writes.{clears_of}
 
 -- what a grant must be to come into a book: its id is new, there is room, and it is a placement in
 -- the slots as the book leaves them
@@ -45,6 +46,12 @@ abbrev pub RevokeKeepsBook : Type 0
 RevokeKeepsBook = (net : List NodeDecl) (book : List Grant) (id : ℕ) → IsLegalNet net →
     IsSound net book → IsSound net (without_id id book)
     × (IsFaithful net book → IsFaithful net (without_id id book))
+
+-- Taking a live grant out of a sound book clears a slot at least: no other grant uses those of its own
+-- hop.
+abbrev pub RevokeClearsSome : Type 0
+RevokeClearsSome = (net : List NodeDecl) (book : List Grant) (g : Grant) → IsLegalNet net →
+    IsSound net book → Member g book → 1 ≤ length (clears_of net book g)
 
 -- The tables of a sound book hold exactly the records of the book.
 abbrev pub TablesHoldRecords : Type 0

@@ -1,4 +1,5 @@
 pub mod Book
+pub mod Committed
 pub mod Faults
 pub mod Kept
 pub mod Laws

@@ -1,5 +1,5 @@
 -- What the parts of a grant and of a revoke leave of a set of tables, slot by slot.
-use Rattle.std.specs.Prelude.{◌≡◌, ◌≢◌, ℕ, suc, ◌+◌, ◌-◌, ◌*◌, ◌^◌, ◌%◌, ◌<◌, ◌≤◌, Bool, false, if◌then◌else◌, ◌&&◌, nat_eq, ◌==◌, List, [], ◌∷◌, filter, length, replicate, slice_get, Option, Some, None, IsSome, IsTrue}
+use Rattle.std.specs.Prelude.{◌≡◌, ◌≢◌, ℕ, suc, ◌+◌, ◌-◌, ◌<◌, ◌≤◌, Bool, false, if◌then◌else◌, ◌&&◌, nat_eq, ◌==◌, List, [], ◌∷◌, filter, replicate, slice_get, Option, Some, None, IsSome, IsTrue}
 use Rattle.std.specs.List.{AllPairs, flat_map, list_any}
 use Rattle.dn_base.specs.declared.device.TableEvent.{TableEvent}
 use Rattle.dn_net.specs.declared.node.NodeDecl.{NodeDecl}
@@ -15,24 +15,21 @@ use Rattle.dn_tables.specs.declared.table.NodeTable.{NodeTable}
 use Rattle.dn_tables.specs.declared.table.SlotUse.{SlotUse}
 use Rattle.dn_tables.specs.Set.{IsEmpty, KeepsFit, has_slot, packed_in, use_in, width_in, with_slot, words_of, tables_of_set}
 use Rattle.dn_tables.specs.Writes.{clear_writes, put_writes, write_events}
+use Rattle.dn_placement.specs.Placement.{FitsUnit}
 use Rattle.dn_book.specs.declared.grant.Grant.{Grant}
 use Rattle.dn_book.specs.Book.{is_taken}
 use Rattle.dn_book.specs.Writes.{AreAdded, Put, hop_slots}
 
--- the hop fits this unit: it is there with its port, and inputs and outputs are within its slots and
--- its reach
-pub record FitsUnit (u : UnitPart) (size : ℕ) (hop : Hop) : Type 0 where
+-- the hop takes slots of this unit: it has addresses and fits the unit, which has a plain shape
+pub record TakesSlots (u : UnitPart) (size : ℕ) (hop : Hop) : Type 0 where
   pub some : 1 ≤ size
   pub plain : IsTrue (has_plain_shape u)
-  pub port : hop.port < length u.ports
-  pub agree : hop.x % 2 ^ u.page ≡ hop.y % 2 ^ u.page
-  pub within : hop.x + size ≤ u.slots * 2 ^ u.page
-  pub reached : hop.y + size ≤ 2 ^ u.reach
+  pub fits : FitsUnit u size hop
 
--- each hop fits the unit that its node is
+-- each hop takes slots of the unit that its node is
 pub record AreFit (net : List NodeDecl) (size : ℕ) (hops : List Hop) : Type 0 where
   pub units : (hop : Hop) → Member hop hops →
-      (u : UnitPart) × (unit_at net hop.unit ≡ Some u) × FitsUnit u size hop
+      (u : UnitPart) × (unit_at net hop.unit ≡ Some u) × TakesSlots u size hop
   pub apart : AllPairs (λ (a b : Hop). a.unit ≢ b.unit) hops
 
 -- what holds of each slot of the hops of a grant, by the place of its hop

@@ -9,4 +9,4 @@ pub record BookState : Type 0 where
   pub grants : List Grant
   pub set : List NodeTable
   pub cleared : Bool
-  pub sound : Bool
+  pub unfailed : Bool

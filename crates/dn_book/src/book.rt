@@ -1,13 +1,12 @@
 //! The live grants, with the tables that hold their records.
 
-ghost use Rattle.std.specs.Prelude.{◌≡◌, ◌≢◌, ◌↔◌, [], ◌∷◌, ◌++◌, Err, true, false, not, map, IfOk, OnOk, OnErr, is_ok, is_err};
+ghost use Rattle.std.specs.Prelude.{◌≡◌, ◌≢◌, ◌↔◌, [], ◌∷◌, ◌++◌, Err, true, false, not, IfOk, OnOk, OnErr, is_ok, is_err};
 ghost use Rattle.dn_net.specs.Terms.{Member};
-ghost use Rattle.std.specs.List.{All};
-ghost use Rattle.dn_base.specs.Terms.{IsCounted, is_make_fault};
-ghost use Rattle.dn_kind.specs.Terms.{IsLawful, IsLegalWith};
+ghost use Rattle.dn_base.specs.Terms.{IsCounted, is_device_fault};
+ghost use Rattle.dn_kind.specs.Terms.{IsKinded, kinds_of};
 ghost use Rattle.dn_tables.specs.Terms.{AreUnitsMade, FitsNet, IsOnDevice, fresh_set, tables_of_set};
-ghost use Rattle.dn_book.specs.Terms.{AreAdded, IsFaithful, IsGrantFor, IsKept, grant_events, has_id, is_commit_fault, is_revoke_fault, revoke_events, without_id};
-ghost use Rattle.dn_book.specs.declared.book.CommitFault.TheVariants.{OutOfMemory as no_memory};
+ghost use Rattle.dn_book.specs.Terms.{AreAdded, IsCommitted, IsFaithful, IsGrantFor, IsKept, grant_events, has_id, is_revoke_fault, revoke_events, without_id};
+ghost use Rattle.dn_base.specs.declared.device.DeviceOrMemory.TheVariants.{OutOfMemory as no_memory};
 ghost use Rattle.dn_book.specs.declared.book.RevokeFault.TheVariants.{NoGrant as no_grant};
 ghost use Rattle.dn_book.specs.declared.grant.Grant.{Grant as GrantPart};
 
@@ -16,24 +15,12 @@ use crate::grant::Grant;
 use crate::grants::Grants;
 use crate::puts::write_grant;
 use crate::uses::{add_uses, end_uses};
-use dn_base::device::{MakeFault, Tables};
-use dn_kind::kinds::Kinds;
-use dn_net::net::Net;
+use dn_base::device::{DeviceOrMemory, Tables};
+use dn_kind::kinded::KindedNet;
 use dn_tables::set::TableSet;
 use std::alloc::Global;
 use std::marker::Model;
 use thiserror::Error;
-
-/// Why a grant is not committed.
-#[derive(Clone, Copy, Debug, PartialEq, Eq, Error)]
-pub enum CommitFault {
-    /// The device failed. It counts its faults.
-    #[error("Device")]
-    Device,
-    /// There was no memory for the grant.
-    #[error("OutOfMemory")]
-    OutOfMemory,
-}
 
 /// Why a grant is not revoked.
 #[derive(Clone, Copy, Debug, PartialEq, Eq, Error)]
@@ -52,7 +39,7 @@ pub struct Book {
     grants: Grants,
     tables: TableSet,
     cleared: bool,
-    sound: bool,
+    unfailed: bool,
 }
 
 impl Model for Book {
@@ -60,7 +47,7 @@ impl Model for Book {
 
     ghost Value = { BookState };
 
-    ghost view = { λ b. record { grants = b.grants; set = b.tables; cleared = b.cleared; sound = b.sound } };
+    ghost view = { λ b. record { grants = b.grants; set = b.tables; cleared = b.cleared; unfailed = b.unfailed } };
 }
 
 impl Book {
@@ -73,34 +60,30 @@ impl Book {
     /// the device in order so far, and nothing else was done to it.
     pub fn make<D: Tables>(
         alloc: Global,
-        net: &Net,
-        kinds: &Kinds,
+        on: KindedNet,
         device: &mut D,
-    ) -> Result<Book, MakeFault>
-        requires lawful { All (λ k. IsLawful (meaning (k.vtable, k.value))) kinds.now.list.items }
-        requires legal { IsLegalWith
-            (map (λ k. meaning (k.vtable, k.value)) kinds.now.list.items) net.now }
+    ) -> Result<Book, DeviceOrMemory>
+        requires on { IsKinded meaning on }
         requires none { D.units device.old ≡ [] }
         ensures empty { IfOk result (λ book. book.grants ≡ []) }
-        ensures sound { IfOk result (λ book. book.sound ≡ true) }
+        ensures unfailed { IfOk result (λ book. book.unfailed ≡ true) }
         ensures cleared { IfOk result (λ book. book.cleared ≡ false) }
-        ensures kept { IfOk result (λ book. IsKept net.now
-            (map (λ k. meaning (k.vtable, k.value)) kinds.now.list.items) book.grants book.set) }
-        ensures faithful { IfOk result (λ book. IsFaithful net.now book.grants) }
+        ensures kept { IfOk result (λ book.
+            IsKept on.entry.net.now (kinds_of meaning on.entry.kinds.now) book.grants book.set) }
+        ensures faithful { IfOk result (λ book. IsFaithful on.entry.net.now book.grants) }
         ensures on_device { IfOk result (λ book.
             IsOnDevice book.set (D.units device.new) (D.words device.new)) }
-        ensures made { AreUnitsMade
-            (tables_of_set (fresh_set (map (λ k. meaning (k.vtable, k.value)) kinds.now.list.items) net.now))
-            (is_ok result) (is_make_fault result) (D.log device.old) (D.log device.new)
-            (D.units device.new) (D.words device.old) (D.words device.new) }
+        ensures made { AreUnitsMade (tables_of_set (fresh_set (kinds_of meaning on.entry.kinds.now)
+            on.entry.net.now)) (is_ok result) (is_device_fault result) (D.log device.old)
+            (D.log device.new) (D.units device.new) (D.words device.old) (D.words device.new) }
         ensures counted { IsCounted (D.faults device.old)
-            (D.faults device.new) (is_make_fault result) }
+            (D.faults device.new) (is_device_fault result) }
     {
         Ok(Book {
             grants: Grants::new(alloc),
-            tables: TableSet::make(alloc, net, kinds, device)?,
+            tables: TableSet::make(alloc, on, device)?,
             cleared: false,
-            sound: true,
+            unfailed: true,
         })
     }
 
@@ -118,11 +101,11 @@ impl Book {
         &self.tables
     }
 
-    /// Whether no call of the device failed so far. A book that is not sound is only read.
-    pub fn is_sound(&self) -> bool
-        ensures { result ≡ self.now.sound }
+    /// Whether no call of the device failed so far. A book for which one failed is only read.
+    pub fn is_unfailed(&self) -> bool
+        ensures { result ≡ self.now.unfailed }
     {
-        self.sound
+        self.unfailed
     }
 
     /// Whether a record was cleared since the last fence, or since the units were made.
@@ -147,55 +130,45 @@ impl Book {
     ///
     /// `Device` only where the device's count of faults rose in this call, or stands at the last value
     /// of its counter: the writes before the one that failed are done, no grant comes in, and the book
-    /// is not sound any more. `OutOfMemory` for want of memory, or behind 2^64 - 1 grants: nothing has
+    /// is only read from then on. `OutOfMemory` for want of memory, or behind 2^64 - 1 grants: nothing has
     /// changed.
     pub fn commit<D: Tables>(
         &mut self,
         alloc: Global,
-        net: &Net,
-        kinds: &Kinds,
+        on: KindedNet,
         grant: Grant,
         device: &mut D,
-    ) -> Result<(), CommitFault>
-        requires lawful { All (λ k. IsLawful (meaning (k.vtable, k.value))) kinds.now.list.items }
-        requires legal { IsLegalWith
-            (map (λ k. meaning (k.vtable, k.value)) kinds.now.list.items) net.now }
-        requires sound { self.old.sound ≡ true }
-        requires kept { IsKept net.now
-            (map (λ k. meaning (k.vtable, k.value)) kinds.now.list.items) self.old.grants self.old.set }
+    ) -> Result<(), DeviceOrMemory>
+        requires on { IsKinded meaning on }
+        requires unfailed { self.old.unfailed ≡ true }
+        requires kept { IsKept on.net.now
+            (kinds_of meaning on.kinds.now) self.old.grants self.old.set }
         requires on_device { IsOnDevice self.old.set (D.units device.old) (D.words device.old) }
-        requires placed { IsGrantFor net.now self.old.grants grant }
+        requires placed { IsGrantFor on.net.now self.old.grants grant }
         ensures granted { OnOk result (self.new.grants ≡ self.old.grants ++ grant ∷ []) }
-        ensures kept { OnOk result (IsKept net.now
-            (map (λ k. meaning (k.vtable, k.value)) kinds.now.list.items) self.new.grants self.new.set) }
-        ensures fenced { OnOk result (self.new.cleared ≡ false) }
+        ensures committed { IsCommitted on.entry.net.now (kinds_of meaning on.entry.kinds.now)
+            result (is_device_fault result) self.new (D.units device.new) (D.words device.new)
+            (D.faults device.old) (D.faults device.new) }
         ensures refused { OnErr result (self.new.grants ≡ self.old.grants) }
         ensures memory { result ≡ Err no_memory → self.new ≡ self.old }
-        ensures sound { self.new.sound ≡ not (is_commit_fault result) }
-        ensures fits { FitsNet net.now
-            (map (λ k. meaning (k.vtable, k.value)) kinds.now.list.items) self.new.set }
-        ensures added { result ≢ Err no_memory → AreAdded
-            (grant_events net.now (map (λ k. meaning (k.vtable, k.value)) kinds.now.list.items)
-            self.old.grants self.old.cleared grant)
+        ensures added { result ≢ Err no_memory → AreAdded (grant_events on.entry.net.now
+            (kinds_of meaning on.entry.kinds.now) self.old.grants self.old.cleared grant)
             (is_err result) (D.log device.old) (D.log device.new) }
         ensures untouched { result ≡ Err no_memory → device.new ≡ device.old }
-        ensures on_device { IsOnDevice self.new.set (D.units device.new) (D.words device.new) }
-        ensures counted { IsCounted (D.faults device.old) (D.faults device.new)
-            (is_commit_fault result) }
     {
         let id = grant.id;
         let Ok(()) = self.grants.push(grant) else {
-            return Err(CommitFault::OutOfMemory);
+            return Err(DeviceOrMemory::OutOfMemory);
         };
         let Some(live) = self.grants.get(id) else {
             unreachable!()
         };
-        if write_grant(&mut self.tables, net, kinds, live, self.cleared, device).is_err() {
+        if write_grant(&mut self.tables, on, live, self.cleared, device).is_err() {
             self.grants.remove(id);
-            self.sound = false;
-            return Err(CommitFault::Device);
+            self.unfailed = false;
+            return Err(DeviceOrMemory::Device);
         }
-        add_uses(&mut self.tables, net, live);
+        add_uses(&mut self.tables, on.net, live);
         self.cleared = false;
         Ok(())
     }
@@ -211,34 +184,29 @@ impl Book {
     /// sound any more.
     pub fn revoke<D: Tables>(
         &mut self,
-        net: &Net,
-        kinds: &Kinds,
+        on: KindedNet,
         id: u32,
         device: &mut D,
     ) -> Result<(), RevokeFault>
-        requires lawful { All (λ k. IsLawful (meaning (k.vtable, k.value))) kinds.now.list.items }
-        requires legal { IsLegalWith
-            (map (λ k. meaning (k.vtable, k.value)) kinds.now.list.items) net.now }
-        requires sound { self.old.sound ≡ true }
-        requires kept { IsKept net.now
-            (map (λ k. meaning (k.vtable, k.value)) kinds.now.list.items) self.old.grants self.old.set }
+        requires on { IsKinded meaning on }
+        requires unfailed { self.old.unfailed ≡ true }
+        requires kept { IsKept on.net.now
+            (kinds_of meaning on.kinds.now) self.old.grants self.old.set }
         requires on_device { IsOnDevice self.old.set (D.units device.old) (D.words device.old) }
         ensures revoked { OnOk result (self.new.grants ≡ without_id id self.old.grants) }
-        ensures kept { OnOk result (IsKept net.now
-            (map (λ k. meaning (k.vtable, k.value)) kinds.now.list.items) self.new.grants self.new.set) }
-        ensures faithful { OnOk result (IsFaithful net.now self.old.grants →
-            IsFaithful net.now self.new.grants) }
+        ensures kept { OnOk result (IsKept on.entry.net.now
+            (kinds_of meaning on.entry.kinds.now) self.new.grants self.new.set) }
+        ensures faithful { OnOk result (IsFaithful on.entry.net.now self.old.grants
+            → IsFaithful on.entry.net.now self.new.grants) }
         ensures cleared { OnOk result (self.new.cleared ≡ true) }
         ensures refused { OnErr result (self.new.grants ≡ self.old.grants) }
         ensures unknown { result ≡ Err no_grant ↔ (has_id id self.old.grants ≡ false) }
         ensures unchanged { result ≡ Err no_grant → (self.new ≡ self.old) ×
             (device.new ≡ device.old) }
-        ensures sound { self.new.sound ≡ not (is_revoke_fault result) }
-        ensures fits { FitsNet net.now
-            (map (λ k. meaning (k.vtable, k.value)) kinds.now.list.items) self.new.set }
+        ensures unfailed { self.new.unfailed ≡ not (is_revoke_fault result) }
+        ensures fits { FitsNet on.entry.net.now (kinds_of meaning on.entry.kinds.now) self.new.set }
         ensures added { (g : GrantPart) → Member g self.old.grants → g.id ≡ id → AreAdded
-            (revoke_events net.now (map (λ k. meaning (k.vtable, k.value)) kinds.now.list.items)
-            self.old.grants g)
+            (revoke_events on.entry.net.now (kinds_of meaning on.entry.kinds.now) self.old.grants g)
             (is_err result) (D.log device.old) (D.log device.new) }
         ensures on_device { IsOnDevice self.new.set (D.units device.new) (D.words device.new) }
         ensures counted { IsCounted (D.faults device.old) (D.faults device.new)
@@ -247,11 +215,11 @@ impl Book {
         let Some(live) = self.grants.get(id) else {
             return Err(RevokeFault::NoGrant);
         };
-        if clear_grant(&mut self.tables, net, live, device).is_err() {
-            self.sound = false;
+        if clear_grant(&mut self.tables, on.net, live, device).is_err() {
+            self.unfailed = false;
             return Err(RevokeFault::Device);
         }
-        end_uses(&mut self.tables, net, live);
+        end_uses(&mut self.tables, on.net, live);
         self.cleared = true;
         self.grants.remove(id);
         Ok(())

@@ -7,7 +7,7 @@ ghost use Rattle.dn_net.specs.Terms.{unit_at};
 ghost use Rattle.dn_kind.specs.declared.rights.Rights.{Rights as RightsPart};
 ghost use Rattle.dn_kind.specs.declared.unit_kind.Record.{Record as RecordPart};
 ghost use Rattle.dn_tables.specs.Terms.{IsOnDevice, has_slot, unit_in, units_of};
-ghost use Rattle.dn_book.specs.Terms.{AreCleared, AreFit, FitsUnit, grant_slots, hop_slots, hop_slots_by, joined_slots, put_at};
+ghost use Rattle.dn_book.specs.Terms.{AreCleared, AreFit, TakesSlots, grant_slots, hop_slots, hop_slots_by, joined_slots, put_at};
 
 use crate::grant::Grant;
 use crate::slots::{end_slot, first_slot};
@@ -54,7 +54,7 @@ fn clear_hop<D: Tables>(
     requires units { units_of tables.old ≡ map (λ d. d.unit) net.now }
     requires on_device { IsOnDevice tables.old (D.units device.old) (D.words device.old) }
     requires there { (u : UnitPart) × (unit_at net.now hop.now.unit ≡ Some u) ×
-        FitsUnit u size hop.now }
+        TakesSlots u size hop.now }
     ensures cleared { (rights : RightsPart) → AreCleared (hop_slots net.now size rights hop.now)
         (is_err result) (D.log device.old) (D.log device.new) tables.old tables.new }
     ensures on_device { IsOnDevice tables.new (D.units device.new) (D.words device.new) }
@@ -76,7 +76,7 @@ fn clear_slots<D: Tables>(
 ) -> Result<(), DeviceFault>
     requires on_device { IsOnDevice tables.old (D.units device.old) (D.words device.old) }
     requires is_unit { unit_in tables.old hop.now.unit ≡ Some unit.now }
-    requires there { FitsUnit unit.now size hop.now }
+    requires there { TakesSlots unit.now size hop.now }
     ensures cleared { (rights : RightsPart) →
         AreCleared (hop_slots_by (Some unit.now) size rights hop.now)
         (is_err result) (D.log device.old) (D.log device.new) tables.old tables.new }

@@ -1,6 +1,6 @@
 //! Laws on the definitions, each the contract of a function that does nothing.
 
-ghost use Rattle.dn_book.specs.Terms.{EmptyBookIsFaithful, GrantKeepsBook, OwedNamesAreOwed, OwedNamesAreResolved, RevokeKeepsBook, TablesHoldRecords};
+ghost use Rattle.dn_book.specs.Terms.{BookIsProper, EmptyBookIsFaithful, GrantKeepsBook, OwedNamesAreOwed, OwedNamesAreResolved, RevokeClearsSome, RevokeKeepsBook, TablesHoldRecords};
 
 /// The empty book is sound and faithful.
 pub fn empty_book_is_faithful()
@@ -15,6 +15,17 @@ pub fn grant_keeps_book()
 /// A sound and faithful book stays so without a grant.
 pub fn revoke_keeps_book()
     ensures { RevokeKeepsBook }
+{}
+
+/// Taking a live grant out of a sound book clears a slot at least.
+pub fn revoke_clears_some()
+    ensures { RevokeClearsSome }
+{}
+
+/// The slots as a sound book leaves them hold records that their units can hold: none where no grant
+/// uses the slot, and one with both rights where no grant owns it.
+pub fn book_is_proper()
+    ensures { BookIsProper }
 {}
 
 /// The tables of a sound book hold exactly its records.

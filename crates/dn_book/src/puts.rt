@@ -1,8 +1,9 @@
 //! Putting the records of a grant: from memory's end to the agent's, and in each hop by ascending slot.
 
-ghost use Rattle.std.specs.Prelude.{◌≡◌, ◌<◌, ◌++◌, [], ◌∷◌, filter, map, reverse, Some, OnOk, is_err};
+ghost use Rattle.std.specs.Prelude.{◌≡◌, ◌<◌, ◌++◌, [], ◌∷◌, filter, reverse, Some, OnOk, is_err};
 ghost use Rattle.dn_base.specs.Terms.{IsCounted};
 ghost use Rattle.dn_net.specs.Terms.{unit_at};
+ghost use Rattle.dn_kind.specs.Terms.{kinds_of};
 ghost use Rattle.dn_placement.specs.Terms.{hop_rights};
 ghost use Rattle.dn_tables.specs.Terms.{IsOnDevice, KeepsFit};
 ghost use Rattle.dn_book.specs.Terms.{AreAdded, ArePut, MayPut, MayPutGrant, MayPutHop, after_puts, fence_events, grant_slots, hop_slots, hop_slots_by, is_used_by, joined_slots, put_at, put_log};
@@ -11,10 +12,10 @@ use crate::grant::Grant;
 use crate::slots::{end_slot, first_slot, slot_record};
 use crate::uses::is_unused;
 use dn_base::device::{DeviceFault, Tables};
+use dn_kind::kinded::KindedNet;
 use dn_kind::kinds::Kinds;
 use dn_kind::rights::Rights;
 use dn_kind::unit_kind::Record;
-use dn_net::net::Net;
 use dn_net::node::Unit;
 use dn_tables::placement::Hop;
 use dn_tables::set::TableSet;
@@ -34,27 +35,25 @@ fn hop_rights(rights: Rights, own: usize, place: usize) -> Rights
 /// `DeviceFault` at the first call that fails; those before it are done.
 pub(crate) fn write_grant<D: Tables>(
     tables: &mut TableSet,
-    net: &Net,
-    kinds: &Kinds,
+    on: KindedNet,
     grant: &Grant,
     is_due: bool,
     device: &mut D,
 ) -> Result<(), DeviceFault>
-    requires { MayPutGrant (λ k. meaning (k.vtable, k.value)) kinds.now.list.items net.now
-        grant.now tables.old (D.units device.old) (D.words device.old) }
+    requires { MayPutGrant meaning on grant.now tables.old
+        (D.units device.old) (D.words device.old) }
     ensures done { OnOk result (tables.new ≡ after_puts
-        (map (λ k. meaning (k.vtable, k.value)) kinds.now.list.items)
-        tables.old (filter (is_used_by 0 tables.old) (joined_slots (reverse (grant_slots net.now grant.now))))) }
-    ensures added { AreAdded (fence_events is_due ++ put_log
-        (map (λ k. meaning (k.vtable, k.value)) kinds.now.list.items)
-        tables.old (filter (is_used_by 0 tables.old) (joined_slots (reverse (grant_slots net.now grant.now)))))
-        (is_err result) (D.log device.old) (D.log device.new) }
+        (kinds_of meaning on.entry.kinds.now) tables.old (filter (is_used_by 0 tables.old)
+        (joined_slots (reverse (grant_slots on.entry.net.now grant.now))))) }
+    ensures added { AreAdded (fence_events is_due ++ put_log (kinds_of meaning on.entry.kinds.now)
+        tables.old (filter (is_used_by 0 tables.old) (joined_slots (reverse (grant_slots
+        on.entry.net.now grant.now))))) (is_err result) (D.log device.old) (D.log device.new) }
     ensures fits { KeepsFit tables.old tables.new }
     ensures on_device { IsOnDevice tables.new (D.units device.new) (D.words device.new) }
     ensures counted { IsCounted (D.faults device.old) (D.faults device.new) (is_err result) }
 {
     fence(is_due, device)?;
-    put_grant(tables, net, kinds, grant, device)
+    put_grant(tables, on, grant, device)
 }
 
 /// A fence, where one is due.
@@ -82,16 +81,15 @@ fn fence<D: Tables>(is_due: bool, device: &mut D) -> Result<(), DeviceFault>
 /// `DeviceFault` at the first write that fails; those before it are done.
 fn put_grant<D: Tables>(
     tables: &mut TableSet,
-    net: &Net,
-    kinds: &Kinds,
+    on: KindedNet,
     grant: &Grant,
     device: &mut D,
 ) -> Result<(), DeviceFault>
-    requires { MayPutGrant (λ k. meaning (k.vtable, k.value)) kinds.now.list.items net.now
-        grant.now tables.old (D.units device.old) (D.words device.old) }
-    ensures put { ArePut (map (λ k. meaning (k.vtable, k.value)) kinds.now.list.items)
-        (joined_slots (reverse (grant_slots net.now grant.now))) (is_err result)
-        (D.log device.old) (D.log device.new) tables.old tables.new }
+    requires { MayPutGrant meaning on grant.now tables.old
+        (D.units device.old) (D.words device.old) }
+    ensures put { ArePut (kinds_of meaning on.entry.kinds.now)
+        (joined_slots (reverse (grant_slots on.entry.net.now grant.now)))
+        (is_err result) (D.log device.old) (D.log device.new) tables.old tables.new }
     ensures on_device { IsOnDevice tables.new (D.units device.new) (D.words device.new) }
     ensures counted { IsCounted (D.faults device.old) (D.faults device.new) (is_err result) }
 {
@@ -101,15 +99,7 @@ fn put_grant<D: Tables>(
     for behind in 0..hops.len() {
         let place = hops.len() - 1 - behind;
         let rights = hop_rights(grant.request.rights, own, place);
-        put_hop(
-            tables,
-            net,
-            kinds,
-            grant.request.size,
-            rights,
-            &hops[place],
-            device,
-        )?;
+        put_hop(tables, on, grant.request.size, rights, &hops[place], device)?;
     }
     Ok(())
 }
@@ -117,24 +107,22 @@ fn put_grant<D: Tables>(
 /// Puts the records of one hop, by ascending slot.
 fn put_hop<D: Tables>(
     tables: &mut TableSet,
-    net: &Net,
-    kinds: &Kinds,
+    on: KindedNet,
     size: u64,
     rights: Rights,
     hop: &Hop,
     device: &mut D,
 ) -> Result<(), DeviceFault>
-    requires { MayPutHop (unit_at net.now hop.now.unit) size rights hop.now
-        (λ k. meaning (k.vtable, k.value)) kinds.now.list.items
-        tables.old (D.units device.old) (D.words device.old) }
-    ensures put { ArePut (map (λ k. meaning (k.vtable, k.value)) kinds.now.list.items)
-        (hop_slots net.now size rights hop.now) (is_err result)
-        (D.log device.old) (D.log device.new) tables.old tables.new }
+    requires { MayPutHop (unit_at on.net.now hop.now.unit) size rights hop.now
+        meaning on.kinds.now tables.old (D.units device.old) (D.words device.old) }
+    ensures put { ArePut
+        (kinds_of meaning on.entry.kinds.now) (hop_slots on.entry.net.now size rights hop.now)
+        (is_err result) (D.log device.old) (D.log device.new) tables.old tables.new }
     ensures on_device { IsOnDevice tables.new (D.units device.new) (D.words device.new) }
     ensures counted { IsCounted (D.faults device.old) (D.faults device.new) (is_err result) }
 {
-    match net.unit(hop.unit) {
-        Some(unit) => put_slots(tables, kinds, unit, size, rights, hop, device),
+    match on.net.unit(hop.unit) {
+        Some(unit) => put_slots(tables, on.kinds, unit, size, rights, hop, device),
         None => unreachable!(),
     }
 }
@@ -149,12 +137,10 @@ fn put_slots<D: Tables>(
     hop: &Hop,
     device: &mut D,
 ) -> Result<(), DeviceFault>
-    requires { MayPutHop (Some unit.now) size rights hop.now
-        (λ k. meaning (k.vtable, k.value)) kinds.now.list.items
-        tables.old (D.units device.old) (D.words device.old) }
-    ensures put { ArePut (map (λ k. meaning (k.vtable, k.value)) kinds.now.list.items)
-        (hop_slots_by (Some unit.now) size rights hop.now) (is_err result)
-        (D.log device.old) (D.log device.new) tables.old tables.new }
+    requires { MayPutHop (Some unit.now) size rights hop.now meaning kinds.now tables.old
+        (D.units device.old) (D.words device.old) }
+    ensures put { ArePut (kinds_of meaning kinds.now) (hop_slots_by (Some unit.now) size rights
+        hop.now) (is_err result) (D.log device.old) (D.log device.new) tables.old tables.new }
     ensures on_device { IsOnDevice tables.new (D.units device.new) (D.words device.new) }
     ensures counted { IsCounted (D.faults device.old) (D.faults device.new) (is_err result) }
 {
@@ -175,12 +161,10 @@ fn put_slot<D: Tables>(
     holds: Record,
     device: &mut D,
 ) -> Result<(), DeviceFault>
-    requires { MayPut (put_at unit slot holds)
-        (λ k. meaning (k.vtable, k.value)) kinds.now.list.items
-        tables.old (D.units device.old) (D.words device.old) }
-    ensures put { ArePut (map (λ k. meaning (k.vtable, k.value)) kinds.now.list.items)
-        (put_at unit slot holds ∷ []) (is_err result)
-        (D.log device.old) (D.log device.new) tables.old tables.new }
+    requires { MayPut (put_at unit slot holds) meaning kinds.now tables.old
+        (D.units device.old) (D.words device.old) }
+    ensures put { ArePut (kinds_of meaning kinds.now) (put_at unit slot holds ∷ [])
+        (is_err result) (D.log device.old) (D.log device.new) tables.old tables.new }
     ensures on_device { IsOnDevice tables.new (D.units device.new) (D.words device.new) }
     ensures counted { IsCounted (D.faults device.old) (D.faults device.new) (is_err result) }
 {

@@ -1,7 +1,7 @@
 //! The slots that a hop takes of its unit, and the records that it puts into them.
 
 ghost use Rattle.std.specs.Prelude.{◌≡◌, ◌<◌, ◌≤◌, suc};
-ghost use Rattle.dn_book.specs.Terms.{FitsUnit};
+ghost use Rattle.dn_book.specs.Terms.{TakesSlots};
 ghost use Rattle.dn_placement.specs.Terms.{first_slot, last_slot, slot_record};
 
 use dn_kind::rights::Rights;
@@ -11,7 +11,7 @@ use dn_tables::placement::Hop;
 
 /// The first slot that a hop takes.
 pub(crate) fn first_slot(unit: &Unit, size: u64, hop: &Hop) -> u32
-    requires { FitsUnit unit.now size hop.now }
+    requires { TakesSlots unit.now size hop.now }
     ensures value { result ≡ first_slot unit.now hop.now }
     ensures there { result < unit.now.slots }
 {
@@ -20,7 +20,7 @@ pub(crate) fn first_slot(unit: &Unit, size: u64, hop: &Hop) -> u32
 
 /// The slot behind the last one that a hop takes for so many addresses.
 pub(crate) fn end_slot(unit: &Unit, size: u64, hop: &Hop) -> u32
-    requires { FitsUnit unit.now size hop.now }
+    requires { TakesSlots unit.now size hop.now }
     ensures value { result ≡ suc (last_slot unit.now size hop.now) }
     ensures there { result ≤ unit.now.slots }
 {
@@ -29,7 +29,7 @@ pub(crate) fn end_slot(unit: &Unit, size: u64, hop: &Hop) -> u32
 
 /// The record that a hop puts into one of its slots.
 pub(crate) fn slot_record(unit: &Unit, size: u64, rights: Rights, hop: &Hop, slot: u32) -> Record
-    requires fits { FitsUnit unit.now size hop.now }
+    requires fits { TakesSlots unit.now size hop.now }
     requires from { first_slot unit.now hop.now ≤ slot }
     requires to { slot ≤ last_slot unit.now size hop.now }
     ensures { result ≡ slot_record unit.now rights hop.now slot }

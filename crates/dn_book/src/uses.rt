@@ -5,7 +5,7 @@ ghost use Rattle.dn_net.specs.declared.node.Unit.{Unit as UnitPart};
 ghost use Rattle.dn_net.specs.Terms.{Member, unit_at};
 ghost use Rattle.dn_kind.specs.Terms.{both_rights};
 ghost use Rattle.dn_tables.specs.Terms.{has_slot, unit_in, units_of, use_in};
-ghost use Rattle.dn_book.specs.Terms.{AreChanged, AreFit, AreHopsChanged, EachSlot, FitsUnit, MayUse, Put, hop_owner, hop_slots, hop_slots_by, one_use_less, one_use_more};
+ghost use Rattle.dn_book.specs.Terms.{AreChanged, AreFit, AreHopsChanged, EachSlot, MayUse, Put, TakesSlots, hop_owner, hop_slots, hop_slots_by, one_use_less, one_use_more};
 
 use crate::grant::Grant;
 use crate::slots::{end_slot, first_slot};
@@ -58,7 +58,7 @@ pub(crate) fn add_uses(tables: &mut TableSet, net: &Net, grant: &Grant)
 fn add_hop_uses(tables: &mut TableSet, net: &Net, size: u64, hop: &Hop, owner: Option<u32>)
     requires units { units_of tables.old ≡ map (λ d. d.unit) net.now }
     requires there { (u : UnitPart) × (unit_at net.now hop.now.unit ≡ Some u) ×
-        FitsUnit u size hop.now }
+        TakesSlots u size hop.now }
     requires may { (s : Put) → Member s (hop_slots net.now size both_rights hop.now) →
         MayUse owner tables.old s }
     ensures { AreChanged (one_use_more owner) (hop_slots net.now size both_rights hop.now)
@@ -73,7 +73,7 @@ fn add_hop_uses(tables: &mut TableSet, net: &Net, size: u64, hop: &Hop, owner: O
 /// The same of one hop in this unit.
 fn add_slot_uses(tables: &mut TableSet, unit: &Unit, size: u64, hop: &Hop, owner: Option<u32>)
     requires is_unit { unit_in tables.old hop.now.unit ≡ Some unit.now }
-    requires there { FitsUnit unit.now size hop.now }
+    requires there { TakesSlots unit.now size hop.now }
     requires may { (s : Put) → Member s (hop_slots_by (Some unit.now) size both_rights hop.now) →
         MayUse owner tables.old s }
     ensures { AreChanged (one_use_more owner)
@@ -104,7 +104,7 @@ pub(crate) fn end_uses(tables: &mut TableSet, net: &Net, grant: &Grant)
 fn end_hop_uses(tables: &mut TableSet, net: &Net, size: u64, hop: &Hop)
     requires units { units_of tables.old ≡ map (λ d. d.unit) net.now }
     requires there { (u : UnitPart) × (unit_at net.now hop.now.unit ≡ Some u) ×
-        FitsUnit u size hop.now }
+        TakesSlots u size hop.now }
     requires used { (s : Put) → Member s (hop_slots net.now size both_rights hop.now) →
         0 < (use_in tables.old s.unit s.slot).uses }
     ensures { AreChanged one_use_less (hop_slots net.now size both_rights hop.now)
@@ -119,7 +119,7 @@ fn end_hop_uses(tables: &mut TableSet, net: &Net, size: u64, hop: &Hop)
 /// The same of one hop in this unit.
 fn end_slot_uses(tables: &mut TableSet, unit: &Unit, size: u64, hop: &Hop)
     requires is_unit { unit_in tables.old hop.now.unit ≡ Some unit.now }
-    requires there { FitsUnit unit.now size hop.now }
+    requires there { TakesSlots unit.now size hop.now }
     requires used { (s : Put) → Member s (hop_slots_by (Some unit.now) size both_rights hop.now) →
         0 < (use_in tables.old s.unit s.slot).uses }
     ensures { AreChanged one_use_less (hop_slots_by (Some unit.now) size both_rights hop.now)

@@ -1,8 +1,8 @@
 -- The generated text of a demonstration: a platform with so many agents, their grants, and revokes.
 use Rattle.std.specs.Prelude.{ℕ, zero, suc, false, ◌+◌, ◌-◌, ◌*◌, List, [], ◌++◌, codes}
 use Rattle.std.specs.Fmt.{decimal, digits}
-use Rattle.dn_demo.specs.declared.text.Commands.{Commands}
-use Rattle.dn_demo.specs.declared.text.Commands.TheVariants.{Grants, Revokes}
+use Rattle.dn_demo.specs.declared.text.CommandKind.{CommandKind}
+use Rattle.dn_demo.specs.declared.text.CommandKind.TheVariants.{Grants, Revokes}
 
 -- the texts of the numbers below a count, one after the other
 abbrev pub texts_below : (ℕ → List ℕ) → ℕ → List ℕ
@@ -52,7 +52,7 @@ unfoldable pub revokes_of : ℕ → List ℕ
 revokes_of agent = texts_below (λ pair. revoke_text agent (2 * pair + 1)) 8
 
 -- the commands of a sort of an agent
-abbrev pub agent_commands : Commands → ℕ → List ℕ
+abbrev pub agent_commands : CommandKind → ℕ → List ℕ
 agent_commands Grants = grants_of
 agent_commands Revokes = revokes_of
 

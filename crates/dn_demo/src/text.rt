@@ -15,7 +15,7 @@ pub const STRIDE: u64 = 0x4000;
 
 /// A sort of commands, of which each agent has its own.
 #[derive(Clone, Copy)]
-enum Commands {
+enum CommandKind {
     Grants,
     Revokes,
 }
@@ -29,8 +29,8 @@ pub fn demo_text(alloc: Global, agents: u8) -> Result<Vec<u8>, OutOfMemory>
 {
     let mut out = String::new(alloc);
     write_platform(&mut out, agents)?;
-    write_commands(&mut out, agents, Commands::Grants)?;
-    write_commands(&mut out, agents, Commands::Revokes)?;
+    write_commands(&mut out, agents, CommandKind::Grants)?;
+    write_commands(&mut out, agents, CommandKind::Revokes)?;
     Ok(out.into_bytes())
 }
 
@@ -56,7 +56,7 @@ fn write_loop(out: &mut String, last: u8) -> Result<(), OutOfMemory>
 }
 
 /// Appends the commands of this sort of all agents, agent by agent.
-fn write_commands(out: &mut String, agents: u8, commands: Commands) -> Result<(), OutOfMemory>
+fn write_commands(out: &mut String, agents: u8, commands: CommandKind) -> Result<(), OutOfMemory>
     ensures { OnOk result (string_bytes out.new
         ≡ string_bytes out.old ++ texts_below (agent_commands commands) agents) }
 {
@@ -67,13 +67,13 @@ fn write_commands(out: &mut String, agents: u8, commands: Commands) -> Result<()
 }
 
 /// Appends the commands of this sort of an agent.
-fn write_commands_of(out: &mut String, agent: u8, commands: Commands) -> Result<(), OutOfMemory>
+fn write_commands_of(out: &mut String, agent: u8, commands: CommandKind) -> Result<(), OutOfMemory>
     ensures { OnOk result (string_bytes out.new
         ≡ string_bytes out.old ++ agent_commands commands agent) }
 {
     match commands {
-        Commands::Grants => write_grants_of(out, agent),
-        Commands::Revokes => write_revokes_of(out, agent),
+        CommandKind::Grants => write_grants_of(out, agent),
+        CommandKind::Revokes => write_revokes_of(out, agent),
     }
 }
 

@@ -16,18 +16,18 @@ use Rattle.dn_net.proofs.Apart.{node_apart}
 use Rattle.dn_net.proofs.Choices.{chain_is_walk}
 use Rattle.dn_net.proofs.Legs.{leads_of_leg, leg_of_leads}
 use Rattle.dn_net.proofs.Resolution.{name_is}
-use Rattle.dn_walk.specs.Legs.{Leg, bare_leg, bare_legs, leg_view}
+use Rattle.dn_walk.specs.Legs.{BareLeg, bare_leg, bare_legs, leg_view}
 use Rattle.dn_walk.specs.Ends.{name_of_end}
 use Rattle.dn_flat.specs.Firsts.{is_same}
 use Rattle.dn_flat.specs.Stages.{EndsBefore, GoesIn}
 use Rattle.dn_flat.proofs.Lists.{means_along}
 
 -- the leg leads the address to the name
-abbrev leg_gives : Leg → ℕ → End → Bool
+abbrev leg_gives : BareLeg → ℕ → End → Bool
 leg_gives l a y = (nat_le l.lo a && nat_le a l.hi) && (nat_eq l.node y.node && nat_eq (l.addr + (a - l.lo)) y.base)
 
 -- one of the legs leads the address to the name
-abbrev legs_give : List Leg → ℕ → End → Bool
+abbrev legs_give : List BareLeg → ℕ → End → Bool
 legs_give legs a y = list_any (λ l. leg_gives l a y) legs
 
 pub same_means : (node a : ℕ) (y : End) → is_same node a y ≡ true → ◌≡◌ {A = Name} (record { node = node; addr = a }) (name_of_end y)
@@ -81,7 +81,7 @@ module _ (net : List NodeDecl) (rules : KeepsNodeRules net) (node : ℕ) (n : No
     (λ c. let w = (chain_is_walk net rules 1 here (name_of_end y)).0 c in by_choice w.0 w.1 w.2),
   )
 
-some_bare : (net : List NodeDecl) (node : ℕ) (ls : List Leg) (o : Option NodeDecl) → slice_get net node ≡ o → option_map bare_legs o ≡ Some ls → (n : NodeDecl) × (slice_get net node ≡ Some n) × (bare_legs n ≡ ls)
+some_bare : (net : List NodeDecl) (node : ℕ) (ls : List BareLeg) (o : Option NodeDecl) → slice_get net node ≡ o → option_map bare_legs o ≡ Some ls → (n : NodeDecl) × (slice_get net node ≡ Some n) × (bare_legs n ≡ ls)
 some_bare net node ls None e f = cc
 some_bare net node ls (Some n) e f = let s : bare_legs n ≡ ls = cc in (n, e, s)
 

@@ -14,7 +14,7 @@ use Rattle.dn_net.specs.declared.node.NodeDecl.{NodeDecl}
 use Rattle.dn_net.specs.Decode.{is_stop}
 use Rattle.dn_net.specs.Rules.{KeepsNodeRules}
 use Rattle.dn_walk.specs.Ends.{name_of_end}
-use Rattle.dn_flat.specs.declared.found.Part.TheVariants.{Goes as Onward, Stops}
+use Rattle.dn_flat.specs.declared.found.Continuation.TheVariants.{Goes as Onward, Stops}
 use Rattle.dn_flat.specs.declared.reach.Reach.{Reach}
 use Rattle.dn_flat.specs.Onward.{leads_by, segs_lead}
 use Rattle.dn_flat.specs.Stages.{AreReaches, EndsBefore, GoesIn}

@@ -10,8 +10,8 @@ use Rattle.dn_interval.specs.Strands.{seg_gives, segs_give, rows_give}
 use Rattle.dn_interval.specs.Onward.{rows_go, rows_of}
 use Rattle.dn_interval.proofs.Goes.{rows_go_on}
 use Rattle.dn_interval.proofs.Names.{rows_from, rows_to}
-use Rattle.dn_flat.specs.declared.found.Part.{Part}
-use Rattle.dn_flat.specs.declared.found.Part.TheVariants.{Accepts, Stops, Goes, Stays, Toward}
+use Rattle.dn_flat.specs.declared.found.Continuation.{Continuation}
+use Rattle.dn_flat.specs.declared.found.Continuation.TheVariants.{Accepts, Stops, Goes, Stays, Toward}
 use Rattle.dn_flat.specs.declared.reach.Reach.{Reach}
 use Rattle.dn_flat.specs.Firsts.{is_same}
 use Rattle.dn_flat.specs.Levels.{levels_give}
@@ -19,14 +19,14 @@ use Rattle.dn_flat.specs.Onward.{has_rows, leads_by, levels_lead, reach_leads, s
 
 -- names go on by what is known of their node
 
-pub leads_there : (part : Part) (nodes : List Reach) (node : ℕ) (reach : Reach) → slice_get nodes node ≡ Some reach → (a : ℕ) (z : End) → leads_by part nodes node a z ≡ reach_leads part reach node a z
+pub leads_there : (part : Continuation) (nodes : List Reach) (node : ℕ) (reach : Reach) → slice_get nodes node ≡ Some reach → (a : ℕ) (z : End) → leads_by part nodes node a z ≡ reach_leads part reach node a z
 leads_there Accepts nodes node reach at a z = ap (λ o. rows_give (rows_of (λ (r : Reach). r.done.accepts) o) a z) at
 leads_there Stops nodes node reach at a z = ap (λ o. rows_give (rows_of (λ (r : Reach). r.done.stops) o) a z) at
 leads_there Goes nodes node reach at a z = ap (λ o. rows_give (rows_of (λ (r : Reach). r.go) o) a z) at
 leads_there Stays nodes node reach at a z = ap (λ o. has_rows (rows_of (λ (r : Reach). r.done.accepts) o) && is_same node a z) at
 leads_there (Toward other rows) nodes node reach at a z = ap (λ o. nat_eq node other && rows_give (rows_of (λ (r : Reach). rows.now) o) a z) at
 
-pub leads_none : (part : Part) (nodes : List Reach) (node : ℕ) → slice_get nodes node ≡ None → (a : ℕ) (z : End) → leads_by part nodes node a z ≡ false
+pub leads_none : (part : Continuation) (nodes : List Reach) (node : ℕ) → slice_get nodes node ≡ None → (a : ℕ) (z : End) → leads_by part nodes node a z ≡ false
 leads_none Accepts nodes node at a z = ap (λ o. rows_give (rows_of (λ (r : Reach). r.done.accepts) o) a z) at
 leads_none Stops nodes node at a z = ap (λ o. rows_give (rows_of (λ (r : Reach). r.done.stops) o) a z) at
 leads_none Goes nodes node at a z = ap (λ o. rows_give (rows_of (λ (r : Reach). r.go) o) a z) at
@@ -35,14 +35,14 @@ leads_none (Toward other rows) nodes node at a z = ap (λ o. nat_eq node other &
 
 -- what was found, and what the names of a segment come to
 
-pub push_there : (part : Part) (nodes : List Reach) (s : Seg) (reach : Reach) (old new : Bool) (a : ℕ) (z : End) → slice_get nodes s.node ≡ Some reach → new ≡ (old || seg_leads (reach_leads part reach) s a z) → new ≡ (old || seg_leads (leads_by part nodes) s a z)
+pub push_there : (part : Continuation) (nodes : List Reach) (s : Seg) (reach : Reach) (old new : Bool) (a : ℕ) (z : End) → slice_get nodes s.node ≡ Some reach → new ≡ (old || seg_leads (reach_leads part reach) s a z) → new ≡ (old || seg_leads (leads_by part nodes) s a z)
 push_there part nodes s reach old new a z at e = e ∙ ap (λ t. old || (in_span s.span a && t)) (sym (leads_there part nodes s.node reach at (s.base + (a - s.span.lo)) z))
 
 or_and_false : (p q : Bool) → p ≡ (p || (q && false))
 or_and_false true q = refl
 or_and_false false q = sym (and-false q)
 
-pub push_none : (part : Part) (nodes : List Reach) (s : Seg) (old : Bool) (a : ℕ) (z : End) → slice_get nodes s.node ≡ None → old ≡ (old || seg_leads (leads_by part nodes) s a z)
+pub push_none : (part : Continuation) (nodes : List Reach) (s : Seg) (old : Bool) (a : ℕ) (z : End) → slice_get nodes s.node ≡ None → old ≡ (old || seg_leads (leads_by part nodes) s a z)
 push_none part nodes s old a z at = or_and_false old (in_span s.span a) ∙ ap (λ t. old || (in_span s.span a && t)) (sym (leads_none part nodes s.node at (s.base + (a - s.span.lo)) z))
 
 -- what was added behind the addresses of a segment, told in other words

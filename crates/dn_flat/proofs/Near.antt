@@ -17,7 +17,7 @@ use Rattle.dn_net.specs.declared.node.NodeDecl.{NodeDecl}
 use Rattle.dn_net.specs.Chain.{IsChain}
 use Rattle.dn_net.specs.Decode.{Step, is_accepted}
 use Rattle.dn_walk.specs.Ends.{name_of_end}
-use Rattle.dn_flat.specs.declared.found.Part.TheVariants.{Accepts}
+use Rattle.dn_flat.specs.declared.found.Continuation.TheVariants.{Accepts}
 use Rattle.dn_flat.specs.declared.reach.Reach.{Reach}
 use Rattle.dn_flat.specs.Levels.{AreLevels, NearFrom, ReachesFrom}
 use Rattle.dn_flat.specs.Onward.{leads_by, levels_lead, seg_leads}

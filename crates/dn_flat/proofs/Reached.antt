@@ -16,7 +16,7 @@ use Rattle.dn_net.specs.Chain.{Ends, IsChain}
 use Rattle.dn_net.specs.Decode.{Step, is_accepted, steps, step_limit}
 use Rattle.dn_net.proofs.Stops.{stop_there}
 use Rattle.dn_walk.specs.Ends.{name_of_end}
-use Rattle.dn_flat.specs.declared.found.Part.TheVariants.{Stays}
+use Rattle.dn_flat.specs.declared.found.Continuation.TheVariants.{Stays}
 use Rattle.dn_flat.specs.declared.levels.Levels.{Levels}
 use Rattle.dn_flat.specs.declared.reach.Reach.{Reach}
 use Rattle.dn_flat.specs.Firsts.{is_same}

@@ -19,7 +19,7 @@ use Rattle.dn_walk.specs.Ends.{name_of_end}
 use Rattle.dn_flat.specs.declared.flat.Flat.{Flat}
 use Rattle.dn_flat.specs.declared.levels.Levels.{Levels}
 use Rattle.dn_flat.specs.declared.reach.Reach.{Reach}
-use Rattle.dn_flat.specs.Levels.{AreFlats, AreLevels, FlatsView, IsLevels, ReachesFrom, levels_show, reached_of, shows}
+use Rattle.dn_flat.specs.Levels.{AreFlats, AreLevels, FlatsView, IsLevels, NodesReachTheirNames, ReachesFrom, levels_give, levels_show, reached_of, shows, stops_in}
 use Rattle.dn_flat.specs.Shared.{no_levels}
 use Rattle.dn_flat.specs.Stages.{AreReaches, EndsBefore, IsFlat}
 use Rattle.dn_flat.specs.Views.{ResolvesFrom, StopsFrom}
@@ -112,6 +112,17 @@ shows_is net flats are node a z l low =
     let same = shows_at flats node t.0 t.1 a z in
     let is = shown_is net flats.stage.nodes are.steps node t.0.reached t.2.reached a z low in
     ((λ e. is.0 (sym same ∙ e)), (λ h. same ∙ is.1 h))
+
+-- what the layers of its stops give are its stops
+pub stops_is : (net : List NodeDecl) (flats : FlatsView) → AreFlats net flats → (node a : ℕ) (z : End) → node < length net → a ≤ TOP → (levels_give (stops_in (slice_get flats.nodes node)) a z ≡ true) ↔ StopsFrom net node a z
+stops_is net flats are node a z l low =
+    let t = levels_there net flats are node l in
+    let same : levels_give (stops_in (slice_get flats.nodes node)) a z ≡ levels_give t.0.stops a z = ap (λ o. levels_give (stops_in o) a z) t.1 in
+    let is = t.2.stops a z low in
+    ((λ e. is.0 (sym same ∙ e)), (λ h. same ∙ is.1 h))
+
+pub nodes_reach_their_names : NodesReachTheirNames
+nodes_reach_their_names net flats are = record { accepted = shows_is net flats are; stopped = stops_is net flats are }
 
 -- nodes that reach the same see the same
 

@@ -43,14 +43,14 @@ gives s a z g = and_from (in_span s.span a) (nat_eq s.node z.node && nat_eq (s.b
 
 -- one that is a part of another gives no other names
 
-record Part (s t : Seg) : Type 0 where
+record PartFacts (s t : Seg) : Type 0 where
   pub lo : t.span.lo ≤ s.span.lo
   pub hi : s.span.hi ≤ t.span.hi
   pub node : s.node ≡ t.node
   pub base : t.base ≤ s.base
   pub same : s.base - t.base ≡ s.span.lo - t.span.lo
 
-part_is : (s t : Seg) → is_part s t ≡ true → Part s t
+part_is : (s t : Seg) → is_part s t ≡ true → PartFacts s t
 part_is s t e =
     let p = and_parts (nat_le t.span.lo s.span.lo) (nat_le s.span.hi t.span.hi && (nat_eq s.node t.node && (nat_le t.base s.base && nat_eq (s.base - t.base) (s.span.lo - t.span.lo)))) e in
     let q = and_parts (nat_le s.span.hi t.span.hi) (nat_eq s.node t.node && (nat_le t.base s.base && nat_eq (s.base - t.base) (s.span.lo - t.span.lo))) p.1 in
@@ -58,7 +58,7 @@ part_is s t e =
     let l = and_parts (nat_le t.base s.base) (nat_eq (s.base - t.base) (s.span.lo - t.span.lo)) r.1 in
     record { lo = leb-true t.span.lo s.span.lo p.0; hi = leb-true s.span.hi t.span.hi q.0; node = eqb-true s.node t.node r.0; base = leb-true t.base s.base l.0; same = eqb-true (s.base - t.base) (s.span.lo - t.span.lo) l.1 }
 
-is_of : (s t : Seg) → Part s t → is_part s t ≡ true
+is_of : (s t : Seg) → PartFacts s t → is_part s t ≡ true
 is_of s t p =
     and_from (nat_le t.span.lo s.span.lo) (nat_le s.span.hi t.span.hi && (nat_eq s.node t.node && (nat_le t.base s.base && nat_eq (s.base - t.base) (s.span.lo - t.span.lo)))) (le-leb t.span.lo s.span.lo p.lo)
     (and_from (nat_le s.span.hi t.span.hi) (nat_eq s.node t.node && (nat_le t.base s.base && nat_eq (s.base - t.base) (s.span.lo - t.span.lo))) (le-leb s.span.hi t.span.hi p.hi)

@@ -78,11 +78,6 @@ abbrev pub stops_in : Option Levels → List (List Row)
 stops_in None = []
 stops_in (Some levels) = levels.stops
 
--- the units of the stops of a node; of one that is not there they are none
-abbrev pub units_in : Option Levels → List ℕ
-units_in None = []
-units_in (Some levels) = levels.units
-
 -- a name that one of the levels gives to the address goes on to the accepted name, by what its node accepts
 abbrev pub levels_show : List Reach → List (List Row) → ℕ → End → Bool
 levels_show nodes levels a z = levels_lead (gives_by (λ (r : Reach). r.done.accepts) nodes) levels a z
@@ -110,3 +105,14 @@ pub record ResolvesWhole (net : List NodeDecl) (node : ℕ) (first : End) (size 
   pub from : a ≡ v + i
   pub to : z ≡ further_end i first
   pub each : (j : ℕ) (w : End) → j < size → ResolvesFrom net node (v + j) w ↔ (further_end j first ≡ w)
+
+-- what they tell of each address of a node is what the address resolves to, and its stops
+pub record FlatsTellNames (net : List NodeDecl) (flats : FlatsView) : Type 0 where
+  pub accepted : (node a : ℕ) (z : End) → node < length net → a ≤ TOP →
+      (shows flats node a z ≡ true) ↔ ResolvesFrom net node a z
+  pub stopped : (node a : ℕ) (z : End) → node < length net → a ≤ TOP →
+      (levels_give (stops_in (slice_get flats.nodes node)) a z ≡ true) ↔ StopsFrom net node a z
+
+-- So it is of what the nodes of any net reach.
+abbrev pub NodesReachTheirNames : Type 0
+NodesReachTheirNames = (net : List NodeDecl) (flats : FlatsView) → AreFlats net flats → FlatsTellNames net flats

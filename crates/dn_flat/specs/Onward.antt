@@ -7,8 +7,8 @@ use Rattle.dn_interval.specs.declared.row.Seg.{Seg}
 use Rattle.dn_interval.specs.Spans.{in_span}
 use Rattle.dn_interval.specs.Strands.{rows_give}
 use Rattle.dn_interval.specs.Onward.{gives_by, rows_go, rows_of}
-use Rattle.dn_flat.specs.declared.found.Part.{Part}
-use Rattle.dn_flat.specs.declared.found.Part.TheVariants.{Accepts, Stops, Goes, Stays, Toward}
+use Rattle.dn_flat.specs.declared.found.Continuation.{Continuation}
+use Rattle.dn_flat.specs.declared.found.Continuation.TheVariants.{Accepts, Stops, Goes, Stays, Toward}
 use Rattle.dn_flat.specs.declared.reach.Reach.{Reach}
 use Rattle.dn_flat.specs.Firsts.{is_same}
 
@@ -18,7 +18,7 @@ has_rows rows = nat_lt 0 (length rows)
 
 -- the address of the node, of which this is known, goes on to the name: by its rows of a sort; as itself, where the node
 -- accepts something; or by rows of one node alone
-abbrev pub reach_leads : Part → Reach → ℕ → ℕ → End → Bool
+abbrev pub reach_leads : Continuation → Reach → ℕ → ℕ → End → Bool
 reach_leads Accepts reach node a z = rows_give reach.done.accepts a z
 reach_leads Stops reach node a z = rows_give reach.done.stops a z
 reach_leads Goes reach node a z = rows_give reach.go a z
@@ -26,7 +26,7 @@ reach_leads Stays reach node a z = has_rows reach.done.accepts && is_same node a
 reach_leads (Toward other rows) reach node a z = nat_eq node other && rows_give rows.now a z
 
 -- so does the address of a node in a list with an item for each node; where none is there, it goes on to nothing
-abbrev pub leads_by : Part → List Reach → ℕ → ℕ → End → Bool
+abbrev pub leads_by : Continuation → List Reach → ℕ → ℕ → End → Bool
 leads_by Accepts nodes node a z = gives_by (λ (r : Reach). r.done.accepts) nodes node a z
 leads_by Stops nodes node a z = gives_by (λ (r : Reach). r.done.stops) nodes node a z
 leads_by Goes nodes node a z = gives_by (λ (r : Reach). r.go) nodes node a z

@@ -9,9 +9,10 @@ ghost use Rattle.dn_net.specs.declared.node.NodeDecl.{NodeDecl};
 ghost use Rattle.dn_net.specs.Terms.{IsLegalNet};
 ghost use Rattle.dn_walk.specs.Terms.{AreWalksOf};
 ghost use Rattle.dn_flat.specs.declared.flat.Flat.{Flat};
-ghost use Rattle.dn_flat.specs.Terms.{AreCrowded, AreFlats, AreLevelsBelow, IsFlat, IsStage, ResolvesFrom, ResolvesWhole, levels_give, shows, stops_in};
+ghost use Rattle.dn_flat.specs.Terms.{AreCrowded, AreFlats, AreLevelsBelow, IsFlat, IsStage, ResolvesFrom, ResolvesWhole, StopsFrom, levels_give, shows, stops_in};
 
 use crate::crowds::{Crowd, crowd_among, crowds_of};
+use crate::found::whole;
 use crate::levels::{Levels, push_given, push_shown, shown_segs};
 use crate::shared::Shared;
 use crate::stage::Stage;
@@ -118,6 +119,18 @@ impl Flats {
             → AreNormal (ResolvesFrom net node) rows) }
     {
         let segs = self.accepted_segs(alloc, node)?;
+        Rows::normal(alloc, &segs)
+    }
+
+    /// The names in units to which the addresses of a node come, as normal rows. Time of the layers of the node's
+    /// stops.
+    pub fn stop_rows(&self, alloc: Global, node: u16) -> Result<Rows, OutOfMemory>
+        requires { node < length self.now.nodes }
+        ensures { IfOk result (λ rows. (net : List NodeDecl) → AreFlats net self.now
+            → AreNormal (StopsFrom net node) rows) }
+    {
+        let mut segs = Vec::new(alloc);
+        self.push_stops(&mut segs, whole(node))?;
         Rows::normal(alloc, &segs)
     }
 

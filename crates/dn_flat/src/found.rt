@@ -16,7 +16,7 @@ use std::alloc::Global;
 
 /// By what names go on.
 #[derive(Clone, Copy)]
-pub(crate) enum Part<'a> {
+pub(crate) enum Continuation<'a> {
     /// By the accepted names to which their nodes come.
     Accepts,
     /// By the names in units to which their nodes come.
@@ -31,7 +31,7 @@ pub(crate) enum Part<'a> {
 
 /// What was found so far.
 #[derive(Drop)]
-pub(crate) struct Found {
+pub(crate) struct FoundSegs {
     /// Addresses that come to an accepted name.
     pub(crate) accepts: Vec<Seg>,
     /// Addresses that come to a name in a unit.
@@ -40,14 +40,14 @@ pub(crate) struct Found {
     pub(crate) go: Vec<Seg>,
 }
 
-impl Found {
+impl FoundSegs {
     /// Nothing yet.
-    pub(crate) fn new(alloc: Global) -> Found
+    pub(crate) fn new(alloc: Global) -> FoundSegs
         ensures accepts { result.accepts.items ≡ [] }
         ensures stops { result.stops.items ≡ [] }
         ensures go { result.go.items ≡ [] }
     {
-        Found {
+        FoundSegs {
             accepts: Vec::new(alloc),
             stops: Vec::new(alloc),
             go: Vec::new(alloc),
@@ -74,7 +74,7 @@ pub(crate) fn whole(node: u16) -> Seg
 pub(crate) fn levels_segs(
     alloc: Global,
     nodes: &[Reach],
-    part: Part,
+    part: Continuation,
     levels: &[Rows],
 ) -> Result<Vec<Seg>, OutOfMemory>
     ensures { IfOk result (λ segs. (a : ℕ) (z : End) → segs_give segs.items a z
@@ -91,7 +91,7 @@ pub(crate) fn levels_segs(
 pub(crate) fn push_rows(
     segs: &mut Vec<Seg>,
     nodes: &[Reach],
-    part: Part,
+    part: Continuation,
     rows: &Rows,
 ) -> Result<(), OutOfMemory>
     ensures adds { OnOk result ((a : ℕ) (z : End) → segs_give segs.new.items a z
@@ -107,7 +107,12 @@ pub(crate) fn push_rows(
 }
 
 /// Adds what the names of a row come to.
-fn push_row(segs: &mut Vec<Seg>, nodes: &[Reach], part: Part, row: &Row) -> Result<(), OutOfMemory>
+fn push_row(
+    segs: &mut Vec<Seg>,
+    nodes: &[Reach],
+    part: Continuation,
+    row: &Row,
+) -> Result<(), OutOfMemory>
     requires fit { EndsFit row.now }
     ensures { OnOk result ((a : ℕ) (z : End) → segs_give segs.new.items a z
         ≡ (segs_give segs.old.items a z || row_goes (leads_by part.entry nodes.now) row.now a z)) }
@@ -129,7 +134,7 @@ fn push_row(segs: &mut Vec<Seg>, nodes: &[Reach], part: Part, row: &Row) -> Resu
 pub(crate) fn push_segs(
     segs: &mut Vec<Seg>,
     nodes: &[Reach],
-    part: Part,
+    part: Continuation,
     given: &[Seg],
 ) -> Result<(), OutOfMemory>
     ensures { OnOk result ((a : ℕ) (z : End) → segs_give segs.new.items a z
@@ -147,7 +152,7 @@ pub(crate) fn push_segs(
 pub(crate) fn push(
     segs: &mut Vec<Seg>,
     nodes: &[Reach],
-    part: Part,
+    part: Continuation,
     seg: Seg,
 ) -> Result<(), OutOfMemory>
     ensures { OnOk result ((a : ℕ) (z : End) → segs_give segs.new.items a z
@@ -160,23 +165,28 @@ pub(crate) fn push(
 }
 
 /// Adds what the names of a segment come to, by what their node comes to.
-fn push_by(segs: &mut Vec<Seg>, reach: &Reach, part: Part, seg: Seg) -> Result<(), OutOfMemory>
+fn push_by(
+    segs: &mut Vec<Seg>,
+    reach: &Reach,
+    part: Continuation,
+    seg: Seg,
+) -> Result<(), OutOfMemory>
     ensures { OnOk result ((a : ℕ) (z : End) → segs_give segs.new.items a z
         ≡ (segs_give segs.old.items a z || seg_leads (reach_leads part.entry reach.now) seg a z)) }
 {
     match part {
-        Part::Accepts => follow(segs, seg, &reach.done.accepts),
-        Part::Stops => follow(segs, seg, &reach.done.stops),
-        Part::Goes => follow(segs, seg, &reach.go),
-        Part::Stays if reach.done.accepts.rows().is_empty() => Ok(()),
-        Part::Stays => Ok(segs.push(seg)?),
-        Part::Toward(node, _) if seg.node != node => Ok(()),
-        Part::Toward(_, rows) => follow(segs, seg, rows),
+        Continuation::Accepts => follow(segs, seg, &reach.done.accepts),
+        Continuation::Stops => follow(segs, seg, &reach.done.stops),
+        Continuation::Goes => follow(segs, seg, &reach.go),
+        Continuation::Stays if reach.done.accepts.rows().is_empty() => Ok(()),
+        Continuation::Stays => Ok(segs.push(seg)?),
+        Continuation::Toward(node, _) if seg.node != node => Ok(()),
+        Continuation::Toward(_, rows) => follow(segs, seg, rows),
     }
 }
 
 /// The accepted names and the stops that were found, as normal rows.
-pub(crate) fn flat_of(alloc: Global, found: &Found) -> Result<Flat, OutOfMemory>
+pub(crate) fn flat_of(alloc: Global, found: &FoundSegs) -> Result<Flat, OutOfMemory>
     ensures accepts { IfOk result (λ flat. AreNormal (SegmentsGive found.now.accepts.items)
         flat.accepts) }
     ensures stops { IfOk result (λ flat. AreNormal (SegmentsGive found.now.stops.items)

@@ -6,9 +6,9 @@ ghost use Rattle.dn_interval.specs.declared.span.TheConstants.{TOP};
 ghost use Rattle.dn_interval.specs.Terms.{in_span, rows_go, segs_give};
 ghost use Rattle.dn_net.specs.Terms.{KeepsNodeRules};
 ghost use Rattle.dn_flat.specs.Terms.{AreLevels, AreReaches, StopsFrom, leads_by, levels_give, levels_show, segs_lead};
-ghost use Rattle.dn_flat.specs.declared.found.Part.TheVariants.{Accepts, Goes, Stays};
+ghost use Rattle.dn_flat.specs.declared.found.Continuation.TheVariants.{Accepts, Goes, Stays};
 
-use crate::found::{Part, levels_segs, push_segs, whole};
+use crate::found::{Continuation, levels_segs, push_segs, whole};
 use crate::layers::{joined, push_layers};
 use crate::reach::Reach;
 use dn_base::OutOfMemory;
@@ -67,7 +67,7 @@ pub(crate) fn node_reached(
             break;
         }
         let from = reached.as_slice();
-        push_segs(&mut stops, nodes, Part::Stops, from)?;
+        push_segs(&mut stops, nodes, Continuation::Stops, from)?;
         push_level(alloc, &mut levels, &mut segs, nodes, from)?;
         reached = further(alloc, &mut segs, nodes, from)?;
     }
@@ -87,7 +87,7 @@ fn push_level(
         || segs_lead (leads_by Stays nodes.now) reached.now a z)) }
 {
     segs.clear();
-    push_segs(segs, nodes, Part::Stays, reached)?;
+    push_segs(segs, nodes, Continuation::Stays, reached)?;
     push_layers(alloc, levels, segs)
 }
 
@@ -102,7 +102,7 @@ fn further(
         ≡ segs_lead (leads_by Goes nodes.now) reached.now a z) }
 {
     segs.clear();
-    push_segs(segs, nodes, Part::Goes, reached)?;
+    push_segs(segs, nodes, Continuation::Goes, reached)?;
     joined(alloc, segs)
 }
 
@@ -115,7 +115,7 @@ pub(crate) fn shown_segs(
     ensures { IfOk result (λ segs. (a : ℕ) (z : End) → segs_give segs.items a z
         ≡ levels_show nodes.now levels.now a z) }
 {
-    levels_segs(alloc, nodes, Part::Accepts, levels)
+    levels_segs(alloc, nodes, Continuation::Accepts, levels)
 }
 
 /// Adds the accepted names to which the names of a segment come by the levels of their node. `mid` is room for names
@@ -151,7 +151,7 @@ fn push_onward(
 {
     mid.clear();
     follow(mid, seg, level)?;
-    push_segs(segs, nodes, Part::Accepts, mid)
+    push_segs(segs, nodes, Continuation::Accepts, mid)
 }
 
 /// Adds the names that layers give to the addresses to which those of a segment lead.

@@ -10,7 +10,7 @@ ghost use Rattle.dn_walk.specs.Terms.{bare_legs, leg_view};
 ghost use Rattle.dn_flat.specs.Terms.{AreReaches, IsLedBy, IsLedTo, IsReach, is_same, stays};
 
 use crate::flat::Flat;
-use crate::found::{Found, Part, flat_of, push_rows, whole};
+use crate::found::{Continuation, FoundSegs, flat_of, push_rows, whole};
 use dn_base::OutOfMemory;
 use dn_interval::onward::follow;
 use dn_interval::{Row, Rows, Seg, Span, SpanSet, TOP};
@@ -71,7 +71,7 @@ pub(crate) fn first_reach(
         ≡ Some (map leg_view legs.now) }
     ensures { IfOk result (λ reach. IsReach checked.entry.net.now 1 node reach) }
 {
-    let found = Found {
+    let found = FoundSegs {
         accepts: still_segs(alloc, node, accepted.spans())?,
         stops: stop_segs(alloc, checked.net, node)?,
         go: Vec::new(alloc),
@@ -128,12 +128,12 @@ pub(crate) fn twice(alloc: Global, nodes: &[Reach], reach: &Reach) -> Result<Rea
     ensures { IfOk result (λ next. (net : List NodeDecl) (k node : ℕ) → AreReaches net k nodes.now
         → IsReach net k node reach.now → IsReach net (k + k) node next) }
 {
-    let mut found = Found::new(alloc);
+    let mut found = FoundSegs::new(alloc);
     follow(&mut found.accepts, whole(0), &reach.done.accepts)?;
     follow(&mut found.stops, whole(0), &reach.done.stops)?;
-    push_rows(&mut found.accepts, nodes, Part::Accepts, &reach.go)?;
-    push_rows(&mut found.stops, nodes, Part::Stops, &reach.go)?;
-    push_rows(&mut found.go, nodes, Part::Goes, &reach.go)?;
+    push_rows(&mut found.accepts, nodes, Continuation::Accepts, &reach.go)?;
+    push_rows(&mut found.stops, nodes, Continuation::Stops, &reach.go)?;
+    push_rows(&mut found.go, nodes, Continuation::Goes, &reach.go)?;
     let done = flat_of(alloc, &found)?;
     let go = Rows::normal(alloc, &found.go)?;
     Ok(Reach { done, go })

@@ -8,9 +8,9 @@ ghost use Rattle.dn_interval.specs.declared.span.TheConstants.{TOP};
 ghost use Rattle.dn_interval.specs.Terms.{Member, in_span, rows_go, segs_give};
 ghost use Rattle.dn_net.specs.declared.node.NodeDecl.{NodeDecl};
 ghost use Rattle.dn_flat.specs.Terms.{AreLevels, AreReaches, GivesAll, IsAlone, IsStretch, NearFrom, are_led, begins, is_led, is_part, leads_by, seg_leads, segs_lead};
-ghost use Rattle.dn_flat.specs.declared.found.Part.TheVariants.{Accepts};
+ghost use Rattle.dn_flat.specs.declared.found.Continuation.TheVariants.{Accepts};
 
-use crate::found::{Part, levels_segs, push};
+use crate::found::{Continuation, levels_segs, push};
 use crate::reach::{Reach, still};
 use dn_base::OutOfMemory;
 use dn_interval::onward::follow;
@@ -46,9 +46,14 @@ pub(crate) fn near_segs(
 {
     let mut segs = Vec::new(alloc);
     let all = stretch(buffer, buffer.first.base);
-    push(&mut segs, nodes, Part::Accepts, all)?;
+    push(&mut segs, nodes, Continuation::Accepts, all)?;
     let rows = Rows::normal(alloc, &segs)?;
-    levels_segs(alloc, nodes, Part::Toward(buffer.first.node, &rows), levels)
+    levels_segs(
+        alloc,
+        nodes,
+        Continuation::Toward(buffer.first.node, &rows),
+        levels,
+    )
 }
 
 /// The names of a buffer, for as many addresses from one on.
@@ -205,7 +210,7 @@ fn gives_part(
         ↔ GivesAll (λ a z. seg_leads (leads_by Accepts nodes.now) seg a z) whole) }
 {
     room.clear();
-    push(room, nodes, Part::Accepts, seg)?;
+    push(room, nodes, Continuation::Accepts, seg)?;
     Ok(are_parts(room.as_slice(), whole))
 }
 

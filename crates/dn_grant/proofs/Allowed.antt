@@ -1,15 +1,11 @@
 -- What is known of a request for which no refusal holds.
 use Rattle.std.proofs.Common.{◌≡◌, sym, refl, subst, ℕ, ◌+◌, ◌<◌, ◌≤◌, Bool, true, false, if◌then◌else◌, not, nat_le, List, [], ◌∷◌, ◌++◌, length, slice_get, Option, Some, None, IsTrue}
 use Rattle.std.proofs.lemmas.Bool.{leb-false}
-use Rattle.std.specs.List.{All}
 use Rattle.dn_net.specs.declared.node.NodeDecl.{NodeDecl}
 use Rattle.dn_net.specs.Legal.{IsLegalNet}
-use Rattle.dn_kind.specs.Kind.{IsLawful, Meaning}
-use Rattle.dn_tables.specs.declared.table.NodeTable.{NodeTable}
 use Rattle.dn_view.proofs.AddedLaw.{refusal_is_complete}
-use Rattle.dn_book.specs.Tables.{IsKept}
+use Rattle.dn_book.proofs.Begun.{book_is_proper}
 use Rattle.dn_book.proofs.Faithful.{grant_keeps_book}
-use Rattle.dn_place.proofs.Proper.{proper_slots}
 use Rattle.dn_net.specs.Decode.{is_agent_at, top}
 use Rattle.dn_kind.specs.Rights.{are_rights}
 use Rattle.dn_tables.specs.Placement.{Place}
@@ -95,12 +91,11 @@ still_faithful net book next id rq p legal sound none rights first appended fait
     subst (λ (b : List Grant). IsFaithful net b) (sym appended) (keeps.1 faithful first.suited.admissible)
 
 -- where no placement is admissible, no addition gives one address
-pub no_addition : (net : List NodeDecl) (kinds : List Meaning) (book : List Grant) (set : List NodeTable)
-    (id : ℕ) (rq : Request) → IsLegalNet net → All IsLawful kinds → IsKept net kinds book set →
+pub no_addition : (net : List NodeDecl) (book : List Grant) (id : ℕ) (rq : Request) → IsLegalNet net → IsSound net book →
     grant_refusal net book id rq ≡ None → IsTrue (are_rights rq.rights) → rq.size ≡ 1 →
     NoneSuited net (slots_of net book) rq None → NoAddition net book rq
-no_addition net kinds book set id rq legal lawful kept none rights one unsuited v added ad ex =
+no_addition net book id rq legal sound none rights one unsuited v added ad ex =
     let is = allowed_is net book id rq none in
-    let proper = proper_slots net kinds book set lawful kept in
+    let proper = book_is_proper net book legal sound in
     let p = refusal_is_complete net (slots_of net book) rq v added legal proper is.agent rights one ad ex in
     unsuited p.0 (record { is_placement = p.1.is_placement; is_at = tt; admissible = p.1.admissible })

@@ -26,16 +26,17 @@ pub record IsPlaced (net : List NodeDecl) (book : List Grant) (id : ℕ) (rq : R
   pub allowed : grant_refusal net book id rq ≡ None
   pub first : IsFirst net (slots_of net book) rq None p
 
--- no refusal holds, and no placement is admissible
-pub record IsUnplaced (net : List NodeDecl) (book : List Grant) (id : ℕ) (rq : Request)
-    : Type 0 where
-  pub allowed : grant_refusal net book id rq ≡ None
-  pub none : NoneSuited net (slots_of net book) rq None
-
 -- no addition for the rights of a request gives its agent exactly the request's one address
 abbrev pub NoAddition : List NodeDecl → List Grant → Request → Type 0
 NoAddition net book rq = (v : ℕ) (added : Held) → IsAddition net (slots_of net book) rq.rights added →
     GivesExactly net (slots_of net book) rq v added → ⊥
+
+-- no refusal holds, and no placement is admissible; of one address, no addition gives it either
+pub record IsUnplaced (net : List NodeDecl) (book : List Grant) (id : ℕ) (rq : Request)
+    : Type 0 where
+  pub allowed : grant_refusal net book id rq ≡ None
+  pub none : NoneSuited net (slots_of net book) rq None
+  pub complete : rq.size ≡ 1 → NoAddition net book rq
 
 -- the request is granted at an address of its agent: at the first admissible placement
 pub record IsGrantMade (net : List NodeDecl) (book : List Grant) (id : ℕ) (rq : Request) (v : ℕ)

@@ -1,17 +1,16 @@
 //! Granting a buffer.
 
-ghost use Rattle.std.specs.Prelude.{◌≡◌, ◌≢◌, map, not, true, false, is_err, OnOk, IsTrue};
-ghost use Rattle.dn_base.specs.Terms.{IsCounted};
-ghost use Rattle.dn_kind.specs.Terms.{are_rights};
-ghost use Rattle.dn_tables.specs.Terms.{FitsNet, IsOnDevice};
-ghost use Rattle.dn_book.specs.Terms.{IsFaithful, IsKept};
+ghost use Rattle.std.specs.Prelude.{◌≡◌, ◌≢◌, true, false, is_err, OnOk, IsTrue};
+ghost use Rattle.dn_kind.specs.Terms.{are_rights, kinds_of};
+ghost use Rattle.dn_tables.specs.Terms.{IsOnDevice};
+ghost use Rattle.dn_book.specs.Terms.{IsCommitted, IsFaithful, IsKept};
 ghost use Rattle.dn_view.specs.Terms.{IsSystem};
-ghost use Rattle.dn_grant.specs.Terms.{IsGrantLogged, IsGrantOutcome, NoAddition, grant_answer_view, is_grant_fault};
+ghost use Rattle.dn_grant.specs.Terms.{IsGrantLogged, IsGrantOutcome, grant_answer_view, is_grant_fault};
 
 use crate::fault::GrantFault;
 use crate::refusal::refusal;
-use dn_base::device::Tables;
-use dn_book::book::{Book, CommitFault};
+use dn_base::device::{DeviceOrMemory, Tables};
+use dn_book::book::Book;
 use dn_book::grant::Grant;
 use dn_net::checked::CheckedNet;
 use dn_place::booked::first_in_book;
@@ -29,8 +28,8 @@ use std::alloc::Global;
 /// where the definition of the refusal says so; they take no memory. `NoPlacement` exactly where no
 /// placement is admissible. `OutOfMemory` for want of memory. After all of these nothing has changed.
 /// `Device` only where the device's count of faults rose in this call, or stands at the last value of
-/// its counter: the writes before the one that failed are done, no grant comes in, and the book is not
-/// sound any more.
+/// its counter: the writes before the one that failed are done, no grant comes in, and the book is only
+/// read from then on.
 pub fn grant<D: Tables>(
     alloc: Global,
     book: &mut Book,
@@ -39,39 +38,29 @@ pub fn grant<D: Tables>(
     request: &Request,
     device: &mut D,
 ) -> Result<u64, GrantFault>
-    requires system { IsSystem (λ k. meaning (k.vtable, k.value)) system }
-    requires sound { book.old.sound ≡ true }
-    requires kept { IsKept system.net.now
-        (map (λ k. meaning (k.vtable, k.value)) system.kinds.now.list.items)
-        book.old.grants book.old.set }
+    requires system { IsSystem meaning system }
+    requires unfailed { book.old.unfailed ≡ true }
+    requires kept { IsKept system.on.net.now
+        (kinds_of meaning system.on.kinds.now) book.old.grants book.old.set }
     requires on_device { IsOnDevice book.old.set (D.units device.old) (D.words device.old) }
     requires rights { IsTrue (are_rights request.now.rights) }
-    ensures turn { IsGrantOutcome system.entry.net.now book.old.grants id request.now
+    ensures turn { IsGrantOutcome system.entry.on.net.now book.old.grants id request.now
         (grant_answer_view result) book.new.grants }
-    ensures complete { result ≡ Err GrantFault.NoPlacement → request.now.size ≡ 1 →
-        NoAddition system.entry.net.now book.old.grants request.now }
     ensures unchanged { is_err result ≡ true → result ≢ Err GrantFault.Device →
         (book.new ≡ book.old) × (device.new ≡ device.old) }
-    ensures kept { OnOk result (IsKept system.entry.net.now
-        (map (λ k. meaning (k.vtable, k.value)) system.entry.kinds.now.list.items)
-        book.new.grants book.new.set) }
-    ensures faithful { OnOk result (IsFaithful system.entry.net.now book.old.grants →
-        IsFaithful system.entry.net.now book.new.grants) }
-    ensures fenced { OnOk result (book.new.cleared ≡ false) }
-    ensures sound { book.new.sound ≡ not (is_grant_fault result) }
-    ensures fits { FitsNet system.entry.net.now
-        (map (λ k. meaning (k.vtable, k.value)) system.entry.kinds.now.list.items) book.new.set }
-    ensures granted { OnOk result (IsGrantLogged system.entry.net.now
-        (map (λ k. meaning (k.vtable, k.value)) system.entry.kinds.now.list.items)
-        book.old.grants book.old.cleared id request.now false (D.log device.old) (D.log device.new)) }
-    ensures stopped { result ≡ Err GrantFault.Device → IsGrantLogged system.entry.net.now
-        (map (λ k. meaning (k.vtable, k.value)) system.entry.kinds.now.list.items)
+    ensures committed { IsCommitted system.entry.on.net.now
+        (kinds_of meaning system.entry.on.kinds.now) result (is_grant_fault result) book.new
+        (D.units device.new) (D.words device.new) (D.faults device.old) (D.faults device.new) }
+    ensures faithful { OnOk result (IsFaithful system.entry.on.net.now book.old.grants
+        → IsFaithful system.entry.on.net.now book.new.grants) }
+    ensures granted { OnOk result (IsGrantLogged system.entry.on.net.now
+        (kinds_of meaning system.entry.on.kinds.now) book.old.grants
+        book.old.cleared id request.now false (D.log device.old) (D.log device.new)) }
+    ensures stopped { result ≡ Err GrantFault.Device
+        → IsGrantLogged system.entry.on.net.now (kinds_of meaning system.entry.on.kinds.now)
         book.old.grants book.old.cleared id request.now true (D.log device.old) (D.log device.new) }
-    ensures on_device { IsOnDevice book.new.set (D.units device.new) (D.words device.new) }
-    ensures counted { IsCounted (D.faults device.old) (D.faults device.new)
-        (is_grant_fault result) }
 {
-    if let Some(why) = refusal(book, CheckedNet { net: system.net }, id, request) {
+    if let Some(why) = refusal(book, CheckedNet { net: system.on.net }, id, request) {
         return Err(why);
     }
     let placement = match first_in_book(alloc, book, system, request, None) {
@@ -85,9 +74,9 @@ pub fn grant<D: Tables>(
         request: *request,
         placement,
     };
-    match book.commit(alloc, system.net, system.kinds, grant, device) {
+    match book.commit(alloc, system.on, grant, device) {
         Ok(()) => Ok(v),
-        Err(CommitFault::Device) => Err(GrantFault::Device),
-        Err(CommitFault::OutOfMemory) => Err(GrantFault::OutOfMemory),
+        Err(DeviceOrMemory::Device) => Err(GrantFault::Device),
+        Err(DeviceOrMemory::OutOfMemory) => Err(GrantFault::OutOfMemory),
     }
 }

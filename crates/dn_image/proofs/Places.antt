@@ -14,11 +14,11 @@ use Rattle.dn_kind.specs.declared.shape.Shape.{Shape}
 use Rattle.dn_kind.specs.Units.{is_shaped, unit_shape}
 use Rattle.dn_tables.proofs.Fresh.{kind_there as shaped_kind, plain_there}
 use Rattle.dn_tables.specs.declared.table.NodeTable.{NodeTable}
-use Rattle.dn_tables.specs.Set.{unit_in, units_of, words_in, words_of, fits_by, fits_kinds, is_wide, width_by}
+use Rattle.dn_tables.specs.Set.{first_words, unit_in, units_of, words_in, words_of, fits_by, fits_kinds, is_wide, width_by}
 use Rattle.dn_tables.proofs.Kept.{table_of_unit, slot_room}
 use Rattle.dn_base.proofs.Lists.{list_all-at, length-map, slice_get_within}
-use Rattle.dn_image.specs.Image.{count_unit, unit_count, width_of, word_count, head_bytes, first_words, unit_bytes, units_bytes}
-use Rattle.dn_image.specs.Reading.{Field, exactly, word_field, header_fields, unit_fields, units_fields, image_fields, broken_in, broken_image, node_size, nodes_size, node_words, words_from, record_by}
+use Rattle.dn_image.specs.Image.{count_unit, unit_count, width_of, word_count, head_bytes, unit_bytes, units_bytes}
+use Rattle.dn_image.specs.Reading.{Field, exactly, word_field, header_fields, unit_fields, units_fields, image_fields, broken_in, broken_image, node_size, nodes_size, node_words, words_from}
 use Rattle.dn_image.specs.Bytes.{word_bytes, words_spelled}
 use Rattle.dn_image.proofs.Numbers.{length_words, slot_spelled}
 use Rattle.dn_image.specs.Reading.BrokenImage.{ends, shape}
@@ -218,20 +218,16 @@ kind_within f xs set node o b fits e at =
     omega arith
 
 -- the record that the words of a slot spell is that of the slot
-pub record_said : (kinds : List Meaning) (u : UnitPart) (slot : ℕ) (bs ws : List ℕ) → slot < u.slots → ws ≡ words_spelled (width_of kinds u) (drop (8 * (slot * width_of kinds u)) bs) → record_by (slice_get kinds u.kind) u ws ≡ record_of_unit kinds (Some u) (Some (words_spelled (word_count kinds (Some u)) bs)) slot
-record_said kinds u slot bs ws l e =
+pub record_said : (kinds : List Meaning) (u : UnitPart) (kind : Meaning) (slot : ℕ) (bs ws : List ℕ) → slice_get kinds u.kind ≡ Some kind → slot < u.slots → ws ≡ words_spelled (width_of kinds u) (drop (8 * (slot * width_of kinds u)) bs) → record_within u (kind.unpack ws) ≡ record_of_unit kinds (Some u) (Some (words_spelled (word_count kinds (Some u)) bs)) slot
+record_said kinds u kind slot bs ws at l e =
     let w : ℕ = width_of kinds u in
+    let all : List ℕ = words_spelled (u.slots * w) bs in
     let room : slot * w + w ≤ u.slots * w = slot_room slot u.slots w (u.slots * w) l refl in
-    let same : slot_words w (words_spelled (u.slots * w) bs) slot ≡ ws = slot_spelled w (u.slots * w) slot bs room ∙ sym e in
-    go (slice_get kinds u.kind) refl same
-  where
-    go : (k : Option Meaning) → slice_get kinds u.kind ≡ k → slot_words (width_of kinds u) (words_spelled (u.slots * width_of kinds u) bs) slot ≡ ws → record_by k u ws ≡ record_spelled k u (Some (words_spelled (u.slots * width_of kinds u) bs)) slot
-    go None at same = refl
-    go (Some kind) at same =
-        let w : kind.words ≡ width_of kinds u = sym (ap width_by at) in
-        sym (ap (λ b. if b then record_within u (kind.unpack (slot_words kind.words (words_spelled (u.slots * width_of kinds u) bs) slot)) else None) (lt-ltb slot u.slots l)
-        ∙ ap (λ n. record_within u (kind.unpack (slot_words n (words_spelled (u.slots * width_of kinds u) bs) slot))) w
-        ∙ ap (λ (v : List ℕ). record_within u (kind.unpack v)) same)
+    let same : slot_words w all slot ≡ ws = slot_spelled w (u.slots * w) slot bs room ∙ sym e in
+    sym (ap (λ k. record_spelled k u (Some all) slot) at
+    ∙ ap (λ b. if b then record_within u (kind.unpack (slot_words kind.words all slot)) else None) (lt-ltb slot u.slots l)
+    ∙ ap (λ n. record_within u (kind.unpack (slot_words n all slot))) (sym (ap width_by at))
+    ∙ ap (λ (v : List ℕ). record_within u (kind.unpack v)) same)
 
 -- the kind of a unit that is shaped is there
 pub kind_known : {X : Type 0} (f : X → Meaning) (xs : List X) (u : UnitPart) → IsTrue (is_shaped (map f xs) u) → u.kind < length xs

@@ -7,15 +7,10 @@ use Rattle.dn_net.specs.declared.node.Unit.{Unit as UnitPart}
 use Rattle.dn_kind.specs.declared.rights.Access.TheVariants.{Read, Write}
 use Rattle.dn_kind.specs.Kind.{Meaning}
 use Rattle.dn_kind.specs.Cleared.{words_allowing}
-use Rattle.dn_tables.specs.Set.{width_by}
+use Rattle.dn_tables.specs.Set.{first_words, width_by}
 use Rattle.dn_image.specs.Bytes.{word_bytes}
 
 -- tables are a list of words for each node, by the node's number; that of a node that is no unit is empty
-
--- the first list of words, where there is one
-abbrev pub first_words : List (List ℕ) → List ℕ
-first_words [] = []
-first_words (ws ∷ rest) = ws
 
 -- one more, where the node is a unit
 abbrev pub count_unit : Option UnitPart → ℕ → ℕ

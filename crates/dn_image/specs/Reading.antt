@@ -4,9 +4,7 @@ use Rattle.std.specs.Str.{bytes_eq}
 use Rattle.byteorder.specs.Endian.{little_bytes, little_number}
 use Rattle.dn_net.specs.declared.node.NodeDecl.{NodeDecl}
 use Rattle.dn_net.specs.declared.node.Unit.{Unit as UnitPart}
-use Rattle.dn_kind.specs.declared.unit_kind.Record.{Record}
 use Rattle.dn_kind.specs.Kind.{Meaning}
-use Rattle.dn_kind.specs.Tables.{record_within}
 use Rattle.dn_image.specs.declared.fault.ImageFault.{ImageFault}
 use Rattle.dn_image.specs.declared.fault.ImageFault.TheVariants.{Short, Header, Shape, Trailing, OutOfMemory}
 use Rattle.dn_image.specs.Bytes.{words_spelled}
@@ -136,8 +134,3 @@ PassesFields total rest fields size (Ok x) = (more : List Field) →
     broken_in total (fields ++ more) rest ≡ broken_in total more (drop (size x) rest)
 PassesFields total rest fields size (Err e) = (more : List Field) →
     broken_in total (fields ++ more) rest ≡ image_fault_view e
-
--- the record that the words of a slot spell in a unit of this kind, where the unit can hold it
-abbrev pub record_by : Option Meaning → UnitPart → List ℕ → Option Record
-record_by None u ws = None
-record_by (Some kind) u ws = record_within u (kind.unpack ws)

@@ -1,16 +1,16 @@
 //! Whether bytes are an image of a net, and what is first wrong with them.
 
-ghost use Rattle.std.specs.Prelude.{◌≡◌, ◌≢◌, ◌↔◌, Err, ◌++◌, ◌+◌, ◌*◌, ◌<◌, ◌≤◌, ◌^◌, length, map, take, Option, Some, IfOk, IsTrue};
-ghost use Rattle.std.specs.List.{All};
+ghost use Rattle.std.specs.Prelude.{◌≡◌, ◌≢◌, ◌↔◌, Err, ◌++◌, ◌+◌, ◌*◌, ◌<◌, ◌≤◌, ◌^◌, length, take, Option, Some, IfOk, IsTrue};
 ghost use Rattle.std.specs.Option.{option_copied};
 ghost use Rattle.dn_base.specs.Terms.{Answers};
-ghost use Rattle.dn_kind.specs.Terms.{IsLawful, KeepsUnitShape, has_shape};
+ghost use Rattle.dn_kind.specs.Terms.{AreKinds, IsShaped, has_shape, kinds_of};
 ghost use Rattle.dn_image.specs.Terms.{PassesFields, broken_image, count_unit, header_fields, image_fault_view, reading_by, unit_fields, units_fields, version_of};
 
 use crate::fault::ImageFault;
 use crate::slots::{count_words, record_width};
 use crate::write::{HEAD, HEADER, MARK, count_unit, count_units, head};
 use byteorder::{ByteOrder, LittleEndian};
+use dn_kind::kinded::KindedNet;
 use dn_kind::kinds::Kinds;
 use dn_net::net::Net;
 use dn_net::node::Unit;
@@ -20,17 +20,14 @@ use dn_net::node::Unit;
 /// # Errors
 ///
 /// The first field that is not as in an image of the net. `OutOfMemory` never.
-pub fn check(net: &Net, kinds: &Kinds, bytes: &[u8]) -> Result<u16, ImageFault>
-    requires lawful { All (λ k. IsLawful (meaning (k.vtable, k.value))) kinds.now.list.items }
-    requires shaped { KeepsUnitShape
-        (map (λ k. meaning (k.vtable, k.value)) kinds.now.list.items) net.now }
-    ensures exact { Answers (λ version. version) image_fault_view result
-        (reading_by (broken_image net.now (map (λ k. meaning (k.vtable, k.value)) kinds.now.list.items) bytes.now)
-        (version_of bytes.now)) }
+pub fn check(on: KindedNet, bytes: &[u8]) -> Result<u16, ImageFault>
+    requires on { IsShaped meaning on }
+    ensures exact { Answers (λ version. version) image_fault_view result (reading_by (broken_image
+        on.entry.net.now (kinds_of meaning on.entry.kinds.now) bytes.now) (version_of bytes.now)) }
     ensures memory { result ≢ Err ImageFault.OutOfMemory }
 {
-    let version = check_header(net, bytes)?;
-    let size = check_heads(net, kinds, &bytes[HEADER..], bytes.len() as u64)?;
+    let version = check_header(on.net, bytes)?;
+    let size = check_heads(on, &bytes[HEADER..], bytes.len() as u64)?;
     let end = HEADER + size;
     if end < bytes.len() {
         return Err(ImageFault::Trailing { at: end as u64 });
@@ -83,21 +80,18 @@ fn check_header(net: &Net, bytes: &[u8]) -> Result<u16, ImageFault>
 
 /// How many bytes the heads and words of all units have, where all heads are those of the net and no
 /// word is cut. The bytes are the last of so many.
-fn check_heads(net: &Net, kinds: &Kinds, rest: &[u8], total: u64) -> Result<usize, ImageFault>
-    requires lawful { All (λ k. IsLawful (meaning (k.vtable, k.value))) kinds.now.list.items }
-    requires shaped { KeepsUnitShape (map (λ k. meaning (k.vtable, k.value)) kinds.now.list.items)
-        net.now }
-    ensures passes { PassesFields total rest.now
-        (units_fields (map (λ k. meaning (k.vtable, k.value)) kinds.now.list.items) 0 0 net.now)
-        (λ size. size) result }
+fn check_heads(on: KindedNet, rest: &[u8], total: u64) -> Result<usize, ImageFault>
+    requires on { IsShaped meaning on }
+    ensures passes { PassesFields total rest.now (units_fields
+        (kinds_of meaning on.entry.kinds.now) 0 0 on.entry.net.now) (λ size. size) result }
     ensures whole { IfOk result (λ size. size ≤ length rest.now) }
     ensures memory { result ≢ Err ImageFault.OutOfMemory }
 {
     let mut at = 0;
     let mut place = 0;
-    for node in 0..net.nodes() {
-        let unit = net.unit(node);
-        at += check_node(node, place, unit, kinds, &rest[at..], total)?;
+    for node in 0..on.net.nodes() {
+        let unit = on.net.unit(node);
+        at += check_node(node, place, unit, on.kinds, &rest[at..], total)?;
         place = count_unit(unit, place);
     }
     Ok(at)
@@ -113,13 +107,10 @@ fn check_node(
     rest: &[u8],
     total: u64,
 ) -> Result<usize, ImageFault>
-    requires lawful { All (λ k. IsLawful (meaning (k.vtable, k.value))) kinds.now.list.items }
-    requires shaped { IsTrue (has_shape
-        (map (λ k. meaning (k.vtable, k.value)) kinds.now.list.items)
-        (option_copied unit)) }
-    ensures passes { PassesFields total rest.now
-        (unit_fields (map (λ k. meaning (k.vtable, k.value)) kinds.now.list.items)
-        place node (option_copied unit.entry)) (λ size. size) result }
+    requires kinds { AreKinds meaning kinds.now }
+    requires shaped { IsTrue (has_shape (kinds_of meaning kinds.now) (option_copied unit)) }
+    ensures passes { PassesFields total rest.now (unit_fields
+        (kinds_of meaning kinds.now) place node (option_copied unit.entry)) (λ size. size) result }
     ensures whole { IfOk result (λ size. size ≤ length rest.now) }
     ensures memory { result ≢ Err ImageFault.OutOfMemory }
 {

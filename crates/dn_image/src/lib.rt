@@ -11,3 +11,5 @@ pub mod laws;
 pub mod read;
 pub mod slots;
 pub mod write;
+
+pub use dn_base::OutOfMemory;

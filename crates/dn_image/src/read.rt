@@ -1,22 +1,22 @@
 //! The words that an image says.
 
-ghost use Rattle.std.specs.Prelude.{◌≡◌, ◌+◌, ◌*◌, ◌<◌, ◌≤◌, [], length, map, slice_index_or, IfOk, IsTrue, Ok};
-ghost use Rattle.std.specs.List.{All};
+ghost use Rattle.std.specs.Prelude.{◌≡◌, ◌+◌, ◌*◌, ◌<◌, ◌≤◌, [], length, slice_index_or, IfOk, IsTrue, Ok};
 ghost use Rattle.std.specs.Option.{option_copied};
 ghost use Rattle.dn_base.specs.Terms.{Answers};
-ghost use Rattle.dn_kind.specs.Terms.{IsLawful, KeepsUnitShape, has_shape};
+ghost use Rattle.dn_kind.specs.Terms.{AreKinds, IsShaped, has_shape, kinds_of};
 ghost use Rattle.dn_image.specs.Terms.{ImageWords, IsImageOf, image_fault_view, image_reading, image_words, node_size, node_words, nodes_size, words_spelled};
 
+use crate::OutOfMemory;
 use crate::check::check;
 use crate::fault::ImageFault;
 use crate::slots::{count_words, node_size};
 use crate::write::{HEAD, HEADER};
 use byteorder::{ByteOrder, LittleEndian};
 use dn_base::items::Items;
+use dn_kind::kinded::KindedNet;
 use dn_kind::kinds::Kinds;
-use dn_net::net::Net;
 use dn_net::node::Unit;
-use std::alloc::{AllocError, Global};
+use std::alloc::Global;
 use std::marker::Model;
 
 /// What an image says: its version, and the words of each node of its net.
@@ -57,58 +57,44 @@ impl Image {
 ///
 /// The first field that is not as in an image of the net, with its place: `Short`, `Header`, `Shape`
 /// or `Trailing`. `OutOfMemory` where there is no memory for the words.
-pub fn read(alloc: Global, net: &Net, kinds: &Kinds, bytes: &[u8]) -> Result<Image, ImageFault>
-    requires lawful { All (λ k. IsLawful (meaning (k.vtable, k.value))) kinds.now.list.items }
-    requires shaped { KeepsUnitShape
-        (map (λ k. meaning (k.vtable, k.value)) kinds.now.list.items) net.now }
+pub fn read(alloc: Global, on: KindedNet, bytes: &[u8]) -> Result<Image, ImageFault>
+    requires on { IsShaped meaning on }
     ensures exact { Answers (λ i. i) image_fault_view result
-        (image_reading net.now (map (λ k. meaning (k.vtable, k.value)) kinds.now.list.items) bytes.now) }
+        (image_reading on.entry.net.now (kinds_of meaning on.entry.kinds.now) bytes.now) }
     // What is read is an image, with these words and this version.
-    ensures found { IfOk result (λ i.
-        IsImageOf net.now (map (λ k. meaning (k.vtable, k.value)) kinds.now.list.items) bytes.now i) }
+    ensures found { IfOk result
+        (λ i. IsImageOf on.entry.net.now (kinds_of meaning on.entry.kinds.now) bytes.now i) }
     // And each image is read, unless memory is wanting.
-    ensures only { (i : ImageWords) →
-        IsImageOf net.now (map (λ k. meaning (k.vtable, k.value)) kinds.now.list.items) bytes.now i →
-        Answers (λ i. i) image_fault_view result (Ok i) }
+    ensures only { (i : ImageWords) → IsImageOf on.entry.net.now (kinds_of
+        meaning on.entry.kinds.now) bytes.now i → Answers (λ i. i) image_fault_view result (Ok i) }
 {
-    reading(alloc, net, kinds, bytes)
+    reading(alloc, on, bytes)
 }
 
 /// The words and the version that the bytes say, or the first field that is not as in an image.
-fn reading(alloc: Global, net: &Net, kinds: &Kinds, bytes: &[u8]) -> Result<Image, ImageFault>
-    requires lawful { All (λ k. IsLawful (meaning (k.vtable, k.value))) kinds.now.list.items }
-    requires shaped { KeepsUnitShape (map (λ k. meaning (k.vtable, k.value)) kinds.now.list.items)
-        net.now }
+fn reading(alloc: Global, on: KindedNet, bytes: &[u8]) -> Result<Image, ImageFault>
+    requires on { IsShaped meaning on }
     ensures { Answers (λ i. i) image_fault_view result
-        (image_reading net.now (map (λ k. meaning (k.vtable, k.value)) kinds.now.list.items)
-        bytes.now) }
+        (image_reading on.entry.net.now (kinds_of meaning on.entry.kinds.now) bytes.now) }
 {
-    let version = check(net, kinds, bytes)?;
-    let words = read_words(alloc, net, kinds, bytes).or(Err(ImageFault::OutOfMemory))?;
+    let version = check(on, bytes)?;
+    let words = read_words(alloc, on, bytes).or(Err(ImageFault::OutOfMemory))?;
     Ok(Image { version, words })
 }
 
 /// The words of each node.
-fn read_words(
-    alloc: Global,
-    net: &Net,
-    kinds: &Kinds,
-    bytes: &[u8],
-) -> Result<Vec<Items<u64>>, AllocError>
-    requires lawful { All (λ k. IsLawful (meaning (k.vtable, k.value))) kinds.now.list.items }
-    requires shaped { KeepsUnitShape
-        (map (λ k. meaning (k.vtable, k.value)) kinds.now.list.items) net.now }
-    requires size { 8 + nodes_size (map (λ k. meaning (k.vtable, k.value)) kinds.now.list.items)
-        net.now ≡ length bytes.now }
+fn read_words(alloc: Global, on: KindedNet, bytes: &[u8]) -> Result<Vec<Items<u64>>, OutOfMemory>
+    requires on { IsShaped meaning on }
+    requires size { 8 + nodes_size (kinds_of meaning on.kinds.now) on.net.now ≡ length bytes.now }
     ensures { IfOk result (λ words. words.items
-        ≡ image_words net.now (map (λ k. meaning (k.vtable, k.value)) kinds.now.list.items) bytes.now) }
+        ≡ image_words on.entry.net.now (kinds_of meaning on.entry.kinds.now) bytes.now) }
 {
     let mut words = Vec::new(alloc);
     let mut at = HEADER;
-    for node in 0..net.nodes() {
-        let unit = net.unit(node);
-        words.push(read_node(alloc, unit, kinds, &bytes[at..])?)?;
-        at += node_size(unit, kinds);
+    for node in 0..on.net.nodes() {
+        let unit = on.net.unit(node);
+        words.push(read_node(alloc, unit, on.kinds, &bytes[at..])?)?;
+        at += node_size(unit, on.kinds);
     }
     Ok(words)
 }
@@ -119,16 +105,12 @@ fn read_node(
     unit: Option<&Unit>,
     kinds: &Kinds,
     bytes: &[u8],
-) -> Result<Items<u64>, AllocError>
-    requires lawful { All (λ k. IsLawful (meaning (k.vtable, k.value))) kinds.now.list.items }
-    requires shaped { IsTrue (has_shape
-        (map (λ k. meaning (k.vtable, k.value)) kinds.now.list.items)
-        (option_copied unit)) }
-    requires room { node_size (map (λ k. meaning (k.vtable, k.value)) kinds.now.list.items)
-        (option_copied unit) ≤ length bytes.now }
+) -> Result<Items<u64>, OutOfMemory>
+    requires kinds { AreKinds meaning kinds.now }
+    requires shaped { IsTrue (has_shape (kinds_of meaning kinds.now) (option_copied unit)) }
+    requires room { node_size (kinds_of meaning kinds.now) (option_copied unit) ≤ length bytes.now }
     ensures { IfOk result (λ words. words
-        ≡ node_words (map (λ k. meaning (k.vtable, k.value)) kinds.now.list.items)
-        (option_copied unit.entry) bytes.now) }
+        ≡ node_words (kinds_of meaning kinds.now) (option_copied unit.entry) bytes.now) }
 {
     match unit {
         Some(unit) => read_unit(alloc, &bytes[HEAD..], count_words(unit, kinds)),
@@ -137,7 +119,7 @@ fn read_node(
 }
 
 /// So many words that bytes spell.
-fn read_unit(alloc: Global, bytes: &[u8], count: usize) -> Result<Items<u64>, AllocError>
+fn read_unit(alloc: Global, bytes: &[u8], count: usize) -> Result<Items<u64>, OutOfMemory>
     requires { 8 * count ≤ length bytes.now }
     ensures { IfOk result (λ words. words ≡ words_spelled count bytes.now) }
 {

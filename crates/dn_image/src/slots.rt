@@ -1,59 +1,43 @@
 //! The record that a slot holds in the bytes of an image.
 
-ghost use Rattle.std.specs.Prelude.{◌≡◌, ◌+◌, ◌*◌, ◌<◌, ◌≤◌, ◌++◌, length, map, take, slice_get, None, Some, IsTrue};
-ghost use Rattle.std.specs.List.{All};
+ghost use Rattle.std.specs.Prelude.{◌≡◌, ◌+◌, ◌*◌, ◌<◌, ◌≤◌, ◌++◌, length, take, slice_get, None, Some, IsTrue};
 ghost use Rattle.std.specs.Option.{option_copied};
-ghost use Rattle.dn_kind.specs.Terms.{IsLawful, KeepsUnitShape, has_shape, is_shaped, record_held, record_of_unit};
-ghost use Rattle.dn_image.specs.Terms.{broken_image, image_words, node_size, nodes_size, record_by, width_of, word_count, words_spelled};
+ghost use Rattle.dn_kind.specs.Terms.{AreKinds, IsShaped, Meaning, has_shape, is_shaped, kinds_of, record_held, record_of_unit, record_within};
+ghost use Rattle.dn_image.specs.Terms.{broken_image, image_words, node_size, nodes_size, width_of, word_count, words_spelled};
 
 use crate::write::{HEAD, HEADER};
 use byteorder::{ByteOrder, LittleEndian};
+use dn_kind::kinded::KindedNet;
 use dn_kind::kinds::Kinds;
 use dn_kind::slots::held_record;
 use dn_kind::unit_kind::{Record, UnitKind};
-use dn_net::net::Net;
 use dn_net::node::Unit;
 
 /// The record that a slot of a node holds in an image of the net. `None` exactly where the node is
 /// no unit, has not the slot, or the words of the slot are no record of it. It reads the words of
 /// this slot alone, and takes no memory.
-pub fn record_in(net: &Net, kinds: &Kinds, bytes: &[u8], node: u16, slot: u64) -> Option<Record>
-    requires lawful { All (λ k. IsLawful (meaning (k.vtable, k.value))) kinds.now.list.items }
-    requires shaped { KeepsUnitShape
-        (map (λ k. meaning (k.vtable, k.value)) kinds.now.list.items) net.now }
-    requires whole { broken_image net.now
-        (map (λ k. meaning (k.vtable, k.value)) kinds.now.list.items) bytes.now
-        ≡ None }
-    requires there { node < length net.now }
-    ensures { result ≡ record_held net.now
-        (map (λ k. meaning (k.vtable, k.value)) kinds.now.list.items)
-        (image_words net.now (map (λ k. meaning (k.vtable, k.value)) kinds.now.list.items) bytes.now) node slot }
+pub fn record_in(on: KindedNet, bytes: &[u8], node: u16, slot: u64) -> Option<Record>
+    requires on { IsShaped meaning on }
+    requires whole { broken_image on.net.now (kinds_of meaning on.kinds.now) bytes.now ≡ None }
+    requires there { node < length on.net.now }
+    ensures { result ≡ record_held on.entry.net.now (kinds_of meaning on.entry.kinds.now)
+        (image_words on.entry.net.now (kinds_of meaning on.entry.kinds.now) bytes.now) node slot }
 {
-    let unit = net.unit(node)?;
+    let unit = on.net.unit(node)?;
     if slot >= u64::from(unit.slots) {
         return None;
     }
-    record_of(
-        unit,
-        kinds,
-        &bytes[words_at(net, kinds, node)..],
-        slot as u32,
-    )
+    record_of(unit, on.kinds, &bytes[words_at(on, node)..], slot as u32)
 }
 
 /// The record that a slot of a unit holds, whose words stand first in these bytes.
 fn record_of(unit: &Unit, kinds: &Kinds, bytes: &[u8], slot: u32) -> Option<Record>
-    requires lawful { All (λ k. IsLawful (meaning (k.vtable, k.value))) kinds.now.list.items }
-    requires shaped { IsTrue (is_shaped
-        (map (λ k. meaning (k.vtable, k.value)) kinds.now.list.items)
-        unit.now) }
+    requires kinds { AreKinds meaning kinds.now }
+    requires shaped { IsTrue (is_shaped (kinds_of meaning kinds.now) unit.now) }
     requires slot { slot < unit.now.slots }
-    requires room { 8 * word_count (map (λ k. meaning (k.vtable, k.value)) kinds.now.list.items)
-        (Some unit.now) ≤ length bytes.now }
-    ensures { result ≡ record_of_unit (map (λ k. meaning (k.vtable, k.value)) kinds.now.list.items)
-        (Some unit.now)
-        (Some (words_spelled (word_count (map (λ k. meaning (k.vtable, k.value))
-        kinds.now.list.items) (Some unit.now)) bytes.now)) slot }
+    requires room { 8 * word_count (kinds_of meaning kinds.now) (Some unit.now) ≤ length bytes.now }
+    ensures { result ≡ record_of_unit (kinds_of meaning kinds.now) (Some unit.now) (Some
+        (words_spelled (word_count (kinds_of meaning kinds.now) (Some unit.now)) bytes.now)) slot }
 {
     let width = usize::from(record_width(unit, kinds));
     let first = 8 * (slot as usize * width);
@@ -63,14 +47,12 @@ fn record_of(unit: &Unit, kinds: &Kinds, bytes: &[u8], slot: u32) -> Option<Reco
 
 /// The record that the words of a slot spell, where the unit can hold it.
 fn record_by(unit: &Unit, kinds: &Kinds, words: &[u64]) -> Option<Record>
-    requires lawful { All (λ k. IsLawful (meaning (k.vtable, k.value))) kinds.now.list.items }
-    requires shaped { IsTrue (is_shaped
-        (map (λ k. meaning (k.vtable, k.value)) kinds.now.list.items)
-        unit.now) }
-    requires words { length words.now
-        ≡ width_of (map (λ k. meaning (k.vtable, k.value)) kinds.now.list.items) unit.now }
-    ensures { result ≡ record_by (slice_get (map (λ k. meaning (k.vtable, k.value))
-        kinds.now.list.items) unit.now.kind) unit.now words.now }
+    requires kinds { AreKinds meaning kinds.now }
+    requires shaped { IsTrue (is_shaped (kinds_of meaning kinds.now) unit.now) }
+    requires words { length words.now ≡ width_of (kinds_of meaning kinds.now) unit.now }
+    ensures { (kind : Meaning)
+        → slice_get (kinds_of meaning kinds.now) unit.now.kind ≡ Some kind
+        → result ≡ record_within unit.now (kind.unpack words.now) }
 {
     let kind = kinds.kind(usize::from(unit.kind));
     held_record(unit, &**kind, words)
@@ -90,29 +72,24 @@ fn read_slot(bytes: &[u8], width: usize) -> [u64; 4]
 }
 
 /// Where the words of a unit begin in an image of the net.
-fn words_at(net: &Net, kinds: &Kinds, node: u16) -> usize
-    requires lawful { All (λ k. IsLawful (meaning (k.vtable, k.value))) kinds.now.list.items }
-    requires shaped { KeepsUnitShape
-        (map (λ k. meaning (k.vtable, k.value)) kinds.now.list.items) net.now }
-    requires there { node < length net.now }
-    ensures { result ≡ 16
-        + nodes_size (map (λ k. meaning (k.vtable, k.value)) kinds.now.list.items) (take node net.now) }
+fn words_at(on: KindedNet, node: u16) -> usize
+    requires on { IsShaped meaning on }
+    requires there { node < length on.net.now }
+    ensures { result
+        ≡ 16 + nodes_size (kinds_of meaning on.entry.kinds.now) (take node on.entry.net.now) }
 {
     let mut at = HEADER;
     for before in 0..node {
-        at += node_size(net.unit(before), kinds);
+        at += node_size(on.net.unit(before), on.kinds);
     }
     at + HEAD
 }
 
 /// How many bytes a node has in an image: none, or the head and the words of a unit.
 pub(crate) fn node_size(unit: Option<&Unit>, kinds: &Kinds) -> usize
-    requires lawful { All (λ k. IsLawful (meaning (k.vtable, k.value))) kinds.now.list.items }
-    requires shaped { IsTrue (has_shape
-        (map (λ k. meaning (k.vtable, k.value)) kinds.now.list.items)
-        (option_copied unit)) }
-    ensures size { result ≡ node_size (map (λ k. meaning (k.vtable, k.value)) kinds.now.list.items)
-        (option_copied unit.entry) }
+    requires kinds { AreKinds meaning kinds.now }
+    requires shaped { IsTrue (has_shape (kinds_of meaning kinds.now) (option_copied unit)) }
+    ensures size { result ≡ node_size (kinds_of meaning kinds.now) (option_copied unit.entry) }
     ensures small { result ≤ 8388616 }
 {
     match unit {
@@ -123,13 +100,9 @@ pub(crate) fn node_size(unit: Option<&Unit>, kinds: &Kinds) -> usize
 
 /// How many words a unit has.
 pub(crate) fn count_words(unit: &Unit, kinds: &Kinds) -> usize
-    requires lawful { All (λ k. IsLawful (meaning (k.vtable, k.value))) kinds.now.list.items }
-    requires shaped { IsTrue (is_shaped
-        (map (λ k. meaning (k.vtable, k.value)) kinds.now.list.items)
-        unit.now) }
-    ensures count { result ≡ word_count
-        (map (λ k. meaning (k.vtable, k.value)) kinds.now.list.items)
-        (Some unit.now) }
+    requires kinds { AreKinds meaning kinds.now }
+    requires shaped { IsTrue (is_shaped (kinds_of meaning kinds.now) unit.now) }
+    ensures count { result ≡ word_count (kinds_of meaning kinds.now) (Some unit.now) }
     ensures small { result ≤ 1048576 }
 {
     unit.slots as usize * usize::from(record_width(unit, kinds))
@@ -137,10 +110,9 @@ pub(crate) fn count_words(unit: &Unit, kinds: &Kinds) -> usize
 
 /// How many words a record of a unit has.
 pub(crate) fn record_width(unit: &Unit, kinds: &Kinds) -> u8
-    requires lawful { All (λ k. IsLawful (meaning (k.vtable, k.value))) kinds.now.list.items }
+    requires kinds { AreKinds meaning kinds.now }
     requires known { unit.now.kind < length kinds.now.list.items }
-    ensures width { result ≡ width_of (map (λ k. meaning (k.vtable, k.value)) kinds.now.list.items)
-        unit.now }
+    ensures width { result ≡ width_of (kinds_of meaning kinds.now) unit.now }
     ensures most { result ≤ 4 }
 {
     kinds.kind(usize::from(unit.kind)).words()

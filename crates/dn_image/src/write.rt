@@ -1,21 +1,22 @@
 //! The image of a set of tables.
 
 ghost use Rattle.std.specs.Prelude.{◌≡◌, ◌++◌, ◌+◌, ◌*◌, ◌-◌, ◌<◌, ◌≤◌, ◌^◌, List, length, map, min, Some, IfOk, OnOk, IsTrue};
-ghost use Rattle.std.specs.List.{All};
 ghost use Rattle.std.specs.Option.{option_copied};
 ghost use Rattle.byteorder.specs.Endian.{little_bytes};
-ghost use Rattle.dn_kind.specs.Terms.{IsLawful, Meaning};
+ghost use Rattle.dn_kind.specs.Terms.{AreKinds, Meaning, kinds_of};
 ghost use Rattle.dn_tables.specs.Terms.{FitsNet, fits_kinds, unit_in, units_of, words_in, words_of};
 ghost use Rattle.dn_image.specs.Terms.{count_unit, head_of, image, image_mark, unit_bytes, unit_count, word_bytes, written_version};
 
+use crate::OutOfMemory;
 use crate::slots::record_width;
 use byteorder::{ByteOrder, LittleEndian};
 use dn_base::filled::Filled;
+use dn_kind::kinded::KindedNet;
 use dn_kind::kinds::Kinds;
 use dn_net::net::Net;
 use dn_net::node::Unit;
 use dn_tables::set::TableSet;
-use std::alloc::{AllocError, Global};
+use std::alloc::Global;
 
 /// The mark with which an image begins.
 pub(crate) const MARK: [u8; 4] = *b"DNIM";
@@ -30,22 +31,16 @@ pub(crate) const HEADER: usize = 8;
 pub(crate) const HEAD: usize = 8;
 
 /// The image of the tables. `Err` is want of memory, of which it takes once what the image needs.
-pub fn write(
-    alloc: Global,
-    net: &Net,
-    kinds: &Kinds,
-    tables: &TableSet,
-) -> Result<Vec<u8>, AllocError>
-    requires lawful { All (λ k. IsLawful (meaning (k.vtable, k.value))) kinds.now.list.items }
-    requires fits { FitsNet net.now
-        (map (λ k. meaning (k.vtable, k.value)) kinds.now.list.items) tables.now }
+pub fn write(alloc: Global, on: KindedNet, tables: &TableSet) -> Result<Vec<u8>, OutOfMemory>
+    requires kinds { AreKinds meaning on.kinds.now }
+    requires fits { FitsNet on.net.now (kinds_of meaning on.kinds.now) tables.now }
     ensures { IfOk result (λ bytes. bytes.items
-        ≡ image net.now (map (λ k. meaning (k.vtable, k.value)) kinds.now.list.items) (words_of tables.now)) }
+        ≡ image on.entry.net.now (kinds_of meaning on.entry.kinds.now) (words_of tables.now)) }
 {
-    let mut out = Vec::with_capacity(alloc, image_size(net, tables))?;
-    push_header(&mut out, count_units(net))?;
-    for node in 0..net.nodes() {
-        push_node(&mut out, node, net.unit(node), kinds, tables)?;
+    let mut out = Vec::with_capacity(alloc, image_size(on.net, tables))?;
+    push_header(&mut out, count_units(on.net))?;
+    for node in 0..on.net.nodes() {
+        push_node(&mut out, node, on.net.unit(node), on.kinds, tables)?;
     }
     Ok(out)
 }
@@ -89,7 +84,7 @@ fn image_size(net: &Net, tables: &TableSet) -> usize
 }
 
 /// Appends the mark, the version and the number of units.
-fn push_header(out: &mut Vec<u8>, units: u16) -> Result<(), AllocError>
+fn push_header(out: &mut Vec<u8>, units: u16) -> Result<(), OutOfMemory>
     ensures { OnOk result (out.new.items ≡ out.old.items
         ++ (image_mark ++ (little_bytes 2 written_version ++ little_bytes 2 units))) }
 {
@@ -107,14 +102,12 @@ fn push_node(
     unit: Option<&Unit>,
     kinds: &Kinds,
     tables: &TableSet,
-) -> Result<(), AllocError>
-    requires lawful { All (λ k. IsLawful (meaning (k.vtable, k.value))) kinds.now.list.items }
-    requires fits { IsTrue (fits_kinds (map (λ k. meaning (k.vtable, k.value)) kinds.now.list.items)
-        tables.now) }
+) -> Result<(), OutOfMemory>
+    requires kinds { AreKinds meaning kinds.now }
+    requires fits { IsTrue (fits_kinds (kinds_of meaning kinds.now) tables.now) }
     requires unit { unit_in tables.now node ≡ option_copied unit }
-    ensures { OnOk result (out.new.items ≡ out.old.items
-        ++ unit_bytes (map (λ k. meaning (k.vtable, k.value)) kinds.now.list.items)
-        node (option_copied unit.entry) (words_in tables.now node)) }
+    ensures { OnOk result (out.new.items ≡ out.old.items ++ unit_bytes
+        (kinds_of meaning kinds.now) node (option_copied unit.entry) (words_in tables.now node)) }
 {
     match unit {
         Some(unit) => {
@@ -132,7 +125,7 @@ fn push_unit(
     width: u8,
     slots: u32,
     words: &Filled<u64>,
-) -> Result<(), AllocError>
+) -> Result<(), OutOfMemory>
     ensures { OnOk result (out.new.items ≡ out.old.items
         ++ (head_of node width slots ++ word_bytes words.now)) }
 {
@@ -141,7 +134,7 @@ fn push_unit(
 }
 
 /// Appends words.
-fn push_words(out: &mut Vec<u8>, words: &Filled<u64>) -> Result<(), AllocError>
+fn push_words(out: &mut Vec<u8>, words: &Filled<u64>) -> Result<(), OutOfMemory>
     ensures { OnOk result (out.new.items ≡ out.old.items ++ word_bytes words.now) }
 {
     for at in 0..words.len() {

@@ -1,5 +1,6 @@
 -- Kinds of units: shapes, records, and what a kind means.
 use Rattle.std.specs.Prelude.{◌≡◌, ℕ, ◌-◌, ◌%◌, ◌^◌, ◌≤◌, Bool, ◌&&◌, nat_lt, List, [], ◌∷◌, length, position, Option, Some, None, IsTrue}
+use Rattle.std.specs.List.{list_all}
 use Rattle.std.specs.Str.{bytes_eq}
 use Rattle.dn_net.specs.Units.{is_plain_shape}
 use Rattle.dn_kind.specs.declared.shape.Shape.{Shape}
@@ -40,14 +41,16 @@ gate_word [] = 0
 gate_word (w ∷ []) = w
 gate_word (w ∷ v ∷ ws) = gate_word (v ∷ ws)
 
--- A lawful kind has one to four words. The words of a record are so many and spell that record, and
--- where bit 0 of the last word is clear no record is spelled. A record that is spelled allows
+-- A lawful kind has one to four words. The words of a record are so many, each below 2^64, and spell
+-- that record, and where bit 0 of the last word is clear no record is spelled. A record that is spelled allows
 -- reading, writing or both.
 pub record IsLawful (kind : Meaning) : Type 0 where
   pub least : 1 ≤ kind.words
   pub most : kind.words ≤ 4
   pub width : (shape : Shape) (r : Record) → IsPackable kind shape r →
       length (kind.pack shape r) ≡ kind.words
+  pub small : (shape : Shape) (r : Record) → IsPackable kind shape r →
+      IsTrue (list_all (λ w. nat_lt w (2 ^ 64)) (kind.pack shape r))
   pub reads_back : (shape : Shape) (r : Record) → IsPackable kind shape r →
       kind.unpack (kind.pack shape r) ≡ Some r
   pub shut : (ws : List ℕ) → length ws ≡ kind.words → gate_word ws % 2 ≡ 0 →

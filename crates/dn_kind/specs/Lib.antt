@@ -1,5 +1,6 @@
 pub mod Cleared
 pub mod Kind
+pub mod Kinded
 pub mod Levels
 pub mod Rights
 pub mod Tables

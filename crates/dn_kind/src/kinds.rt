@@ -5,8 +5,9 @@ ghost use Rattle.std.specs.List.{All};
 ghost use Rattle.std.specs.Str.{bytes_eq};
 ghost use Rattle.dn_kind.specs.Terms.{IsLawful, kind_place};
 
+use crate::OutOfMemory;
 use crate::unit_kind::UnitKind;
-use std::alloc::{AllocError, Global};
+use std::alloc::Global;
 
 /// The kinds of units that a program knows, in order. Each call that takes them asks that each
 /// keeps the laws of kinds; a list made by [`Kinds::none`] and [`Kinds::add`] has only such kinds.
@@ -27,9 +28,9 @@ impl Kinds {
     }
 
     /// Adds a kind at the end. For want of memory the list is unchanged.
-    pub fn add(&mut self, kind: Box<dyn UnitKind>) -> Result<(), AllocError>
+    pub fn add(&mut self, kind: Box<dyn UnitKind>) -> Result<(), OutOfMemory>
         requires kind { IsLawful (meaning kind) }
-        requires lawful { All (λ k. IsLawful (meaning k)) self.old.list.items }
+        requires kinds { All (λ k. IsLawful (meaning k)) self.old.list.items }
         ensures lawful { All (λ k. IsLawful (meaning k)) self.new.list.items }
         ensures ok { OnOk result (self.new.list.items ≡ self.old.list.items ++ kind ∷ []) }
         ensures err { OnErr result (self.new.list.items ≡ self.old.list.items) }
@@ -80,7 +81,7 @@ impl Kinds {
     /// The kind of a number.
     pub fn kind(&self, number: usize) -> &Box<dyn UnitKind>
         requires there { number < length self.now.list.items }
-        requires lawful { All (λ k. IsLawful (meaning k)) self.now.list.items }
+        requires kinds { All (λ k. IsLawful (meaning k)) self.now.list.items }
         ensures lawful { IsLawful (meaning result.now) }
         ensures at { slice_get (map (λ k. meaning k) self.now.list.items) number
             ≡ Some (meaning result.now) }

@@ -1,6 +1,7 @@
 //! Laws on the definitions, each the contract of a function that does nothing.
 
-ghost use Rattle.std.specs.Prelude.{◌≡◌};
+ghost use Rattle.std.specs.Prelude.{◌≡◌, ◌+◌};
+ghost use Rattle.dn_kind.specs.declared.levels.TheConstants.{LEVELS};
 ghost use Rattle.dn_kind.specs.Terms.{ChainPassesSlots, ClearedTablesAllow, HeldRecordsFit, LawOfAccess, LegalOneRowOfSlots, LegalOneWayToUnit, MoreRecordsKeepNames, NamesUnderAreResolved, OneRowOfSlots, OneWayToUnit, ReachUnderIsWithin, ShapeFaultIsFirst, step_limit_under};
 
 /// A net has no fault on the shape of its units exactly where each unit is shaped as a unit may be
@@ -20,9 +21,11 @@ pub fn reach_under_is_within()
     ensures { ReachUnderIsWithin }
 {}
 
-/// Resolution under records follows chains of at most 259 steps.
+/// Resolution under records follows chains of at most 259 steps, and so has 260 levels of names: the name itself, and
+/// one more for each step.
 pub fn limit_under()
-    ensures { step_limit_under ≡ 259 }
+    ensures steps { step_limit_under ≡ 259 }
+    ensures levels { LEVELS ≡ step_limit_under + 1 }
 {}
 
 /// The list of names has exactly those to which a name resolves under records.

@@ -5,15 +5,16 @@ ghost use Rattle.std.specs.List.{list_all};
 ghost use Rattle.dn_net.specs.Terms.{dest_name, sorted_names, top};
 ghost use Rattle.dn_kind.specs.Terms.{name_list};
 
+use crate::OutOfMemory;
 use dn_net::names::Names;
 use dn_net::node::{Dest, Name};
-use std::alloc::{AllocError, Global};
+use std::alloc::Global;
 
 /// How many levels of names there are: the name itself, and those after each of 1 to 259 steps.
 pub const LEVELS: u16 = 260;
 
 /// The first level: the name alone.
-pub fn first_level(alloc: Global, name: Name) -> Result<Names, AllocError>
+pub fn first_level(alloc: Global, name: Name) -> Result<Names, OutOfMemory>
     ensures { IfOk result (λ level. level ≡ name ∷ []) }
 {
     let mut level = Names::new(alloc);
@@ -22,7 +23,7 @@ pub fn first_level(alloc: Global, name: Name) -> Result<Names, AllocError>
 }
 
 /// Appends the name, where there is one.
-pub fn push_sent(next: &mut Vec<Name>, sent: Option<Name>) -> Result<(), AllocError>
+pub fn push_sent(next: &mut Vec<Name>, sent: Option<Name>) -> Result<(), OutOfMemory>
     ensures { OnOk result (next.new.items ≡ next.old.items ++ name_list sent) }
 {
     match sent {
@@ -32,7 +33,7 @@ pub fn push_sent(next: &mut Vec<Name>, sent: Option<Name>) -> Result<(), AllocEr
 }
 
 /// Appends the destinations, the address of each raised by the offset.
-pub fn push_moved(next: &mut Vec<Name>, dests: &[Dest], offset: u64) -> Result<(), AllocError>
+pub fn push_moved(next: &mut Vec<Name>, dests: &[Dest], offset: u64) -> Result<(), OutOfMemory>
     requires { IsTrue (list_all (λ d. nat_le (d.addr + offset) top) dests.now) }
     ensures { OnOk result (next.new.items ≡ next.old.items ++ map (dest_name offset) dests.now) }
 {
@@ -54,7 +55,7 @@ fn dest_name(dest: Dest, offset: u64) -> Name
 }
 
 /// The set of these names: once they are sorted, each is put behind those that were put in before it.
-pub fn set_of(alloc: Global, mut names: Vec<Name>) -> Result<Names, AllocError>
+pub fn set_of(alloc: Global, mut names: Vec<Name>) -> Result<Names, OutOfMemory>
     ensures { IfOk result (λ set. set ≡ sorted_names names.items) }
 {
     names.sort_unstable_by_key(|name| (name.node, name.addr));

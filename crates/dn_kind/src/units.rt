@@ -24,7 +24,7 @@ pub enum UnitFault {
 /// Tests the shape of each unit, in the order of the nodes. It takes no memory.
 /// Where it answers Ok, each unit has a plain shape.
 pub fn check_units(net: &Net, kinds: &Kinds) -> Result<(), UnitFault>
-    requires lawful { All (λ k. IsLawful (meaning k)) kinds.now.list.items }
+    requires kinds { All (λ k. IsLawful (meaning k)) kinds.now.list.items }
     requires known { IsTrue
         (list_all (λ n. has_kind (length kinds.now.list.items) n.unit) net.now) }
     ensures checks { Checks unit_fault_view result
@@ -41,7 +41,7 @@ pub fn check_units(net: &Net, kinds: &Kinds) -> Result<(), UnitFault>
 
 /// Whether a node is no unit, or one that keeps the rule.
 fn is_node_shaped(unit: Option<&Unit>, kinds: &Kinds) -> bool
-    requires lawful { All (λ k. IsLawful (meaning k)) kinds.now.list.items }
+    requires kinds { All (λ k. IsLawful (meaning k)) kinds.now.list.items }
     requires known { IsTrue (has_kind (length kinds.now.list.items) (option_copied unit)) }
     ensures { result ≡ has_shape (map (λ k. meaning k) kinds.now.list.items)
         (option_copied unit.entry) }
@@ -54,7 +54,7 @@ fn is_node_shaped(unit: Option<&Unit>, kinds: &Kinds) -> bool
 
 /// Whether the unit has a shape that a unit may have, and that its kind fits.
 fn is_unit_shaped(unit: &Unit, kinds: &Kinds) -> bool
-    requires lawful { All (λ k. IsLawful (meaning k)) kinds.now.list.items }
+    requires kinds { All (λ k. IsLawful (meaning k)) kinds.now.list.items }
     requires known { unit.now.kind < length kinds.now.list.items }
     ensures { result ≡ is_shaped (map (λ k. meaning k) kinds.now.list.items) unit.now }
 {

@@ -9,7 +9,7 @@ use Rattle.dn_kind.specs.declared.shape.Shape.{Shape}
 use Rattle.dn_kind.specs.declared.unit_kind.Record.{Record}
 use Rattle.dn_kind.specs.Rights.{allows, are_rights, both_rights}
 use Rattle.dn_kind.specs.Kind.{Meaning, IsPackable, is_plain_unit_shape}
-use Rattle.dn_kinds.specs.Layouts.{bits, denial, read_right, write_right, rights_left, record_with}
+use Rattle.dn_kinds.specs.Layouts.{bits, denial, denials, read_right, write_right, rights_left, record_with}
 
 -- a shape that a unit may have has at most 8 ports, and outputs below 2^56
 pub few_ports : (shape : Shape) → IsTrue (is_plain_unit_shape shape) → shape.ports ≤ 8
@@ -40,6 +40,13 @@ denied_small access rights = by (allows rights access)
     by : (b : Bool) → (if b then 0 else 1) ≤ 1
     by true = omega arith
     by false = omega arith
+
+-- so denials are below 64
+pub denials_small : (rights : Rights) → denials rights < 2 ^ 6
+denials_small rights =
+    let read = denied_small Read rights in
+    let write = denied_small Write rights in
+    omega arith
 
 -- rights that are reading, writing or both are what their denials leave
 pub rights_back : (rights : Rights) (word : ℕ) → IsTrue (are_rights rights) → bits word 4 1 ≡ denial Read rights → bits word 5 1 ≡ denial Write rights → rights_left word ≡ Some rights

@@ -1,5 +1,5 @@
 -- Names in rounds, item by item and round by round.
-use Rattle.std.proofs.Common.{◌≡◌, ◌∙◌, ℕ, zero, suc, ◌+◌, ◌-◌, ◌<◌, ◌≤◌, ◌⊎◌, ◌↔◌, inl, inr, Bool, true, false, if◌then◌else◌, List, [], ◌∷◌, ◌++◌, length, take, get_or, Option, Some, None, IsTrue, refl, sym, ap, subst, arith, lt-ltb, ltb-true, nat_lt}
+use Rattle.std.proofs.Common.{◌≡◌, ℕ, suc, ◌+◌, ◌<◌, ◌≤◌, ◌⊎◌, ◌↔◌, inl, inr, List, [], ◌∷◌, ◌++◌, length, take, get_or, IsTrue, refl, sym, subst, lt-ltb, ltb-true, nat_lt}
 use Rattle.std.specs.List.{All}
 use Rattle.std.proofs.lemmas.List.{take_all, take_more}
 use Rattle.dn_base.proofs.Booleans.{and_from, and_parts}
@@ -11,17 +11,18 @@ use Rattle.dn_net.specs.Decode.{is_closed}
 use Rattle.dn_net.specs.Names.{each_step}
 use Rattle.dn_net.proofs.Resolution.{each_in}
 use Rattle.dn_kind.specs.declared.rights.Access.{Access}
-use Rattle.dn_kind.specs.declared.unit_kind.Record.{Record}
 use Rattle.dn_kind.specs.Kind.{IsLawful, Meaning}
 use Rattle.dn_kind.specs.Levels.{are_there}
-use Rattle.dn_kind.specs.Tables.{AreHeld, Held, IsHeld, record_held, steps_under}
+use Rattle.dn_kind.specs.Tables.{AreHeld, Held, record_held, steps_under}
 use Rattle.dn_kind.proofs.Held.{held_records_fit}
 use Rattle.dn_kind.proofs.Nodes.{steps_under_there}
+use Rattle.dn_kind.proofs.Ways.{allowing_held}
+use Rattle.dn_image.specs.Image.{image_tables}
 use Rattle.dn_image.specs.Reading.{image_words}
 use Rattle.dn_view.specs.Named.{AddsThose}
 use Rattle.dn_view.proofs.Rounds.{Rounds}
-use Rattle.dn_lookup.specs.Lookup.{bytes_records, lets_through, record_through}
-use Rattle.dn_lookup.specs.Rounds.{IsOf, IsResolvedOf, IsSentOf, IsSentOn}
+use Rattle.dn_lookup.specs.Lookup.{bytes_records}
+use Rattle.dn_lookup.specs.Rounds.{IsOf, IsResolvedOf, IsSentOf}
 
 -- nothing is added for no names
 pub adds_none : (P : Name → Name → Type 0) (xs old : List Name) → AddsThose (IsOf P (take 0 xs)) old old
@@ -129,15 +130,8 @@ first_round P x z known round k r = (
 pub no_round : (net : List NodeDecl) (h : Held) (x z : Name) (known round : List Name) (P : Type 0) → P ↔ (Member z known ⊎ IsOf (Rounds net h 0) round z) → Member z known ↔ P
 no_round net h x z known round P is = ((λ m. is.1 (inl m)), (λ p. elim (is.0 p) [ inl m ↦ m | inr r ↦ absurd r.2 ]))
 
--- the records of an image that let an access through stand in slots of units that can hold them
+-- the records of an image that allow an access stand in slots of units that can hold them
 pub through_held : (net : List NodeDecl) (kinds : List Meaning) (bytes : List ℕ) (version : ℕ) (access : Access) → All IsLawful kinds → AreHeld net (bytes_records net kinds bytes version access)
-through_held net kinds bytes version access lawful node slot r e =
-    by (record_held net kinds (image_words net kinds bytes) node slot) refl e
-  where
-    by : (o : Option Record) → record_held net kinds (image_words net kinds bytes) node slot ≡ o → record_through version access o ≡ Some r → IsHeld net node slot r
-    by None f g = cc
-    by (Some s) f g = go (lets_through version access s.rights) g
-      where
-        go : (b : Bool) → ◌≡◌ {A = Option Record} (if b then Some s else None) (Some r) → IsHeld net node slot r
-        go true k = let same : s ≡ r = cc in held_records_fit net kinds (image_words net kinds bytes) lawful node slot r (f ∙ ap Some same)
-        go false k = cc
+through_held net kinds bytes version access lawful =
+    let words : List (List ℕ) = image_tables net kinds (record { version = version; words = image_words net kinds bytes }) in
+    allowing_held net (record_held net kinds words) access (held_records_fit net kinds words lawful)

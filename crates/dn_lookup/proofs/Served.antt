@@ -1,4 +1,4 @@
--- The records of an image that let an access through are those of its tables that allow it.
+-- The records that an image lets through are those of its tables that allow the access.
 use Rattle.std.proofs.Common.{◌≡◌, ℕ, zero, suc, ◌+◌, ◌*◌, ◌≤◌, ◌==◌, ◌&&◌, Bool, true, false, if◌then◌else◌, List, ◌++◌, length, take, drop, replicate, slice_get, Option, Some, None, Result, Ok, Err, IfOk, refl, sym, ap, ◌∙◌, arith, length-drop, length-append, suc-mul}
 use Rattle.std.specs.Option.{option_map}
 use Rattle.std.specs.List.{All}
@@ -12,15 +12,15 @@ use Rattle.dn_kind.specs.declared.rights.Access.TheVariants.{Read, Write}
 use Rattle.dn_kind.specs.declared.unit_kind.Record.{Record}
 use Rattle.dn_kind.specs.Rights.{allows}
 use Rattle.dn_kind.specs.Kind.{Meaning, IsLawful}
-use Rattle.dn_kind.specs.Tables.{Held, record_held, AreTables, record_allowing, resolved_names_under}
+use Rattle.dn_kind.specs.Tables.{record_held, AreTables, record_allowing, resolved_names_under}
 use Rattle.dn_kind.specs.Cleared.{kept_slots, kept_of_kind, kept_words, kept_tables, is_open_in, words_allowing}
 use Rattle.dn_kind.proofs.Allowed.{records_allowing, tables_kept, front_sized}
 use Rattle.dn_tables.specs.Set.{width_by}
-use Rattle.dn_image.specs.Image.{ImageWords, word_count}
+use Rattle.dn_image.specs.Image.{word_count}
 use Rattle.dn_image.specs.Reading.{BrokenImage, broken_image, node_words, nodes_size, image_words, version_of, reading_by, image_reading}
 use Rattle.dn_image.proofs.Numbers.{length_spelled}
 use Rattle.dn_image.proofs.Places.{words_at_node}
-use Rattle.dn_lookup.specs.Lookup.{no_agent, no_image, image_records, lookup_in, lookup_of, record_through, bytes_records}
+use Rattle.dn_lookup.specs.Lookup.{no_agent, no_image, image_records, lets_through, lookup_in, lookup_of, bytes_records}
 
 slots_sized : (kept : ℕ → Bool) (w first count : ℕ) (ws : List ℕ) → length ws ≡ count * w → length (kept_slots kept w first count ws) ≡ count * w
 slots_sized kept w first zero ws e = e
@@ -69,6 +69,11 @@ image_sized net kinds bytes = record { sized = λ node u kind ws eu ek ew. go no
         let same : ws ≡ words = same_Some ws words (sym ew ∙ words_at_node kinds net node (Some u) (drop 8 bytes) there) in
         ap length same ∙ node_sized kinds u kind (drop (nodes_size kinds (take node net)) (drop 8 bytes)) ek
 
+-- the record, where the code lets the access through
+abbrev pub record_through : ℕ → Access → Option Record → Option Record
+record_through version access None = None
+record_through version access (Some r) = if lets_through version access r.rights then Some r else None
+
 -- a record that allows both reading and writing, or counts for nothing
 both_allowed : (access : Access) (r : Record) (a b : Bool) → allows r.rights Read ≡ a → allows r.rights Write ≡ b → record_allowing access (record_allowing Write (record_allowing Read (Some r))) ≡ (if allows r.rights Read && allows r.rights Write then Some r else None)
 both_allowed access r false b ea eb =
@@ -99,38 +104,33 @@ through_later version access None e = refl
 through_later version access (Some r) e =
     sym (ap (λ c. if (if c then allows r.rights Read && allows r.rights Write else allows r.rights access) then Some r else None) e)
 
--- the record of a slot, in an image of either version
-slot_served : (net : List NodeDecl) (kinds : List Meaning) (bytes : List ℕ) (access : Access) (node slot : ℕ) (i : ImageWords) (b : Bool) → All IsLawful kinds → i.words ≡ image_words net kinds bytes → (i.version == 1) ≡ b → image_records net kinds i access node slot ≡ bytes_records net kinds bytes i.version access node slot
-slot_served net kinds bytes access node slot i false lawful w e =
-    ap (λ c. record_allowing access (record_held net kinds (if c then words_allowing net kinds Write (words_allowing net kinds Read i.words) else i.words) node slot)) e
-    ∙ ap (λ (ws : List (List ℕ)). record_allowing access (record_held net kinds ws node slot)) w
-    ∙ through_later i.version access (record_held net kinds (image_words net kinds bytes) node slot) e
-slot_served net kinds bytes access node slot i true lawful w e =
+-- what a slot of an image of either version lets through is the record that its tables hold and that allows the access
+pub slot_served : (net : List NodeDecl) (kinds : List Meaning) (bytes : List ℕ) (access : Access) (version node slot : ℕ) (b : Bool) → All IsLawful kinds → (version == 1) ≡ b → bytes_records net kinds bytes version access node slot ≡ record_through version access (record_held net kinds (image_words net kinds bytes) node slot)
+slot_served net kinds bytes access version node slot false lawful e =
+    let words : List (List ℕ) = image_words net kinds bytes in
+    ap (λ c. record_allowing access (record_held net kinds (if c then words_allowing net kinds Write (words_allowing net kinds Read words) else words) node slot)) e
+    ∙ through_later version access (record_held net kinds words node slot) e
+slot_served net kinds bytes access version node slot true lawful e =
     let words : List (List ℕ) = image_words net kinds bytes in
     let read : List (List ℕ) = words_allowing net kinds Read words in
     let sized : AreTables net kinds words = image_sized net kinds bytes in
     let again : AreTables net kinds read = kept_sized net kinds (is_open_in net kinds words Read) words sized in
-    ap (λ c. record_allowing access (record_held net kinds (if c then words_allowing net kinds Write (words_allowing net kinds Read i.words) else i.words) node slot)) e
-    ∙ ap (λ (ws : List (List ℕ)). record_allowing access (record_held net kinds (words_allowing net kinds Write (words_allowing net kinds Read ws)) node slot)) w
+    ap (λ c. record_allowing access (record_held net kinds (if c then words_allowing net kinds Write (words_allowing net kinds Read words) else words) node slot)) e
     ∙ ap (record_allowing access) (records_allowing net kinds read Write lawful again node slot)
     ∙ ap (λ o. record_allowing access (record_allowing Write o)) (records_allowing net kinds words Read lawful sized node slot)
-    ∙ through_first i.version access (record_held net kinds words node slot) e
-
-pub records_served : (net : List NodeDecl) (kinds : List Meaning) (bytes : List ℕ) (access : Access) (version : ℕ) → All IsLawful kinds → ◌≡◌ {A = Held} (image_records net kinds (record { version = version; words = image_words net kinds bytes }) access) (bytes_records net kinds bytes version access)
-records_served net kinds bytes access version lawful = (λ i node slot. slot_served net kinds bytes access node slot (record { version = version; words = image_words net kinds bytes }) (version == 1) lawful refl refl i)
+    ∙ through_first version access (record_held net kinds words node slot) e
 
 -- a lookup in bytes that are an image of the net
-pub looked_up : (net : List NodeDecl) (kinds : List Meaning) (bytes : List ℕ) (access : Access) (x : Name) (version : ℕ) (names : List Name) → All IsLawful kinds → is_agent_at (slice_get net x.node) ≡ true → broken_image net kinds bytes ≡ None → version ≡ version_of bytes → names ≡ resolved_names_under net (bytes_records net kinds bytes version access) x → lookup_of net kinds bytes access x ≡ Ok names
-looked_up net kinds bytes access x version names lawful agent whole same found =
+pub looked_up : (net : List NodeDecl) (kinds : List Meaning) (bytes : List ℕ) (access : Access) (x : Name) (version : ℕ) (names : List Name) → is_agent_at (slice_get net x.node) ≡ true → broken_image net kinds bytes ≡ None → version ≡ version_of bytes → names ≡ resolved_names_under net (bytes_records net kinds bytes version access) x → lookup_of net kinds bytes access x ≡ Ok names
+looked_up net kinds bytes access x version names agent whole same found =
     ap (λ c. if c then lookup_in net kinds access x (image_reading net kinds bytes) else Err no_agent) agent
     ∙ ap (λ o. lookup_in net kinds access x (reading_by o (record { version = version_of bytes; words = image_words net kinds bytes }))) whole
     ∙ ap (λ n. Ok (resolved_names_under net (image_records net kinds (record { version = n; words = image_words net kinds bytes }) access) x)) (sym same)
-    ∙ ap (λ h. Ok (resolved_names_under net h x)) (records_served net kinds bytes access version lawful)
     ∙ sym (ap Ok found)
 
-pub answer_looked_up : {E : Type 0} (net : List NodeDecl) (kinds : List Meaning) (bytes : List ℕ) (access : Access) (x : Name) (version : ℕ) (r : Result (List Name) E) → All IsLawful kinds → is_agent_at (slice_get net x.node) ≡ true → broken_image net kinds bytes ≡ None → version ≡ version_of bytes → IfOk r (λ names. names ≡ resolved_names_under net (bytes_records net kinds bytes version access) x) → IfOk r (λ names. lookup_of net kinds bytes access x ≡ Ok names)
-answer_looked_up net kinds bytes access x version (Ok names) lawful agent whole same found = looked_up net kinds bytes access x version names lawful agent whole same found
-answer_looked_up net kinds bytes access x version (Err e) lawful agent whole same found = tt
+pub answer_looked_up : {E : Type 0} (net : List NodeDecl) (kinds : List Meaning) (bytes : List ℕ) (access : Access) (x : Name) (version : ℕ) (r : Result (List Name) E) → is_agent_at (slice_get net x.node) ≡ true → broken_image net kinds bytes ≡ None → version ≡ version_of bytes → IfOk r (λ names. names ≡ resolved_names_under net (bytes_records net kinds bytes version access) x) → IfOk r (λ names. lookup_of net kinds bytes access x ≡ Ok names)
+answer_looked_up net kinds bytes access x version (Ok names) agent whole same found = looked_up net kinds bytes access x version names agent whole same found
+answer_looked_up net kinds bytes access x version (Err e) agent whole same found = tt
 
 -- a lookup in bytes that are none
 pub no_image_there : (net : List NodeDecl) (kinds : List Meaning) (bytes : List ℕ) (access : Access) (x : Name) (b : BrokenImage) (o : Option BrokenImage) → is_agent_at (slice_get net x.node) ≡ true → broken_image net kinds bytes ≡ o → reading_by o (version_of bytes) ≡ Err b → lookup_of net kinds bytes access x ≡ Err (no_image b)

@@ -1,18 +1,16 @@
 -- The lookup of an agent's address in the bytes of an image.
-use Rattle.std.specs.Prelude.{◌≡◌, ℕ, Bool, if◌then◌else◌, ◌==◌, ◌&&◌, List, slice_get, Option, Some, None, Result, Ok, Err}
+use Rattle.std.specs.Prelude.{ℕ, Bool, if◌then◌else◌, ◌==◌, ◌&&◌, List, slice_get, Option, Some, None, Result, Ok, Err}
 use Rattle.dn_net.specs.declared.node.Name.{Name}
 use Rattle.dn_net.specs.declared.node.NodeDecl.{NodeDecl}
 use Rattle.dn_net.specs.Decode.{is_agent_at}
 use Rattle.dn_kind.specs.declared.rights.Access.{Access}
 use Rattle.dn_kind.specs.declared.rights.Access.TheVariants.{Read, Write}
 use Rattle.dn_kind.specs.declared.rights.Rights.{Rights}
-use Rattle.dn_kind.specs.declared.unit_kind.Record.{Record}
 use Rattle.dn_kind.specs.Rights.{allows}
 use Rattle.dn_kind.specs.Kind.{Meaning}
 use Rattle.dn_kind.specs.Tables.{Held, record_held, allowing, resolved_names_under}
-use Rattle.dn_kind.specs.Units.{KeepsUnitShape}
 use Rattle.dn_image.specs.Image.{ImageWords, image_tables}
-use Rattle.dn_image.specs.Reading.{BrokenImage, broken_image, image_reading, image_fault_view, image_words}
+use Rattle.dn_image.specs.Reading.{BrokenImage, image_reading, image_fault_view, image_words}
 use Rattle.dn_lookup.specs.declared.lookup.LookupFault.{LookupFault}
 use Rattle.dn_lookup.specs.declared.lookup.LookupFault.TheVariants.{NoAgent, Image, OutOfMemory}
 
@@ -21,14 +19,14 @@ pub data NoLookup : Type 0 where
   no_agent : NoLookup
   no_image : BrokenImage → NoLookup
 
--- the bytes are an image of the net, whose units have the shapes that these kinds ask for
-pub record IsImageFor (net : List NodeDecl) (kinds : List Meaning) (bytes : List ℕ) : Type 0 where
-  pub shaped : KeepsUnitShape kinds net
-  pub whole : broken_image net kinds bytes ≡ None
-
 -- the records of an image that allow an access
 abbrev pub image_records : List NodeDecl → List Meaning → ImageWords → Access → Held
 image_records net kinds i access = allowing access (record_held net kinds (image_tables net kinds i))
+
+-- the records that allow an access of bytes that are an image of this version
+abbrev pub bytes_records : List NodeDecl → List Meaning → List ℕ → ℕ → Access → Held
+bytes_records net kinds bytes version access =
+    image_records net kinds (record { version = version; words = image_words net kinds bytes }) access
 
 -- what a name resolves to for an access under the tables of an image, or what is wrong with the bytes
 abbrev pub lookup_in : List NodeDecl → List Meaning → Access → Name → Result ImageWords BrokenImage →
@@ -58,13 +56,3 @@ lookup_fault_view OutOfMemory = None
 abbrev pub lets_through : ℕ → Access → Rights → Bool
 lets_through version access rights =
     if version == 1 then allows rights Read && allows rights Write else allows rights access
-
--- the record, where it lets the access through
-abbrev pub record_through : ℕ → Access → Option Record → Option Record
-record_through version access None = None
-record_through version access (Some r) = if lets_through version access r.rights then Some r else None
-
--- the records of bytes of this version that let an access through
-abbrev pub bytes_records : List NodeDecl → List Meaning → List ℕ → ℕ → Access → Held
-bytes_records net kinds bytes version access node slot =
-    record_through version access (record_held net kinds (image_words net kinds bytes) node slot)

@@ -7,7 +7,8 @@ ghost use Rattle.dn_flat.specs.Terms.{AreFlats};
 ghost use Rattle.dn_view.specs.Terms.{AddsThose};
 ghost use Rattle.dn_lookup.specs.Terms.{AreStopsOf, IsImage, IsResolvedOf, IsSentOf, IsSentOn, records_in};
 
-use crate::image::Image;
+use crate::OutOfMemory;
+use crate::image::LoadedImage;
 use crate::output::output;
 use dn_flat::flats::Flats;
 use dn_kind::levels::{LEVELS, first_level, push_moved, push_sent, set_of};
@@ -16,8 +17,8 @@ use dn_net::names::Names;
 use dn_net::node::Name;
 use dn_net::step::Step;
 use dn_view::names::push_names;
-use dn_view::part::Part;
-use std::alloc::{AllocError, Global};
+use dn_view::part::FlatPart;
+use std::alloc::Global;
 
 /// How many rounds there are: the name itself, and behind each of up to three units.
 const ROUNDS: u32 = 4;
@@ -26,15 +27,16 @@ const ROUNDS: u32 = 4;
 /// is want of memory.
 pub(crate) fn resolve(
     alloc: Global,
-    image: Image,
+    image: LoadedImage,
     access: Access,
     name: Name,
-) -> Result<Names, AllocError>
-    requires image { IsImage (λ k. meaning (k.vtable, k.value)) image }
-    requires there { name.node < length image.net.now }
-    ensures resolved { IfOk result (λ names. names ≡ resolved_names_under image.entry.net.now
-        (records_in (λ k. meaning (k.vtable, k.value)) image.entry access) name) }
-    ensures there { IfOk result (λ names. IsTrue (are_there (length image.entry.net.now) names)) }
+) -> Result<Names, OutOfMemory>
+    requires image { IsImage meaning image }
+    requires there { name.node < length image.on.net.now }
+    ensures resolved { IfOk result (λ names. names ≡ resolved_names_under image.entry.on.net.now
+        (records_in meaning image.entry access) name) }
+    ensures there { IfOk result
+        (λ names. IsTrue (are_there (length image.entry.on.net.now) names)) }
 {
     let mut accepted = Vec::new(alloc);
     let mut level = first_level(alloc, name)?;
@@ -52,18 +54,19 @@ pub(crate) fn resolve(
 /// they give. `Err` is want of memory.
 pub(crate) fn resolve_by(
     alloc: Global,
-    image: Image,
+    image: LoadedImage,
     flats: &Flats,
     access: Access,
     name: Name,
-) -> Result<Names, AllocError>
-    requires image { IsImage (λ k. meaning (k.vtable, k.value)) image }
-    requires legal { IsLegalNet image.net.now }
-    requires flats { AreFlats image.net.now flats.now }
-    requires there { name.node < length image.net.now }
-    ensures resolved { IfOk result (λ names. names ≡ resolved_names_under image.entry.net.now
-        (records_in (λ k. meaning (k.vtable, k.value)) image.entry access) name) }
-    ensures there { IfOk result (λ names. IsTrue (are_there (length image.entry.net.now) names)) }
+) -> Result<Names, OutOfMemory>
+    requires image { IsImage meaning image }
+    requires legal { IsLegalNet image.on.net.now }
+    requires flats { AreFlats image.on.net.now flats.now }
+    requires there { name.node < length image.on.net.now }
+    ensures resolved { IfOk result (λ names. names ≡ resolved_names_under image.entry.on.net.now
+        (records_in meaning image.entry access) name) }
+    ensures there { IfOk result
+        (λ names. IsTrue (are_there (length image.entry.on.net.now) names)) }
 {
     let mut accepted = Vec::new(alloc);
     let mut round = Vec::new(alloc);
@@ -88,24 +91,30 @@ pub(crate) fn resolve_by(
 /// their stops are sent.
 fn push_round(
     alloc: Global,
-    image: Image,
+    image: LoadedImage,
     flats: &Flats,
     access: Access,
     round: &[Name],
     accepted: &mut Vec<Name>,
     next: &mut Vec<Name>,
-) -> Result<(), AllocError>
-    requires image { IsImage (λ k. meaning (k.vtable, k.value)) image }
-    requires flats { AreFlats image.net.now flats.now }
-    requires there { IsTrue (are_there (length image.net.now) round.now) }
-    ensures accepted { OnOk result (AddsThose (IsResolvedOf image.entry.net.now round.now)
-        accepted.old.items accepted.new.items) }
-    ensures next { OnOk result (AddsThose (IsSentOf image.entry.net.now
-        (records_in (λ k. meaning (k.vtable, k.value)) image.entry access) round.now)
-        next.old.items next.new.items) }
+) -> Result<(), OutOfMemory>
+    requires image { IsImage meaning image }
+    requires flats { AreFlats image.on.net.now flats.now }
+    requires there { IsTrue (are_there (length image.on.net.now) round.now) }
+    ensures accepted { OnOk result (AddsThose
+        (IsResolvedOf image.entry.on.net.now round.now) accepted.old.items accepted.new.items) }
+    ensures next { OnOk result (AddsThose (IsSentOf image.entry.on.net.now
+        (records_in meaning image.entry access) round.now) next.old.items next.new.items) }
 {
     for name in round {
-        push_names(alloc, image.net, flats, Part::Accepts, *name, accepted)?;
+        push_names(
+            alloc,
+            image.on.net,
+            flats,
+            FlatPart::Accepts,
+            *name,
+            accepted,
+        )?;
         push_onward(alloc, image, flats, access, *name, next)?;
     }
     Ok(())
@@ -114,36 +123,41 @@ fn push_round(
 /// Adds the names to which the stops of a name are sent.
 fn push_onward(
     alloc: Global,
-    image: Image,
+    image: LoadedImage,
     flats: &Flats,
     access: Access,
     name: Name,
     next: &mut Vec<Name>,
-) -> Result<(), AllocError>
-    requires image { IsImage (λ k. meaning (k.vtable, k.value)) image }
-    requires flats { AreFlats image.net.now flats.now }
-    requires there { name.node < length image.net.now }
-    ensures { OnOk result (AddsThose (IsSentOn image.entry.net.now
-        (records_in (λ k. meaning (k.vtable, k.value)) image.entry access) name)
-        next.old.items next.new.items) }
+) -> Result<(), OutOfMemory>
+    requires image { IsImage meaning image }
+    requires flats { AreFlats image.on.net.now flats.now }
+    requires there { name.node < length image.on.net.now }
+    ensures { OnOk result (AddsThose (IsSentOn image.entry.on.net.now
+        (records_in meaning image.entry access) name) next.old.items next.new.items) }
 {
     let mut stops = Vec::new(alloc);
-    push_names(alloc, image.net, flats, Part::Stops, name, &mut stops)?;
+    push_names(
+        alloc,
+        image.on.net,
+        flats,
+        FlatPart::Stops,
+        name,
+        &mut stops,
+    )?;
     push_outputs(image, access, stops.as_slice(), next)
 }
 
 /// Adds the names to which stops are sent, one stop after the other.
 fn push_outputs(
-    image: Image,
+    image: LoadedImage,
     access: Access,
     stops: &[Name],
     next: &mut Vec<Name>,
-) -> Result<(), AllocError>
-    requires image { IsImage (λ k. meaning (k.vtable, k.value)) image }
-    requires stops { AreStopsOf image.net.now stops.now }
+) -> Result<(), OutOfMemory>
+    requires image { IsImage meaning image }
+    requires stops { AreStopsOf image.on.net.now stops.now }
     ensures { OnOk result (next.new.items ≡ next.old.items ++ each_step
-        (steps_under image.entry.net.now
-        (records_in (λ k. meaning (k.vtable, k.value)) image.entry access)) stops.now) }
+        (steps_under image.entry.on.net.now (records_in meaning image.entry access)) stops.now) }
 {
     for stop in stops {
         push_sent(next, output(image, access, *stop))?;
@@ -154,19 +168,19 @@ fn push_outputs(
 /// The names one step on from those of a level. Those of the level that are accepted are appended.
 fn next_level(
     alloc: Global,
-    image: Image,
+    image: LoadedImage,
     access: Access,
     level: &[Name],
     accepted: &mut Vec<Name>,
-) -> Result<Names, AllocError>
-    requires image { IsImage (λ k. meaning (k.vtable, k.value)) image }
-    requires there { IsTrue (are_there (length image.net.now) level.now) }
-    ensures accepted { OnOk result (accepted.new.items ≡
-        accepted.old.items ++ passing_names (is_accepted image.entry.net.now) level.now) }
+) -> Result<Names, OutOfMemory>
+    requires image { IsImage meaning image }
+    requires there { IsTrue (are_there (length image.on.net.now) level.now) }
+    ensures accepted { OnOk result (accepted.new.items
+        ≡ accepted.old.items ++ passing_names (is_accepted image.entry.on.net.now) level.now) }
     ensures next { IfOk result (λ names. names ≡ sorted_names (each_step
-        (steps_under image.entry.net.now
-        (records_in (λ k. meaning (k.vtable, k.value)) image.entry access)) level.now)) }
-    ensures there { IfOk result (λ names. IsTrue (are_there (length image.entry.net.now) names)) }
+        (steps_under image.entry.on.net.now (records_in meaning image.entry access)) level.now)) }
+    ensures there { IfOk result
+        (λ names. IsTrue (are_there (length image.entry.on.net.now) names)) }
 {
     let mut next = Vec::new(alloc);
     for name in level {
@@ -177,20 +191,20 @@ fn next_level(
 
 /// Appends the names one step on from a name, and where it is accepted, the name itself to the others.
 fn push_steps(
-    image: Image,
+    image: LoadedImage,
     access: Access,
     name: Name,
     accepted: &mut Vec<Name>,
     next: &mut Vec<Name>,
-) -> Result<(), AllocError>
-    requires image { IsImage (λ k. meaning (k.vtable, k.value)) image }
-    requires there { name.node < length image.net.now }
-    ensures accepted { OnOk result (accepted.new.items ≡
-        accepted.old.items ++ passing_names (is_accepted image.entry.net.now) (name ∷ [])) }
-    ensures next { OnOk result (next.new.items ≡ next.old.items ++ steps_under image.entry.net.now
-        (records_in (λ k. meaning (k.vtable, k.value)) image.entry access) name) }
+) -> Result<(), OutOfMemory>
+    requires image { IsImage meaning image }
+    requires there { name.node < length image.on.net.now }
+    ensures accepted { OnOk result (accepted.new.items
+        ≡ accepted.old.items ++ passing_names (is_accepted image.entry.on.net.now) (name ∷ [])) }
+    ensures next { OnOk result (next.new.items ≡ next.old.items
+        ++ steps_under image.entry.on.net.now (records_in meaning image.entry access) name) }
 {
-    match image.net.step(name) {
+    match image.on.net.step(name) {
         Step::Accepted => Ok(accepted.push(name)?),
         Step::To(dests, offset) => push_moved(next, dests, offset),
         Step::Stop => push_sent(next, output(image, access, name)),

@@ -9,3 +9,5 @@ mod image;
 mod levels;
 pub mod lookup;
 mod output;
+
+pub use dn_base::OutOfMemory;

@@ -1,25 +1,25 @@
 //! The lookup of an agent's address.
 
-ghost use Rattle.std.specs.Prelude.{◌≡◌, ◌≢◌, ◌<◌, length, map, slice_get, IfOk, Ok, Err, None, IsTrue};
-ghost use Rattle.std.specs.List.{All};
+ghost use Rattle.std.specs.Prelude.{◌≡◌, ◌≢◌, ◌<◌, length, slice_get, IfOk, Ok, Err, None, IsTrue};
 ghost use Rattle.dn_base.specs.Terms.{Answers};
 ghost use Rattle.dn_net.specs.Terms.{KeepsNodeRules, is_agent_at};
-ghost use Rattle.dn_kind.specs.Terms.{IsLawful, KeepsUnitShape, are_there};
+ghost use Rattle.dn_kind.specs.Terms.{IsShaped, are_there, kinds_of};
 ghost use Rattle.dn_image.specs.Terms.{broken_image, version_of};
 ghost use Rattle.dn_view.specs.Terms.{IsSystem};
 ghost use Rattle.dn_lookup.specs.Terms.{lookup_fault_view, lookup_of};
 
-use crate::image::Image;
+use crate::OutOfMemory;
+use crate::image::LoadedImage;
 use crate::levels::{resolve, resolve_by};
 use dn_image::check::check;
 use dn_image::fault::ImageFault;
-use dn_kind::kinds::Kinds;
+use dn_kind::kinded::KindedNet;
 use dn_kind::rights::Access;
 use dn_net::names::Names;
 use dn_net::net::Net;
 use dn_net::node::{Name, Role};
 use dn_view::system::System;
-use std::alloc::{AllocError, Global};
+use std::alloc::Global;
 use thiserror::Error;
 
 /// Why there is no answer to a lookup.
@@ -45,33 +45,30 @@ pub enum LookupFault {
 /// image of the net; `OutOfMemory` where there is no memory for the names.
 pub fn lookup(
     alloc: Global,
-    net: &Net,
-    kinds: &Kinds,
+    on: KindedNet,
     image: &[u8],
     agent: u16,
     addr: u64,
     access: Access,
 ) -> Result<Names, LookupFault>
-    requires lawful { All (λ k. IsLawful (meaning (k.vtable, k.value))) kinds.now.list.items }
-    requires rules { KeepsNodeRules net.now }
-    requires shaped { KeepsUnitShape
-        (map (λ k. meaning (k.vtable, k.value)) kinds.now.list.items) net.now }
+    requires on { IsShaped meaning on }
+    requires rules { KeepsNodeRules on.net.now }
     ensures exact { Answers (λ names. names) lookup_fault_view result
-        (lookup_of net.now (map (λ k. meaning (k.vtable, k.value)) kinds.now.list.items) image.now access
+        (lookup_of on.entry.net.now (kinds_of meaning on.entry.kinds.now) image.now access
         (record { node = agent; addr = addr })) }
     // Each name is in a node that is there.
-    ensures there { IfOk result (λ names. IsTrue (are_there (length net.now) names)) }
+    ensures there { IfOk result (λ names. IsTrue (are_there (length on.entry.net.now) names)) }
     ensures memory { result ≢ Err (LookupFault.Image ImageFault.OutOfMemory) }
 {
-    if !is_agent(net, agent) {
+    if !is_agent(on.net, agent) {
         return Err(LookupFault::NoAgent);
     }
-    let version = match check(net, kinds, image) {
+    let version = match check(on, image) {
         Ok(version) => version,
         Err(fault) => return Err(LookupFault::Image(fault)),
     };
     let name = Name { node: agent, addr };
-    match lookup_whole(alloc, net, kinds, image, version, access, name) {
+    match lookup_whole(alloc, on, image, version, access, name) {
         Ok(names) => Ok(names),
         Err(_) => Err(LookupFault::OutOfMemory),
     }
@@ -82,30 +79,24 @@ pub fn lookup(
 /// image, which are to look at its header and heads once. `Err` is want of memory.
 pub fn lookup_whole(
     alloc: Global,
-    net: &Net,
-    kinds: &Kinds,
+    on: KindedNet,
     image: &[u8],
     version: u16,
     access: Access,
     name: Name,
-) -> Result<Names, AllocError>
-    requires lawful { All (λ k. IsLawful (meaning (k.vtable, k.value))) kinds.now.list.items }
-    requires rules { KeepsNodeRules net.now }
-    requires shaped { KeepsUnitShape
-        (map (λ k. meaning (k.vtable, k.value)) kinds.now.list.items) net.now }
-    requires whole { broken_image net.now
-        (map (λ k. meaning (k.vtable, k.value)) kinds.now.list.items) image.now
-        ≡ None }
+) -> Result<Names, OutOfMemory>
+    requires on { IsShaped meaning on }
+    requires rules { KeepsNodeRules on.net.now }
+    requires whole { broken_image on.net.now (kinds_of meaning on.kinds.now) image.now ≡ None }
     requires version { version ≡ version_of image.now }
-    requires agent { IsTrue (is_agent_at (slice_get net.now name.node)) }
-    ensures exact { IfOk result (λ names. lookup_of net.now
-        (map (λ k. meaning (k.vtable, k.value)) kinds.now.list.items) image.now access name ≡ Ok names) }
+    requires agent { IsTrue (is_agent_at (slice_get on.net.now name.node)) }
+    ensures exact { IfOk result (λ names. lookup_of on.entry.net.now
+        (kinds_of meaning on.entry.kinds.now) image.now access name ≡ Ok names) }
     // Each name is in a node that is there.
-    ensures there { IfOk result (λ names. IsTrue (are_there (length net.now) names)) }
+    ensures there { IfOk result (λ names. IsTrue (are_there (length on.entry.net.now) names)) }
 {
-    let image = Image {
-        net,
-        kinds,
+    let image = LoadedImage {
+        on,
         bytes: image,
         version,
     };
@@ -121,23 +112,21 @@ pub fn lookup_by(
     version: u16,
     access: Access,
     name: Name,
-) -> Result<Names, AllocError>
-    requires system { IsSystem (λ k. meaning (k.vtable, k.value)) system }
-    requires whole { broken_image system.net.now
-        (map (λ k. meaning (k.vtable, k.value)) system.kinds.now.list.items) image.now
+) -> Result<Names, OutOfMemory>
+    requires system { IsSystem meaning system }
+    requires whole { broken_image system.on.net.now (kinds_of meaning system.on.kinds.now) image.now
         ≡ None }
     requires version { version ≡ version_of image.now }
-    requires agent { IsTrue (is_agent_at (slice_get system.net.now name.node)) }
-    ensures exact { IfOk result (λ names. lookup_of system.entry.net.now
-        (map (λ k. meaning (k.vtable, k.value)) system.entry.kinds.now.list.items)
-        image.now access name ≡ Ok names) }
+    requires agent { IsTrue (is_agent_at (slice_get system.on.net.now name.node)) }
+    ensures exact { IfOk result (λ names. lookup_of system.entry.on.net.now
+        (kinds_of meaning system.entry.on.kinds.now) image.now access name ≡ Ok names) }
     // Each name is in a node that is there.
-    ensures there { IfOk result (λ names. IsTrue (are_there (length system.entry.net.now) names)) }
+    ensures there { IfOk result
+        (λ names. IsTrue (are_there (length system.entry.on.net.now) names)) }
 {
-    let System { net, flats, kinds } = system;
-    let image = Image {
-        net,
-        kinds,
+    let System { on, flats } = system;
+    let image = LoadedImage {
+        on,
         bytes: image,
         version,
     };

@@ -5,7 +5,7 @@ ghost use Rattle.dn_net.specs.Terms.{is_stop};
 ghost use Rattle.dn_kind.specs.Terms.{name_list, output, steps_under};
 ghost use Rattle.dn_lookup.specs.Terms.{IsImage, lets_through, records_in};
 
-use crate::image::Image;
+use crate::image::LoadedImage;
 use dn_image::slots::record_in;
 use dn_kind::output::output_name;
 use dn_kind::rights::{Access, Rights};
@@ -25,16 +25,16 @@ fn lets_through(version: u16, access: Access, rights: Rights) -> bool
 
 /// The output of a name in a unit for an access. `None` where its slot has no record that lets the
 /// access through.
-pub(crate) fn output(image: Image, access: Access, name: Name) -> Option<Name>
-    requires image { IsImage (λ k. meaning (k.vtable, k.value)) image }
-    requires there { name.node < length image.net.now }
-    requires stop { IsTrue (is_stop image.net.now name) }
-    ensures { name_list result ≡ steps_under image.entry.net.now
-        (records_in (λ k. meaning (k.vtable, k.value)) image.entry access) name }
+pub(crate) fn output(image: LoadedImage, access: Access, name: Name) -> Option<Name>
+    requires image { IsImage meaning image }
+    requires there { name.node < length image.on.net.now }
+    requires stop { IsTrue (is_stop image.on.net.now name) }
+    ensures { name_list result
+        ≡ steps_under image.entry.on.net.now (records_in meaning image.entry access) name }
 {
-    let unit = image.net.unit(name.node)?;
+    let unit = image.on.net.unit(name.node)?;
     let slot = name.addr >> unit.page;
-    let record = record_in(image.net, image.kinds, image.bytes, name.node, slot)?;
+    let record = record_in(image.on, image.bytes, name.node, slot)?;
     if !lets_through(image.version, access, record.rights) {
         return None;
     }

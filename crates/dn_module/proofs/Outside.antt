@@ -1,8 +1,11 @@
 -- Outside of modules and loops nothing is replaced.
 use Rattle.std.proofs.Common.{◌≡◌, ◌∙◌, ap, refl, List, [], ◌∷◌, map, Option, Some, None}
 use Rattle.dn_parse.specs.Tree.{Expression, constant, variable, sum, product, minus, Expressions, no_expressions, and_expression, Part}
-use Rattle.dn_module.specs.Replace.{in_expression, in_expressions, in_option, in_part, in_declared}
-use Rattle.dn_module.specs.Flaws.{nothing_replaced}
+use Rattle.dn_module.specs.Replace.{in_expression, in_expressions, in_option, in_part, in_declared, Replacement, as_they_stand}
+
+-- what is replaced outside of modules and loops
+abbrev pub nothing_replaced : Replacement
+nothing_replaced = record { numbers = []; naming = as_they_stand }
 
 mutual
   pub expression_stays : (e : Expression) → in_expression [] e ≡ e

@@ -2,8 +2,7 @@
 use Rattle.std.proofs.Common.{◌≡◌, ap, refl, List, [], ◌∷◌, map, Option, None, Some, option_map}
 use Rattle.dn_parse.specs.Tree.{Part, Block, Dest, Entry, Spec, Arg, number_arg, node_arg, Declaration, node, unit, Item, declared, module_of, instance, loop, Items, no_items, and_item}
 use Rattle.dn_module.specs.Replace.{in_part, in_reference, in_block, in_dest, in_entry, in_spec, in_arg, in_declaration, in_item, in_items}
-use Rattle.dn_module.specs.Flaws.{nothing_replaced}
-use Rattle.dn_module.proofs.Outside.{expression_stays, index_stays, parts_stay}
+use Rattle.dn_module.proofs.Outside.{nothing_replaced, expression_stays, index_stays, parts_stay}
 
 map_same : {X : Type 0} (f : X → X) → ((x : X) → f x ≡ x) → (xs : List X) → map f xs ≡ xs
 map_same f same [] = refl

@@ -1,9 +1,8 @@
 -- What a call that appends to a text answers, and what it appends; and what one answers that links a part.
-use Rattle.std.specs.Prelude.{◌≡◌, ℕ, Bool, true, false, List, [], ◌++◌, IfSome, Result, Ok, Err}
+use Rattle.std.specs.Prelude.{◌≡◌, ℕ, Bool, true, false, List, ◌++◌, IfSome, Result, Ok, Err}
 use Rattle.dn_module.specs.declared.values.NameFault.{NameFault}
 use Rattle.dn_parse.specs.Tree.{Part}
 use Rattle.dn_module.specs.Faults.{name_fault_view}
-use Rattle.dn_module.specs.Replace.{Replacement, as_they_stand}
 use Rattle.dn_module.specs.Values.{◌>>=◌, Flaw, unknown_word, each, part_text, after_dots}
 
 -- A part that is linked refers to nodes that are all there. The only flaw of one that is not is that a node is not there.
@@ -27,7 +26,3 @@ abbrev pub dots_before : List Part → Result (List ℕ) Flaw
 dots_before ps = do
   ts ← each part_text ps
   Ok (after_dots ts)
-
--- what is replaced outside of modules and loops
-abbrev pub nothing_replaced : Replacement
-nothing_replaced = record { numbers = []; naming = as_they_stand }

@@ -3,8 +3,8 @@
 use dn_base::text::Text;
 use dn_parse::syntax::Mode;
 
-/// A command of a script. The first text of a grant, a route and a revoke is its id. The mode of
-/// the first four is the access that the command says, where it says one.
+/// A command of a script. The text of a revoke is its id. The mode of a command is the access that it
+/// says, where it says one.
 #[derive(Drop)]
 pub enum Command {
     /// What an address of a node comes to.
@@ -13,10 +13,32 @@ pub enum Command {
     Lookup(Target, u64, Mode),
     /// What an agent reaches.
     View(Target, Mode),
-    /// To let an agent reach a node's addresses from a base on, so many.
-    Grant(Text, Target, Target, u64, u64, Mode),
-    /// To send a line of an agent to a node.
-    Route(Text, Target, u64, Target),
+    /// To let an agent reach a buffer.
+    Grant {
+        /// The id by which the grant can be revoked.
+        id: Text,
+        /// The agent that asks for the buffer.
+        agent: Target,
+        /// The node in which the buffer lies.
+        node: Target,
+        /// The buffer's first address there.
+        base: u64,
+        /// How many addresses the buffer has.
+        size: u64,
+        /// The access that the agent asks for.
+        mode: Mode,
+    },
+    /// To send a line of an agent to an interrupt controller.
+    Route {
+        /// The id by which the route can be revoked.
+        id: Text,
+        /// The agent that has the line.
+        agent: Target,
+        /// The number of the line.
+        line: u64,
+        /// The node to which the line is sent.
+        node: Target,
+    },
     /// To take a grant or a route back.
     Revoke(Text),
     /// The image of the tables.

@@ -1,10 +1,10 @@
 //! The net and the commands of a tree.
 
-ghost use Rattle.std.specs.Prelude.{◌≡◌, ◌≤◌, true, IfOk, IsTrue, length, map};
+ghost use Rattle.std.specs.Prelude.{◌≡◌, ◌≤◌, true, IfOk, IsTrue, length};
 ghost use Rattle.std.specs.List.{list_all};
 ghost use Rattle.dn_parse.specs.Terms.{script_view, tree_view};
 ghost use Rattle.dn_net.specs.Terms.{is_formed};
-ghost use Rattle.dn_kind.specs.Terms.{has_kind};
+ghost use Rattle.dn_kind.specs.Terms.{has_kind, kinds_of};
 ghost use Rattle.dn_module.specs.Terms.{expand_fault_view, expansion_of, names, node_in, outcome_of, outcome_view};
 ghost use Rattle.dn_base.specs.Terms.{Answers};
 
@@ -30,8 +30,7 @@ pub fn expand<'a>(
     requires few_kinds { length kinds.now.list.items ≤ 255 }
     // It gives what replacing text gives, or the first fault.
     ensures expansion { Answers outcome_view expand_fault_view result
-        (expansion_of (map (λ k. meaning (k.vtable, k.value)) kinds.now.list.items)
-        (tree_view tree.now)) }
+        (expansion_of (kinds_of meaning kinds.now) (tree_view tree.now)) }
     // The kind of each unit is there.
     ensures units { IfOk result (λ e. IsTrue
         (list_all (λ n. has_kind (length kinds.now.list.items) n.unit) e.net)) }

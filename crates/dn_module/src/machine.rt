@@ -1,9 +1,10 @@
 //! The expansion of the statements of a text, a step at a time.
 
-ghost use Rattle.std.specs.Prelude.{◌≡◌, ◌≤◌, None, length, map};
+ghost use Rattle.std.specs.Prelude.{◌≡◌, ◌≤◌, None, length};
 ghost use Rattle.dn_parse.specs.Terms.{declaration_view, expr_view, item_view};
 ghost use Rattle.dn_module.specs.Terms.{Replacement, Visibility, all_rewritings, at_line, body_view, expand_fault_view, expansion_state_view, in_declaration, in_expression, in_item, in_items, item_rewriting, line_of_item, line_of_work, loop_of, most_steps, nothing_yet, outside, replacement_hiding, rewriting, stack_view, statements, turns_works, value, visibility_view, with_declaration, work_view, works_in_front};
 ghost use Rattle.dn_base.specs.Terms.{Answers};
+ghost use Rattle.dn_kind.specs.Terms.{kinds_of};
 
 use crate::drafts::Drafts;
 use crate::fault::ExpandFault;
@@ -37,9 +38,8 @@ pub fn expand_body<'a, 't>(
     body: &'a [Stmt<'t>],
 ) -> Result<Made<'a, 't>, ExpandFault>
     requires few_kinds { length kinds.now.list.items ≤ 255 }
-    ensures { Answers expansion_state_view expand_fault_view result
-        (all_rewritings (map (λ k. meaning (k.vtable, k.value)) kinds.now.list.items) most_steps
-        (statements outside (body_view body.now)) nothing_yet) }
+    ensures { Answers expansion_state_view expand_fault_view result (all_rewritings (kinds_of
+        meaning kinds.now) most_steps (statements outside (body_view body.now)) nothing_yet) }
 {
     let mut stack = Stack::new(alloc, body);
     let mut made = Made {
@@ -93,11 +93,9 @@ fn step<'a, 't>(
 ) -> Result<(), ExpandFault>
     requires few_kinds { length kinds.now.list.items ≤ 255 }
     requires free { stack.old.inner.inner.turns ≡ None }
-    ensures { Answers (λ _. (stack_view stack.new, expansion_state_view made.new)) expand_fault_view
-        result
-        (works_in_front (stack_view stack.old) (rewriting
-        (map (λ k. meaning (k.vtable, k.value)) kinds.now.list.items)
-        (expansion_state_view made.old)
+    ensures { Answers (λ _. (stack_view stack.new, expansion_state_view made.new))
+        expand_fault_view result (works_in_front (stack_view stack.old)
+        (rewriting (kinds_of meaning kinds.now) (expansion_state_view made.old)
         (work_view (visibility_view stack.old.inner.visible) stack.old.inner.scope work.entry))) }
 {
     match work {
@@ -120,11 +118,8 @@ fn take<'a, 't>(
     requires few_kinds { length kinds.now.list.items ≤ 255 }
     requires free { stack.old.inner.inner.turns ≡ None }
     ensures { Answers (λ _. (stack_view stack.new, expansion_state_view made.new)) expand_fault_view
-        result
-        (works_in_front (stack_view stack.old) (item_rewriting
-        (map (λ k. meaning (k.vtable, k.value)) kinds.now.list.items)
-        (visibility_view stack.old.inner.visible)
-        (expansion_state_view made.old)
+        result (works_in_front (stack_view stack.old) (item_rewriting (kinds_of meaning kinds.now)
+        (visibility_view stack.old.inner.visible) (expansion_state_view made.old)
         (in_item stack.old.inner.scope (item_view statement.now)))) }
 {
     match statement {
@@ -179,9 +174,8 @@ fn declare(
     decl: &Decl,
 ) -> Result<(), ExpandFault>
     requires few_kinds { length kinds.now.list.items ≤ 255 }
-    ensures { Answers (λ _. drafts.new) expand_fault_view result
-        (with_declaration (map (λ k. meaning (k.vtable, k.value)) kinds.now.list.items)
-        drafts.old line (in_declaration scope.now (declaration_view decl.now))) }
+    ensures { Answers (λ _. drafts.new) expand_fault_view result (with_declaration (kinds_of
+        meaning kinds.now) drafts.old line (in_declaration scope.now (declaration_view decl.now))) }
 {
     match draft_of(alloc, kinds, recent, scope, line, decl) {
         Ok(draft) => drafts.add(alloc, draft),

@@ -2,7 +2,7 @@
 
 ghost use Rattle.std.specs.Prelude.{◌≡◌, ◌≤◌, length, map, option_map};
 ghost use Rattle.dn_parse.specs.Terms.{block_view, declaration_view, dest_view, entry_view, maybe_name_view, name_view, role_view, spec_view, unit_view};
-ghost use Rattle.dn_kind.specs.Terms.{kind_place};
+ghost use Rattle.dn_kind.specs.Terms.{kind_place, kinds_of};
 ghost use Rattle.dn_module.specs.Terms.{bare_draft, block_of, dest_of, draft_of, each, entry_of, flaw_fault_view, full_name, full_name_or_none, in_block, in_declaration, in_declared, in_dest, in_entry, in_reference, in_spec, known_kind, name_fault_view, node_draft, role_of};
 ghost use Rattle.dn_base.specs.Terms.{Answers};
 
@@ -28,9 +28,8 @@ pub fn draft_of(
     decl: &Decl,
 ) -> Result<Draft, NameFault>
     requires few_kinds { length kinds.now.list.items ≤ 255 }
-    ensures { Answers (λ x. x) name_fault_view result
-        (draft_of (map (λ k. meaning (k.vtable, k.value)) kinds.now.list.items) line
-        (in_declaration scope.now (declaration_view decl.now))) }
+    ensures { Answers (λ x. x) name_fault_view result (draft_of
+        (kinds_of meaning kinds.now) line (in_declaration scope.now (declaration_view decl.now))) }
 {
     match decl {
         Decl::Node { role, name, spec } => node_draft(
@@ -50,9 +49,8 @@ fn unit_of(
     unit: &UnitExpr,
 ) -> Result<Draft, NameFault>
     requires few_kinds { length kinds.now.list.items ≤ 255 }
-    ensures { Answers (λ x. x) name_fault_view result
-        (draft_of (map (λ k. meaning (k.vtable, k.value)) kinds.now.list.items) line
-        (in_declaration scope.now (unit_view unit.now))) }
+    ensures { Answers (λ x. x) name_fault_view result (draft_of
+        (kinds_of meaning kinds.now) line (in_declaration scope.now (unit_view unit.now))) }
 {
     let name = shared_name(alloc, scope, unit.name.as_slice())?;
     let kind = kind_number(kinds, unit.kind)?;
@@ -74,8 +72,7 @@ fn unit_of(
 fn kind_number(kinds: &Kinds, name: &str) -> Result<u8, Flaw>
     requires few_kinds { length kinds.now.list.items ≤ 255 }
     ensures { Answers (λ x. x) flaw_fault_view result
-        (known_kind (kind_place (map (λ k. meaning (k.vtable, k.value)) kinds.now.list.items)
-        name.now)) }
+        (known_kind (kind_place (kinds_of meaning kinds.now) name.now)) }
 {
     match kinds.find(name) {
         Some(number) => Ok(number as u8),

@@ -172,7 +172,14 @@ fn grant(alloc: Global, names: &NameTable, asked: &GrantExpr) -> Result<Command,
     let size = number(alloc, &asked.size)?;
     let id = Text::of(alloc, asked.id)?;
     let mode = asked.mode;
-    Ok(Command::Grant(id, agent, node, base, size, mode))
+    Ok(Command::Grant {
+        id,
+        agent,
+        node,
+        base,
+        size,
+        mode,
+    })
 }
 
 /// A route of a line of the first node named to the second.
@@ -185,7 +192,12 @@ fn route(alloc: Global, names: &NameTable, asked: &RouteExpr) -> Result<Command,
     let line = number(alloc, &asked.line)?;
     let node = target(alloc, names, &asked.node)?;
     let id = Text::of(alloc, asked.id)?;
-    Ok(Command::Route(id, agent, line, node))
+    Ok(Command::Route {
+        id,
+        agent,
+        line,
+        node,
+    })
 }
 
 fn revoke(alloc: Global, id: &str) -> Result<Command, NameFault>

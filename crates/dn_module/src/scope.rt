@@ -4,7 +4,7 @@ ghost use Rattle.std.specs.Prelude.{◌≡◌, [], ◌∷◌, ◌++◌, ◌<◌,
 ghost use Rattle.dn_module.specs.Terms.{as_they_stand, node_by, numbers_by, prefix_of, under, value_for_word};
 
 use crate::scoped::ScopedName;
-use crate::words::Words;
+use crate::words::Bindings;
 use dn_base::text::Text;
 use std::alloc::{AllocError, Global};
 use std::marker::Model;
@@ -30,7 +30,7 @@ pub struct Number<'a> {
 #[derive(Drop)]
 pub struct Within {
     prefix: Text,
-    words: Words,
+    words: Bindings,
 }
 
 impl<'a> Model for Scope<'a> {
@@ -59,7 +59,7 @@ impl<'a> Scope<'a> {
 
     /// The body of a used module: the full name of the use, and what stands for the parameters. It takes no
     /// memory.
-    pub fn of_use(alloc: Global, prefix: Text, words: Words) -> Scope<'a>
+    pub fn of_use(alloc: Global, prefix: Text, words: Bindings) -> Scope<'a>
         ensures { result ≡ record { numbers = words.0; naming = under prefix words.1 } }
     {
         Scope {

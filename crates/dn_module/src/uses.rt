@@ -12,7 +12,7 @@ use crate::scope::Scope;
 use crate::stack::Use;
 use crate::titles::Titles;
 use crate::values::{NameFault, reference, shared_name, value};
-use crate::words::{Given, Words};
+use crate::words::{Bindings, Given};
 use dn_base::items::Items;
 use dn_parse::syntax::{Arg, Param, PartExpr};
 use std::alloc::Global;
@@ -60,7 +60,7 @@ fn inner_scope<'a>(
 {
     let values = values_of(alloc, recent, scope, args)?;
     let text = shared_name(alloc, scope, prefix)?;
-    let words = Words::new(titles.share()?, values);
+    let words = Bindings::new(titles.share()?, values);
     Ok(Scope::of_use(alloc, text, words))
 }
 

@@ -20,14 +20,14 @@ pub enum Given {
 /// What stands for the words of a module's parameters: at the place of each word its value. Contracts see
 /// the numbers and the full names, each with its word.
 #[derive(Drop)]
-pub struct Words {
+pub struct Bindings {
     titles: Titles,
     values: Items<Given>,
     /// The numbers before this place stand for nothing more.
     from: usize,
 }
 
-impl Model for Words {
+impl Model for Bindings {
     ghost use Rattle.std.specs.Prelude.{List, ℕ, ◌≡◌, map, false};
     ghost use Rattle.dn_module.specs.Expand.{has_twice, nodes_of};
     ghost use Rattle.dn_module.specs.Words.{given_view, numbers_from};
@@ -42,16 +42,16 @@ impl Model for Words {
     ghost invariant = { λ w. has_twice w.titles ≡ false };
 }
 
-impl Words {
+impl Bindings {
     /// Different words, each with the value at its place. It takes no memory.
-    pub fn new(titles: Titles, values: Items<Given>) -> Words
+    pub fn new(titles: Titles, values: Items<Given>) -> Bindings
         requires different { has_twice titles ≡ false }
         ensures { result ≡ (
           numbers_of titles (map given_view values),
           nodes_of titles (map given_view values),
         ) }
     {
-        Words {
+        Bindings {
             titles,
             values,
             from: 0,

@@ -10,7 +10,7 @@ use Rattle.dn_net.specs.declared.entries.Place.{Place}
 use Rattle.dn_net.specs.declared.node.Block.{Block}
 use Rattle.dn_net.specs.declared.node.Entry.{Entry}
 use Rattle.dn_net.specs.declared.node.NodeDecl.{NodeDecl}
-use Rattle.dn_net.specs.declared.spans.Span.{Span}
+use Rattle.dn_net.specs.declared.spans.NodeBlock.{NodeBlock}
 use Rattle.dn_net.specs.Decode.{within, in_some_block, top}
 use Rattle.dn_net.specs.Order.{places_from}
 use Rattle.dn_net.specs.Rules.{block_in_range, overlaps, map_blocks_at, accepted_count, count_below}
@@ -67,27 +67,27 @@ node_accepts (p ∷ ps) bs a =
     ap (λ k. nat_lt 0 k) (m ∙ q) ∙ node_accepts ps bs a
 
 -- the blocks of a node in any order: those of its entries, and others with the addresses of its accept blocks
-pub record AreBlocksOf (d : NodeDecl) (spans : List Span) : Type 0 where
+pub record AreBlocksOf (d : NodeDecl) (spans : List NodeBlock) : Type 0 where
   pub places : List Place
   pub rows : List Block
   pub every : IsPermutation (places_from 0 d.entries) places
   pub accepted : (a : ℕ) → in_some_block a rows ≡ in_some_block a d.accepts
   pub same : IsPermutation (node_spans places rows) spans
 
-pub blocks_of : (d : NodeDecl) (places : List Place) (rows : List Block) (spans : List Span) → IsPermutation (places_from 0 d.entries) places → ((a : ℕ) → in_some_block a rows ≡ in_some_block a d.accepts) → IsPermutation (node_spans places rows) spans → AreBlocksOf d spans
+pub blocks_of : (d : NodeDecl) (places : List Place) (rows : List Block) (spans : List NodeBlock) → IsPermutation (places_from 0 d.entries) places → ((a : ℕ) → in_some_block a rows ≡ in_some_block a d.accepts) → IsPermutation (node_spans places rows) spans → AreBlocksOf d spans
 blocks_of d places rows spans every accepted same = record { places = places; rows = rows; every = every; accepted = accepted; same = same }
 
-module _ (d : NodeDecl) (spans : List Span) (of_node : AreBlocksOf d spans) where
+module _ (d : NodeDecl) (spans : List NodeBlock) (of_node : AreBlocksOf d spans) where
   spans_maps : (a : ℕ) → maps_in spans a ≡ map_blocks_at d a
   spans_maps a =
-      sum_by-IsPermutation (λ (s : Span). cond (s.mapped && within a s.block) 1 0) (node_spans of_node.places of_node.rows) spans of_node.same
+      sum_by-IsPermutation (λ (s : NodeBlock). cond (s.mapped && within a s.block) 1 0) (node_spans of_node.places of_node.rows) spans of_node.same
       ∙ node_maps of_node.places of_node.rows a
       ∙ sum_by-IsPermutation (λ (p : Place). cond (within a p.block) 1 0) (places_from 0 d.entries) of_node.places of_node.every
       ∙ entry_maps 0 d.entries a
 
   spans_accepts : (a : ℕ) → is_accepted_in spans a ≡ in_some_block a d.accepts
   spans_accepts a =
-      ap (λ k. nat_lt 0 k) (sum_by-IsPermutation (λ (s : Span). cond (not s.mapped && within a s.block) 1 0) (node_spans of_node.places of_node.rows) spans of_node.same)
+      ap (λ k. nat_lt 0 k) (sum_by-IsPermutation (λ (s : NodeBlock). cond (not s.mapped && within a s.block) 1 0) (node_spans of_node.places of_node.rows) spans of_node.same)
       ∙ node_accepts of_node.places of_node.rows a
       ∙ of_node.accepted a
 
@@ -100,22 +100,22 @@ module _ (d : NodeDecl) (spans : List Span) (of_node : AreBlocksOf d spans) wher
   spans_count = count_below-same (is_accepted_in spans) (λ a. in_some_block a d.accepts) spans_accepts (top + 1)
 
 -- a map block and an accept block, as blocks of a node
-abbrev map_span : Place → Span
+abbrev map_span : Place → NodeBlock
 map_span p = record { block = p.block; mapped = true }
 
-abbrev accept_span : Block → Span
+abbrev accept_span : Block → NodeBlock
 accept_span b = record { block = b; mapped = false }
 
 -- map blocks and accept blocks in order, merged
-abbrev pub merged : List Place → List Block → List Span
+abbrev pub merged : List Place → List Block → List NodeBlock
 merged places accepts = woven (λ (p : Place). p.block.lo) (λ (b : Block). b.lo) (λ p. map_span p ∷ []) accept_span places accepts
 
 -- one map block more, as a loop puts it behind what is made
-pub merged_more : (made whole : List Span) (places : List Place) (i : ℕ) (d : Place) (rest : List Block) → i < length places → made ++ merged (drop i places) rest ≡ whole → ((made ++ node_spans [] (filter (λ b. nat_lt b.lo (get_or places i d).block.lo) rest)) ++ map_span (get_or places i d) ∷ []) ++ merged (drop (i + 1) places) (filter (λ b. not (nat_lt b.lo (get_or places i d).block.lo)) rest) ≡ whole
+pub merged_more : (made whole : List NodeBlock) (places : List Place) (i : ℕ) (d : Place) (rest : List Block) → i < length places → made ++ merged (drop i places) rest ≡ whole → ((made ++ node_spans [] (filter (λ b. nat_lt b.lo (get_or places i d).block.lo) rest)) ++ map_span (get_or places i d) ∷ []) ++ merged (drop (i + 1) places) (filter (λ b. not (nat_lt b.lo (get_or places i d).block.lo)) rest) ≡ whole
 merged_more = woven_more (λ (p : Place). p.block.lo) (λ (b : Block). b.lo) (λ p. map_span p ∷ []) accept_span
 
 -- and all of them
-pub merged_all : (made whole : List Span) (places : List Place) (i : ℕ) (rest : List Block) → length places ≤ i → made ++ merged (drop i places) rest ≡ whole → made ++ node_spans [] rest ≡ whole
+pub merged_all : (made whole : List NodeBlock) (places : List Place) (i : ℕ) (rest : List Block) → length places ≤ i → made ++ merged (drop i places) rest ≡ whole → made ++ node_spans [] rest ≡ whole
 merged_all = woven_all (λ (p : Place). p.block.lo) (λ (b : Block). b.lo) (λ p. map_span p ∷ []) accept_span
 
 ones : (ps : List Place) → flat_map (λ p. map_span p ∷ []) ps ≡ map map_span ps
@@ -127,9 +127,9 @@ merged_same places accepts = subst (λ l. IsPermutation (l ++ map accept_span ac
 
 pub merged_sorted : (places : List Place) (accepts : List Block) → IsNonDecreasingBy (λ p. p.block.lo) places → IsNonDecreasingBy (λ b. b.lo) accepts → IsNonDecreasingBy (λ s. s.block.lo) (merged places accepts)
 merged_sorted places accepts up down =
-    ascends_to (λ (s : Span). s.block.lo) 0 (merged places accepts) (woven_ascends (λ (p : Place). p.block.lo) (λ (b : Block). b.lo) (λ p. map_span p ∷ []) accept_span (λ (s : Span). s.block.lo) (λ p. (refl, tt)) (λ b. refl) 0 places accepts
+    ascends_to (λ (s : NodeBlock). s.block.lo) 0 (merged places accepts) (woven_ascends (λ (p : Place). p.block.lo) (λ (b : Block). b.lo) (λ p. map_span p ∷ []) accept_span (λ (s : NodeBlock). s.block.lo) (λ p. (refl, tt)) (λ b. refl) 0 places accepts
     (ascends_from (λ (p : Place). p.block.lo) 0 places up (λ d l. omega arith))
     (ascends_from (λ (b : Block). b.lo) 0 accepts down (λ d l. omega arith)))
 
 pub merged_in_range : (places : List Place) (accepts : List Block) → All (λ p. IsTrue (block_in_range p.block)) places → All (λ b. IsTrue (block_in_range b)) accepts → All (λ s. IsTrue (block_in_range s.block)) (merged places accepts)
-merged_in_range places accepts maps rest = All-permutation (λ (s : Span). IsTrue (block_in_range s.block)) (node_spans places accepts) (merged places accepts) (merged_same places accepts) (All-append (λ (s : Span). IsTrue (block_in_range s.block)) (map map_span places) (map accept_span accepts) (All-map (λ (s : Span). IsTrue (block_in_range s.block)) map_span places maps) (All-map (λ (s : Span). IsTrue (block_in_range s.block)) accept_span accepts rest))
+merged_in_range places accepts maps rest = All-permutation (λ (s : NodeBlock). IsTrue (block_in_range s.block)) (node_spans places accepts) (merged places accepts) (merged_same places accepts) (All-append (λ (s : NodeBlock). IsTrue (block_in_range s.block)) (map map_span places) (map accept_span accepts) (All-map (λ (s : NodeBlock). IsTrue (block_in_range s.block)) map_span places maps) (All-map (λ (s : NodeBlock). IsTrue (block_in_range s.block)) accept_span accepts rest))

@@ -9,7 +9,7 @@ use Rattle.dn_net.specs.declared.node.Entry.{Entry}
 use Rattle.dn_net.specs.declared.node.Role.{Role}
 use Rattle.dn_net.specs.declared.node.Unit.{Unit as UnitPart}
 use Rattle.dn_net.specs.declared.node.NodeDecl.{NodeDecl}
-use Rattle.dn_net.specs.declared.spans.Span.{Span}
+use Rattle.dn_net.specs.declared.spans.NodeBlock.{NodeBlock}
 use Rattle.dn_net.specs.Decode.{top}
 use Rattle.dn_net.specs.Spans.{overlaps_in, is_accepted_in}
 use Rattle.dn_net.specs.Rules.{BrokenNode, out_of_range, overlapping, repeating, past_space, is_in_range, block_in_range, entry_in_range, dests_repeat, unit_repeats, is_vectors, count_below, overlaps, least_overlap, repeats, passes_vector_space, fault_of_node, first_fault, node_fault_from}
@@ -53,7 +53,7 @@ module _ (o : Option NodeDecl) (d : NodeDecl) (at : o ≡ Some d) (accepts : Lis
   pub repeats_is : (b : Bool) (u : Option UnitPart) → option_map (λ d. d.unit) o ≡ Some u → (list_any (λ e. dests_repeat e.dests) entries || unit_repeats u) ≡ b → repeats d ≡ b
   repeats_is b u us h = let e = part_is (λ d. d.unit) o d u at us in (λ i. list_any (λ e. dests_repeat e.dests) (ent i) || unit_repeats (e i)) ∙ h
 
-  module _ (spans : List Span) (of_node : AreBlocksOf d spans) where
+  module _ (spans : List NodeBlock) (of_node : AreBlocksOf d spans) where
     pub overlap_is : (x : ℕ) → IsTrue (overlaps_in spans x) → ((b : ℕ) → IsTrue (overlaps_in spans b) → x ≤ b) → least_overlap d ≡ Some x
     overlap_is x h least = least_is d x (sym (spans_overlap d spans of_node x) ∙ h) (λ b k. least b (spans_overlap d spans of_node b ∙ k))
 

@@ -3,7 +3,7 @@ use Rattle.std.proofs.Common.{◌≡◌, ℕ, zero, suc, ◌+◌, ◌-◌, ◌<�
 use Rattle.std.proofs.lemmas.Bool.{cases_lt, le-leb, leb-false, ltb-false}
 use Rattle.std.specs.List.Sorted.{IsNonDecreasingBy}
 use Rattle.dn_base.proofs.Booleans.{and_parts, and-false}
-use Rattle.dn_net.specs.declared.spans.Span.{Span}
+use Rattle.dn_net.specs.declared.spans.NodeBlock.{NodeBlock}
 use Rattle.dn_net.specs.Decode.{within, top}
 use Rattle.dn_net.specs.Rules.{count_below, block_in_range}
 use Rattle.dn_net.specs.Spans.{accepts_in, is_accepted_in}
@@ -11,7 +11,7 @@ use Rattle.dn_net.proofs.Least.{within_from}
 use Rattle.dn_net.proofs.Sweep.{Rising, rising, early, one_if, accepts_in-cons, within_early, within_late}
 
 -- how many accepted addresses there are from an address on
-abbrev pub tally : ℕ → List Span → ℕ
+abbrev pub tally : ℕ → List NodeBlock → ℕ
 tally past [] = 0
 tally past (s ∷ ss) = if not s.mapped && nat_le past s.block.hi then (s.block.hi + 1 - (if nat_lt past s.block.lo then s.block.lo else past)) + tally (s.block.hi + 1) ss else tally past ss
 
@@ -54,10 +54,10 @@ count_block first last (suc n) = by (count_block first last n) (in_block_cases f
     by ih (inr (inr w, z)) s = (λ h. absurd (omega arith), λ h. let k = ih.1 (omega arith) in omega (arith, s, k, z))
 
 -- the accepted addresses from an address on
-abbrev pub accepted_from : ℕ → List Span → ℕ → Bool
+abbrev pub accepted_from : ℕ → List NodeBlock → ℕ → Bool
 accepted_from past ss c = nat_le past c && is_accepted_in ss c
 
-accepted_cases : (past : ℕ) (ss : List Span) (c : ℕ) → ((past ≤ c) × (0 < accepts_in ss c) × (accepted_from past ss c ≡ true)) ⊎ (((c < past) ⊎ (accepts_in ss c ≤ 0)) × (accepted_from past ss c ≡ false))
+accepted_cases : (past : ℕ) (ss : List NodeBlock) (c : ℕ) → ((past ≤ c) × (0 < accepts_in ss c) × (accepted_from past ss c ≡ true)) ⊎ (((c < past) ⊎ (accepts_in ss c ≤ 0)) × (accepted_from past ss c ≡ false))
 accepted_cases past ss c = by (nat_le past c) (nat_lt 0 (accepts_in ss c)) refl refl
   where
     by : (p q : Bool) → nat_le past c ≡ p → nat_lt 0 (accepts_in ss c) ≡ q → ((past ≤ c) × (0 < accepts_in ss c) × ((p && q) ≡ true)) ⊎ (((c < past) ⊎ (accepts_in ss c ≤ 0)) × ((p && q) ≡ false))
@@ -66,7 +66,7 @@ accepted_cases past ss c = by (nat_le past c) (nat_lt 0 (accepts_in ss c)) refl 
     by false q e f = inr (inl (leb-false _ _ e), refl)
 
 -- where the two tests of acceptance say the same
-same_accepted : (past past' : ℕ) (ss ss' : List Span) (c : ℕ) → (past ≤ c → 0 < accepts_in ss c → (past' ≤ c) × (0 < accepts_in ss' c)) → (past' ≤ c → 0 < accepts_in ss' c → (past ≤ c) × (0 < accepts_in ss c)) → accepted_from past ss c ≡ accepted_from past' ss' c
+same_accepted : (past past' : ℕ) (ss ss' : List NodeBlock) (c : ℕ) → (past ≤ c → 0 < accepts_in ss c → (past' ≤ c) × (0 < accepts_in ss' c)) → (past' ≤ c → 0 < accepts_in ss' c → (past ≤ c) × (0 < accepts_in ss c)) → accepted_from past ss c ≡ accepted_from past' ss' c
 same_accepted past past' ss ss' c on back = by (accepted_cases past ss c) (accepted_cases past' ss' c)
   where
     by : ((past ≤ c) × (0 < accepts_in ss c) × (accepted_from past ss c ≡ true)) ⊎ (((c < past) ⊎ (accepts_in ss c ≤ 0)) × (accepted_from past ss c ≡ false)) → ((past' ≤ c) × (0 < accepts_in ss' c) × (accepted_from past' ss' c ≡ true)) ⊎ (((c < past') ⊎ (accepts_in ss' c ≤ 0)) × (accepted_from past' ss' c ≡ false)) → accepted_from past ss c ≡ accepted_from past' ss' c
@@ -85,7 +85,7 @@ none_accepted : (past : ℕ) (c : ℕ) → accepted_from past [] c ≡ false
 none_accepted past c = and-false (nat_le past c)
 
 -- where a span is the first of rising ones, the accepted addresses are those of the span and those past it
-module _ (past : ℕ) (s : Span) (ss : List Span) (r : Rising s.block.lo ss) (valid : s.block.lo ≤ s.block.hi) where
+module _ (past : ℕ) (s : NodeBlock) (ss : List NodeBlock) (r : Rising s.block.lo ss) (valid : s.block.lo ≤ s.block.hi) where
   unmapped : (c : ℕ) → s.mapped ≡ false → accepts_in (s ∷ ss) c ≡ one_if (within c s.block) + accepts_in ss c
   unmapped c is = accepts_in-cons s ss c ∙ rw is refl
 
@@ -144,7 +144,7 @@ later_of past lo true e = let h = ltb-true _ _ e in (omega arith, omega arith, i
 later_of past lo false e = let h = ltb-false _ _ e in (omega arith, omega arith, inl refl)
 
 -- the tally counts the accepted addresses from an address on
-pub tallied : (past l : ℕ) (ss : List Span) → Rising l ss → All (λ s. IsTrue (block_in_range s.block)) ss → tally past ss ≡ count_below (accepted_from past ss) (top + 1)
+pub tallied : (past l : ℕ) (ss : List NodeBlock) → Rising l ss → All (λ s. IsTrue (block_in_range s.block)) ss → tally past ss ≡ count_below (accepted_from past ss) (top + 1)
 tallied past l [] r valid = sym (count_below-none (accepted_from past []) (none_accepted past) (top + 1))
 tallied past l (s ∷ ss) r valid =
     let rest : All (λ s. IsTrue (block_in_range s.block)) ss = λ k d h. valid (suc k) d (omega arith) in
@@ -161,5 +161,5 @@ tallied past l (s ∷ ss) r valid =
         let block = (count_block first s.block.hi (top + 1)).1 (omega arith) in
         omega (arith, sum, block, next)
 
-pub accepted_tally : (ss : List Span) → All (λ s. IsTrue (block_in_range s.block)) ss → IsNonDecreasingBy (λ s. s.block.lo) ss → tally 0 ss ≡ count_below (is_accepted_in ss) (top + 1)
+pub accepted_tally : (ss : List NodeBlock) → All (λ s. IsTrue (block_in_range s.block)) ss → IsNonDecreasingBy (λ s. s.block.lo) ss → tally 0 ss ≡ count_below (is_accepted_in ss) (top + 1)
 accepted_tally ss valid up = tallied 0 0 ss (rising 0 ss valid up (λ d h. omega arith)) valid ∙ count_below-same (accepted_from 0 ss) (is_accepted_in ss) (λ c. rw (le-leb 0 c (omega arith)) refl) (top + 1)

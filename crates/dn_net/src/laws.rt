@@ -1,6 +1,6 @@
 //! Laws on the definitions of the net, each the contract of a function that does nothing.
 
-ghost use Rattle.dn_net.specs.Terms.{AfterStepsIsChain, AreLimits, ChainIsFirst, CycleIsLeast, EndNamesAreEnds, EndNamesAscend, EndlessIsRefused, ForkIsLeast, LeastOverlapIsLeast, LegalBreaksNoRule, NoFaultIsShallow, PathIsLeast, ReachIsWithin, ReachedIsWithin, ShortestCycleIsShortest};
+ghost use Rattle.dn_net.specs.Terms.{AfterStepsIsChain, AreLimits, CycleIsLeast, EndNamesAreEnds, EndNamesAscend, LeastOverlapIsLeast, PathIsLeast, ReachedIsWithin, ShortestCycleIsShortest};
 
 /// The names that are listed are exactly those that pass a test and end a chain of at most so many steps. What a name
 /// resolves to is so listed, and so are its stops.
@@ -42,39 +42,6 @@ pub fn cycle_is_least()
 /// where there are none, there is no chain of that length.
 pub fn path_is_least()
     ensures { PathIsLeast }
-{}
-
-/// A name with a chain that never ends breaks `Wide`, `Loop` or `Deep`.
-pub fn endless_is_refused()
-    ensures { EndlessIsRefused }
-{}
-
-/// In a net that breaks none of these three no chain has 65 steps.
-pub fn no_fault_is_shallow()
-    ensures { NoFaultIsShallow }
-{}
-
-/// In a net that breaks none of these three what is reached at all is reached within 65 steps.
-pub fn reach_is_within()
-    ensures { ReachIsWithin }
-{}
-
-/// The fork that is carried is the least name with two or more destinations that reaches a unit, with the least unit that it
-/// reaches; where there is none, no such name is there.
-pub fn fork_is_least()
-    ensures { ForkIsLeast }
-{}
-
-/// The row of units that is carried is the first of four, or else the first of one to three with too many slots; where there
-/// is none, every row has at most three units, and not too many slots.
-pub fn chain_is_first()
-    ensures { ChainIsFirst }
-{}
-
-/// A net with each node to which it refers breaks neither a node rule nor a rule on walks, and has units of plain shapes,
-/// exactly where it is legal.
-pub fn legal_breaks_no_rule()
-    ensures { LegalBreaksNoRule }
 {}
 
 /// The limits in numbers.

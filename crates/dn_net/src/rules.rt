@@ -10,7 +10,7 @@ ghost use Rattle.dn_net.specs.declared.node.NodeDecl.{NodeDecl};
 
 use crate::net::Net;
 use crate::node::{Block, Dest, Entry, Role, TOP, Unit};
-use crate::spans::{Span, accepted_addresses, first_overlap, merged_spans};
+use crate::spans::{NodeBlock, accepted_addresses, first_overlap, merged_spans};
 use std::alloc::Global;
 use thiserror::Error;
 
@@ -99,7 +99,7 @@ fn is_plain_unit(unit: Option<&Unit>) -> bool
 }
 
 /// Whether a node with these parts is no `vectors` node, or has no map, no `over` and not too many addresses.
-fn has_vector_space(role: Role, entries: &[Entry], over: Option<u16>, spans: &[Span]) -> bool
+fn has_vector_space(role: Role, entries: &[Entry], over: Option<u16>, spans: &[NodeBlock]) -> bool
     requires in_range { All (λ s. IsTrue (block_in_range s.block)) spans.now }
     requires sorted { IsNonDecreasingBy (λ s. s.block.lo) spans.now }
     ensures { result ≡ (not (is_vectors role) || ((nat_le (length entries.now) 0

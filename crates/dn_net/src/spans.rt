@@ -10,12 +10,12 @@ use std::alloc::{AllocError, Global};
 
 /// A block of a node. One that is not mapped is accepted.
 #[derive(Clone, Copy)]
-pub(crate) struct Span {
+pub(crate) struct NodeBlock {
     block: Block,
     mapped: bool,
 }
 
-impl Span {
+impl NodeBlock {
     /// Whether its first address lies in an earlier block with which it must have none in common,
     /// where the earlier map blocks and the earlier accept blocks end before these addresses.
     fn meets(self, past_maps: u64, past_accepts: u64) -> bool
@@ -32,7 +32,7 @@ pub(crate) fn merged_spans(
     alloc: Global,
     maps: &[Place],
     accepts: &[Block],
-) -> Result<Vec<Span>, AllocError>
+) -> Result<Vec<NodeBlock>, AllocError>
     requires maps { IsNonDecreasingBy (λ p. p.block.lo) maps.now }
     requires accepts { IsNonDecreasingBy (λ b. b.lo) accepts.now }
     requires maps_in_range { All (λ p. IsTrue (block_in_range p.block)) maps.now }
@@ -46,7 +46,7 @@ pub(crate) fn merged_spans(
     for place in maps {
         let (before, others) = split_below(rest, place.block.lo);
         push_accepts(&mut spans, before)?;
-        spans.push(Span {
+        spans.push(NodeBlock {
             block: place.block,
             mapped: true,
         })?;
@@ -67,11 +67,11 @@ fn split_below(blocks: &[Block], addr: u64) -> (&[Block], &[Block])
 }
 
 /// Adds accept blocks.
-fn push_accepts(spans: &mut Vec<Span>, accepts: &[Block]) -> Result<(), AllocError>
+fn push_accepts(spans: &mut Vec<NodeBlock>, accepts: &[Block]) -> Result<(), AllocError>
     ensures { OnOk result (spans.new.items ≡ spans.old.items ++ node_spans [] accepts.now) }
 {
     for block in accepts {
-        spans.push(Span {
+        spans.push(NodeBlock {
             block: *block,
             mapped: false,
         })?;
@@ -80,7 +80,7 @@ fn push_accepts(spans: &mut Vec<Span>, accepts: &[Block]) -> Result<(), AllocErr
 }
 
 /// The least address that lies in two map blocks, or in a map block and an accept block.
-pub(crate) fn first_overlap(spans: &[Span]) -> Option<u64>
+pub(crate) fn first_overlap(spans: &[NodeBlock]) -> Option<u64>
     requires in_range { All (λ s. IsTrue (block_in_range s.block)) spans.now }
     requires sorted { IsNonDecreasingBy (λ s. s.block.lo) spans.now }
     ensures found { IfSome result (λ a. IsTrue (overlaps_in spans.now a)) }
@@ -104,7 +104,7 @@ pub(crate) fn first_overlap(spans: &[Span]) -> Option<u64>
 }
 
 /// How many different addresses lie in accept blocks.
-pub(crate) fn accepted_addresses(spans: &[Span]) -> u64
+pub(crate) fn accepted_addresses(spans: &[NodeBlock]) -> u64
     requires in_range { All (λ s. IsTrue (block_in_range s.block)) spans.now }
     requires sorted { IsNonDecreasingBy (λ s. s.block.lo) spans.now }
     ensures { result ≡ count_below (is_accepted_in spans.now) (top + 1) }

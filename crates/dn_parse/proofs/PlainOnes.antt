@@ -4,7 +4,8 @@ use Rattle.std.proofs.lemmas.Bool.{and_parts}
 use Rattle.dn_base.proofs.Lists.{list_all-last}
 use Rattle.dn_token.specs.Token.{Token}
 use Rattle.dn_parse.specs.Tree.{Command}
-use Rattle.dn_parse.specs.Commands.{next_command, commands_from, behind_commands}
+use Rattle.dn_parse.specs.Commands.{next_command, commands_from}
+use Rattle.dn_parse.proofs.Scripts.{behind_commands}
 use Rattle.dn_parse.specs.Plain.{is_plain_order, are_plain}
 use Rattle.dn_parse.proofs.Scripts.{AreCommands, more_is, past_is, fewer, none_fewer, behind_zero}
 

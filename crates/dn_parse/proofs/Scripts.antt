@@ -7,13 +7,23 @@ use Rattle.dn_parse.specs.Tree.{Statement, declares, heads_module, uses, heads_l
 use Rattle.dn_parse.specs.Machine.{Stop, whole, refused, deep}
 use Rattle.dn_parse.specs.Whole.{TextFault, block_fault, first_line, Blocks, BlockStep, by_step, step, before_begin, after_begin, at_stop, judge, forbidden}
 use Rattle.dn_parse.specs.Descent.{Read, Next, and_then, whole_statement_at}
-use Rattle.dn_parse.specs.Commands.{command_of_statement, command_at, command_read, next_in, next_command, with_more, commands_from, tokens_past, behind_commands, with_commands}
+use Rattle.dn_parse.specs.Commands.{command_of_statement, command_at, command_read, next_in, next_command, with_more, commands_from, with_commands}
 use Rattle.dn_parse.specs.Views.{command_view}
 use Rattle.dn_parse.specs.declared.syntax.Cmd.{Cmd}
 use Rattle.dn_parse.specs.declared.cursor.Halt.{Halt}
 use Rattle.dn_parse.specs.declared.cursor.Halt.TheVariants.{Refused, Deep as DeepHalt, OutOfMemory as HaltMemory}
 use Rattle.dn_parse.specs.Faults.{halt_view, halt_fault}
 use Rattle.dn_parse.proofs.Judge.{next_step, fault_halted, judge_end}
+
+-- the tokens behind a command and those after it, of which there is none where no command stands
+abbrev pub tokens_past : Option (Command × List Token) → (List Token → List Token) → List Token
+tokens_past None more = []
+tokens_past (Some c) more = more c.1
+
+-- the tokens behind the first so many commands
+unfoldable pub behind_commands : ℕ → List Token → List Token
+behind_commands zero ts = ts
+behind_commands (suc n) ts = tokens_past (next_command ts) (behind_commands n)
 
 -- a command and the tokens behind it
 abbrev Found : Type 0

@@ -38,16 +38,6 @@ unfoldable pub commands_from : ℕ → List Token → List Command
 commands_from zero ts = []
 commands_from (suc n) ts = with_more (next_command ts) (commands_from n)
 
--- the tokens behind a command and those after it, of which there is none where no command stands
-abbrev pub tokens_past : Option (Command × List Token) → (List Token → List Token) → List Token
-tokens_past None more = []
-tokens_past (Some c) more = more c.1
-
--- the tokens behind the first so many commands
-unfoldable pub behind_commands : ℕ → List Token → List Token
-behind_commands zero ts = ts
-behind_commands (suc n) ts = tokens_past (next_command ts) (behind_commands n)
-
 -- the blocks with these commands more
 abbrev pub with_commands : Blocks → List Command → Blocks
 with_commands b cs = record { frames = b.frames; body = b.body; begun = b.begun; commands = b.commands ++ cs }

@@ -12,7 +12,7 @@ use std::alloc::{AllocError, Global};
 
 /// A row of members: a product of factors, or a sum of products.
 #[derive(Clone, Copy)]
-pub enum Row {
+pub enum Operation {
     Product,
     Sum,
 }
@@ -32,23 +32,23 @@ fn two_members<'a>(
 }
 
 /// The sum or the product of two members or more.
-fn as_one<'a>(row: Row, members: Vec<Expr<'a>>) -> Expr<'a>
+fn as_one<'a>(row: Operation, members: Vec<Expr<'a>>) -> Expr<'a>
     requires { 1 < vec_len members }
     ensures { expr_view result ≡ as_one row (map expr_view members.entry.items) }
 {
     match row {
-        Row::Product => Expr::Product(members),
-        Row::Sum => Expr::Sum(members),
+        Operation::Product => Expr::Product(members),
+        Operation::Sum => Expr::Sum(members),
     }
 }
 
 /// The sign between two members.
-fn sign_of(row: Row) -> Sign
+fn sign_of(row: Operation) -> Sign
     ensures { result ≡ row_sign row }
 {
     match row {
-        Row::Product => Sign::Times,
-        Row::Sum => Sign::Plus,
+        Operation::Product => Sign::Times,
+        Operation::Sum => Sign::Plus,
     }
 }
 
@@ -104,14 +104,19 @@ fn after_open<'a>(alloc: Global, tokens: &mut Cursor<'a>, depth: u8) -> Result<E
 /// A member: a factor, or a product
 #[cycle(expressions)]
 #[tactic(auto, unfolding(crate::specs::Rows::joined_at, crate::specs::Rows::members_at, crate::specs::Rows::next_member_at, crate::specs::Descent::term_at, crate::specs::Descent::factors_at, crate::specs::Descent::next_factor_at))]
-fn member<'a>(alloc: Global, tokens: &mut Cursor<'a>, depth: u8, row: Row) -> Result<Expr<'a>, Halt>
+fn member<'a>(
+    alloc: Global,
+    tokens: &mut Cursor<'a>,
+    depth: u8,
+    row: Operation,
+) -> Result<Expr<'a>, Halt>
     ensures gives { Reads expr_view result tokens.new
         (member_at row depth (cursor_view tokens.old)) }
     ensures shorter { IfOk result (λ _. IsShorter tokens.new tokens.old) }
 {
     match row {
-        Row::Product => factor(alloc, tokens, depth),
-        Row::Sum => row_expr(alloc, tokens, depth, Row::Product),
+        Operation::Product => factor(alloc, tokens, depth),
+        Operation::Sum => row_expr(alloc, tokens, depth, Operation::Product),
     }
 }
 
@@ -122,7 +127,7 @@ fn next_member<'a>(
     alloc: Global,
     tokens: &mut Cursor<'a>,
     depth: u8,
-    row: Row,
+    row: Operation,
 ) -> Result<Option<Expr<'a>>, Halt>
     ensures gives { ReadsNext expr_view result tokens.new
         (next_member_at row depth (cursor_view tokens.old)) }
@@ -141,7 +146,7 @@ fn row_expr<'a>(
     alloc: Global,
     tokens: &mut Cursor<'a>,
     depth: u8,
-    row: Row,
+    row: Operation,
 ) -> Result<Expr<'a>, Halt>
     ensures gives { Reads expr_view result tokens.new
         (joined_at row depth (cursor_view tokens.old)) }
@@ -166,5 +171,5 @@ pub fn expr<'a>(alloc: Global, tokens: &mut Cursor<'a>, depth: u8) -> Result<Exp
     ensures gives { Reads expr_view result tokens.new (expr_at depth (cursor_view tokens.old)) }
     ensures shorter { IfOk result (λ _. IsShorter tokens.new tokens.old) }
 {
-    row_expr(alloc, tokens, depth, Row::Sum)
+    row_expr(alloc, tokens, depth, Operation::Sum)
 }

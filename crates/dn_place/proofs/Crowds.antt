@@ -1,11 +1,11 @@
 -- Names that two addresses of agents reach, and the inputs of which they are names.
-use Rattle.std.proofs.Common.{◌≡◌, ℕ, suc, ◌+◌, ◌-◌, ◌*◌, ◌/◌, ◌%◌, ◌^◌, ◌<◌, ◌≤◌, ◌⊎◌, inl, inr, true, sym, ◌∙◌, subst, arith}
+use Rattle.std.proofs.Common.{◌≡◌, ℕ, ◌+◌, ◌-◌, ◌*◌, ◌/◌, ◌%◌, ◌^◌, ◌<◌, ◌≤◌, ◌⊎◌, inl, inr, sym, ◌∙◌, arith}
 use Rattle.std.proofs.lemmas.Bool.{cases_lt}
 use Rattle.std.proofs.lemmas.Nat.{pow_pos}
-use Rattle.std.proofs.Math.Nat.{mod-lt, mod-add-div', div-mul-le_self, suc-mul}
+use Rattle.std.proofs.Math.Nat.{mod-lt, mod-add-div', div-mul-le_self}
 use Rattle.dn_interval.specs.declared.span.Span.{Span}
 use Rattle.dn_interval.proofs.Membership.{in_from}
-use Rattle.dn_flat.specs.Crowds.{AreCrowded, IsCrowded}
+use Rattle.dn_flat.specs.Crowds.{AreCrowded}
 use Rattle.dn_place.specs.Slots.{HasCrowd}
 use Rattle.dn_place.specs.Sought.{Sought}
 use Rattle.dn_place.proofs.Nexts.{between}

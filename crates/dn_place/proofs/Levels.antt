@@ -6,7 +6,11 @@ use Rattle.dn_place.specs.Sought.{Sought}
 use Rattle.dn_placement.specs.Keys.{comes_before, Begins}
 use Rattle.dn_placement.specs.Order.{key_of, precedes}
 use Rattle.dn_placement.proofs.Keys.{same_front, not_before}
-use Rattle.dn_place.specs.Candidates.{IsUnder, NoneUnder, NoneBelow, IsFirstUnder}
+use Rattle.dn_place.specs.Candidates.{IsUnder, NoneUnder, IsFirstUnder}
+
+-- there is none whose key goes on with a number below this one
+pub record NoneBelow (s : Sought) (front : List ℕ) (bound : ℕ) : Type 0 where
+  pub none : (q : Place) (j : ℕ) → j < bound → IsUnder s (front ++ j ∷ []) q → ⊥
 
 pub begun : (s : Sought) (front : List ℕ) → NoneBelow s front 0
 begun s front = record { none = λ q j l u. absurd (omega arith) }

@@ -20,7 +20,7 @@ use Rattle.dn_net.specs.Decode.{top, unit_at, StopsAt}
 use Rattle.dn_flat.specs.declared.levels.Levels.{Levels}
 use Rattle.dn_flat.specs.Levels.{IsLevels, levels_give}
 use Rattle.dn_tables.specs.declared.placement.Hop.{Hop}
-use Rattle.dn_place.specs.Sought.{IsFormed, IsSearchReady, ReachOneStop, Sought}
+use Rattle.dn_place.specs.Sought.{HasUnitBounds, IsSearchReady, ReachOneStop, Sought}
 use Rattle.dn_net.specs.declared.node.Unit.{Unit as UnitPart}
 use Rattle.dn_placement.specs.Placement.{Leads, Meets}
 use Rattle.dn_walk.specs.Ends.{end_of, name_of_end}
@@ -106,17 +106,17 @@ marks_all net n marks long m = λ a z l s k. m a z l s (omega arith)
 -- the next hop of a placement stands in a marked unit
 pub marked_hop : (s : Sought) (first second third : List Bool) (v : ℕ) (before : List Hop) (hop : Hop) (chosen : List Hop) → IsSearchReady s → v + s.request.size ≤ top + 1 → AreMarked s.net s.request.agent first second third → Meets s.net s.request s.request.agent v (before ++ (hop ∷ chosen)) → Leads s.net s.slots s.request (before ++ (hop ∷ chosen)) → length before ≤ 2 → mark_at first second third (suc (length before)) hop.unit ≡ true
 marked_hop s first second third v [] hop chosen ready fits m meets leads l = let some = ready.some in m.firsts (v + 0) (record { node = hop.unit; addr = hop.x + 0 }) (omega arith) (meets 0 some) (unit_there s.net hop.unit leads.0.unit leads.0.is_unit)
-marked_hop s first second third v (a ∷ []) hop chosen ready fits m meets leads l = let some = ready.some in m.seconds a.unit a.port leads.0.node leads.0.unit one leads.0.is_unit leads.0.is_port (a.y + 0) (record { node = hop.unit; addr = hop.x + 0 }) (omega (arith, leads.0.reached, power_below leads.0.unit.reach (ready.formed a.unit leads.0.unit leads.0.is_unit).reach)) (leads.0.meets 0 some) (unit_there s.net hop.unit leads.1.0.unit leads.1.0.is_unit)
+marked_hop s first second third v (a ∷ []) hop chosen ready fits m meets leads l = let some = ready.some in m.seconds a.unit a.port leads.0.fits.node leads.0.unit one leads.0.is_unit leads.0.fits.is_port (a.y + 0) (record { node = hop.unit; addr = hop.x + 0 }) (omega (arith, leads.0.fits.reached, power_below leads.0.unit.reach (ready.bounds a.unit leads.0.unit leads.0.is_unit).reach)) (leads.0.meets 0 some) (unit_there s.net hop.unit leads.1.0.unit leads.1.0.is_unit)
   where
     one : is_marked first a.unit ≡ true
     one = let some = ready.some in m.firsts (v + 0) (record { node = a.unit; addr = a.x + 0 }) (omega arith) (meets 0 some) (unit_there s.net a.unit leads.0.unit leads.0.is_unit)
-marked_hop s first second third v (a ∷ b ∷ []) hop chosen ready fits m meets leads l = let some = ready.some in m.thirds b.unit b.port leads.1.0.node leads.1.0.unit two leads.1.0.is_unit leads.1.0.is_port (b.y + 0) (record { node = hop.unit; addr = hop.x + 0 }) (omega (arith, leads.1.0.reached, power_below leads.1.0.unit.reach (ready.formed b.unit leads.1.0.unit leads.1.0.is_unit).reach)) (leads.1.0.meets 0 some) (unit_there s.net hop.unit leads.1.1.0.unit leads.1.1.0.is_unit)
+marked_hop s first second third v (a ∷ b ∷ []) hop chosen ready fits m meets leads l = let some = ready.some in m.thirds b.unit b.port leads.1.0.fits.node leads.1.0.unit two leads.1.0.is_unit leads.1.0.fits.is_port (b.y + 0) (record { node = hop.unit; addr = hop.x + 0 }) (omega (arith, leads.1.0.fits.reached, power_below leads.1.0.unit.reach (ready.bounds b.unit leads.1.0.unit leads.1.0.is_unit).reach)) (leads.1.0.meets 0 some) (unit_there s.net hop.unit leads.1.1.0.unit leads.1.1.0.is_unit)
   where
     one : is_marked first a.unit ≡ true
     one = let some = ready.some in m.firsts (v + 0) (record { node = a.unit; addr = a.x + 0 }) (omega arith) (meets 0 some) (unit_there s.net a.unit leads.0.unit leads.0.is_unit)
 
     two : is_marked second b.unit ≡ true
-    two = let some = ready.some in m.seconds a.unit a.port leads.0.node leads.0.unit one leads.0.is_unit leads.0.is_port (a.y + 0) (record { node = b.unit; addr = b.x + 0 }) (omega (arith, leads.0.reached, power_below leads.0.unit.reach (ready.formed a.unit leads.0.unit leads.0.is_unit).reach)) (leads.0.meets 0 some) (unit_there s.net b.unit leads.1.0.unit leads.1.0.is_unit)
+    two = let some = ready.some in m.seconds a.unit a.port leads.0.fits.node leads.0.unit one leads.0.is_unit leads.0.fits.is_port (a.y + 0) (record { node = b.unit; addr = b.x + 0 }) (omega (arith, leads.0.fits.reached, power_below leads.0.unit.reach (ready.bounds a.unit leads.0.unit leads.0.is_unit).reach)) (leads.0.meets 0 some) (unit_there s.net b.unit leads.1.0.unit leads.1.0.is_unit)
 marked_hop s first second third v (a ∷ b ∷ c ∷ d) hop chosen ready fits m meets leads l = absurd (omega arith)
 
 -- all ports of the unit are marked
@@ -130,7 +130,7 @@ ports_marked net items t u i k n marks x e f p l g done = subst (λ (m : ℕ). M
     read = ap (λ (m : List ℕ). slice_get m k) (p ∙ ap (λ (m : UnitPart). m.ports) (some t u (sym e ∙ f))) ∙ g
 
 -- the node of a port is there
-pub port_there : (net : List NodeDecl) (u : UnitPart) (items : List ℕ) (i : ℕ) → IsFormed net u → items ≡ u.ports → i < length items → get_or items i 0 < length net
+pub port_there : (net : List NodeDecl) (u : UnitPart) (items : List ℕ) (i : ℕ) → HasUnitBounds net u → items ≡ u.ports → i < length items → get_or items i 0 < length net
 port_there net u items i f e l = f.there i (get_or items i 0) (ap (λ (m : List ℕ). slice_get m i) (sym e) ∙ slice_get-get_or items i 0 l)
 
 -- marks after one more node

@@ -2,13 +2,12 @@
 use Rattle.std.proofs.Common.{◌≡◌, ℕ, suc, ◌+◌, ◌-◌, ◌*◌, ◌/◌, ◌%◌, ◌^◌, ◌<◌, ◌≤◌, ◌⊎◌, inl, inr, Bool, false, List, [], ◌∷◌, ◌++◌, length, slice_get, get_or, Option, Some, None, refl, sym, ap, ◌∙◌, subst, arith, append_assoc, length-append}
 use Rattle.std.proofs.lemmas.Bool.{cases_lt, cases_order, false≢true}
 use Rattle.std.proofs.lemmas.Option.{slice_get_within, slice_get-get_or, get_or_from_slice_get}
-use Rattle.std.proofs.lemmas.Nat.{pow_pos}
+use Rattle.std.proofs.lemmas.Nat.{pow_pos, le-div}
 use Rattle.std.proofs.Math.Nat.{mul-le-mul_left, mul-le-mul_right, add-mod_right, mod-add-div', div-mul-le_self}
-use Rattle.std.proofs.lemmas.Nat.{le-div}
 use Rattle.dn_view.proofs.Pages.{power_below}
 use Rattle.dn_tables.specs.declared.placement.Hop.{Hop}
 use Rattle.dn_tables.specs.Placement.{Place}
-use Rattle.dn_place.specs.Sought.{IsFormed, IsSearchReady, Sought}
+use Rattle.dn_place.specs.Sought.{HasUnitBounds, IsSearchReady, Sought}
 use Rattle.dn_net.specs.declared.node.Unit.{Unit as UnitPart}
 use Rattle.dn_placement.specs.Keys.{Begins}
 use Rattle.dn_placement.specs.Order.{IsAt, hop_page, hops_key, key_of}
@@ -17,9 +16,10 @@ use Rattle.dn_placement.proofs.Hops.{numbers}
 use Rattle.dn_placement.proofs.Keys.{append_none, cancel, one_more}
 use Rattle.dn_flat.specs.Crowds.{IsCrowded}
 use Rattle.dn_place.specs.Slots.{AreBarred, AreShut, AreUsable, AreUseless, HasCrowd, IsUseless, slot_of}
-use Rattle.dn_place.specs.Rows.{AreToward, GivesOnly, wanted_name}
-use Rattle.dn_place.specs.Candidates.{IsUnder, NoneUnder, NoneBelow, IsFirstOrNone, IsChosen, key_of_hops, to_unit, to_port, to_output}
-use Rattle.dn_place.proofs.Levels.{begun, found_first, leapt, next_one, none_left}
+use Rattle.dn_place.specs.Rows.{AreToward, wanted_name}
+use Rattle.dn_place.proofs.Stretches.{GivesOnly}
+use Rattle.dn_place.specs.Candidates.{IsUnder, NoneUnder, IsFirstOrNone, IsChosen, key_of_hops, to_unit, to_port, to_output}
+use Rattle.dn_place.proofs.Levels.{NoneBelow, begun, found_first, leapt, next_one, none_left}
 use Rattle.dn_place.proofs.Openings.{Opened, opened}
 use Rattle.dn_place.proofs.Wholes.{whole}
 use Rattle.dn_place.proofs.Meetings.{meets_gives}
@@ -62,7 +62,7 @@ pub record JoinsIn (s : Sought) (u : UnitPart) (hop : Hop) (nearer : List Hop) :
   pub meets : Meets s.net s.request node hop.y nearer
 
 pub joins_in : (s : Sought) (u : UnitPart) (hop : Hop) (nearer : List Hop) → unit_at s.net hop.unit ≡ Some u → Joins s.net s.slots s.request hop nearer → JoinsIn s u hop nearer
-joins_in s u hop nearer e w = subst (λ (v : UnitPart). JoinsIn s v hop nearer) same (record { node = w.node; is_port = w.is_port; agree = w.agree; within = w.within; reached = w.reached; usable = λ q a b. usable_is s.slots w.unit hop q (w.usable q a b); meets = w.meets })
+joins_in s u hop nearer e w = subst (λ (v : UnitPart). JoinsIn s v hop nearer) same (record { node = w.fits.node; is_port = w.fits.is_port; agree = w.fits.agree; within = w.fits.within; reached = w.fits.reached; usable = λ q a b. usable_is s.slots w.unit hop q (w.usable q a b); meets = w.meets })
   where
     some : (a b : UnitPart) → Some a ≡ Some b → a ≡ b
     some a b p = cc
@@ -178,7 +178,7 @@ port_stretches s count hops unit port node u rows ready f l e p = λ q j v. go q
     go : (q : Place) (j : ℕ) → Output s u hops q unit port j (to_output count hops unit port j) → GivesOnly rows (wanted_name s.request hops) s.request.size j
     go q j w =
         let k = w.through.joins in
-        let low : j + s.request.size ≤ top + 1 = omega (arith, k.reached, power_below u.reach (ready.formed unit u e).reach) in
+        let low : j + s.request.size ≤ top + 1 = omega (arith, k.reached, power_below u.reach (ready.bounds unit u e).reach) in
         meets_gives s node j hops rows f ready.one_stop low (subst (λ (n : ℕ). Meets s.net s.request n j hops) (some k.node node (sym k.is_port ∙ p)) k.meets)
 
 pub port_goes : (s : Sought) (count : ℕ) (hops : List Hop) (unit port : ℕ) (u : UnitPart) → length hops < count → unit_at s.net unit ≡ Some u → (q : Place) → IsUnder s (to_port count hops unit port) q → (j : ℕ) × Begins (to_port count hops unit port ++ j ∷ []) (key_of s.net q)
@@ -235,7 +235,7 @@ behind count hops unit port y x = one_more (to_port count hops unit port) y (x �
 
 pub chosen_on : (s : Sought) (count : ℕ) (hops : List Hop) (unit port y x : ℕ) (u : UnitPart) → IsChosen s count hops → length hops < count → unit_at s.net unit ≡ Some u → port < length u.ports → x % 2 ^ u.page ≡ y % 2 ^ u.page → x + s.request.size ≤ u.slots * 2 ^ u.page → y + s.request.size ≤ 2 ^ u.reach → AreUsable s.slots unit (x / 2 ^ u.page) ((x + s.request.size - 1) / 2 ^ u.page) port (y / 2 ^ u.page) → ((n : ℕ) → slice_get u.ports port ≡ Some n → Meets s.net s.request n y hops) → IsChosen s count (record { unit = unit; port = port; x = x; y = y } ∷ hops)
 chosen_on s count hops unit port y x u chosen l e p agree within reached usable meets = record {
-  leads = (record { unit = u; is_unit = e; node = get_or u.ports port 0; is_port = there; agree = agree; within = within; reached = reached; usable = λ q a b. is_usable s.slots u (record { unit = unit; port = port; x = x; y = y }) q (usable q a b); meets = meets (get_or u.ports port 0) there }, chosen.leads);
+  leads = (record { unit = u; is_unit = e; fits = record { node = get_or u.ports port 0; is_port = there; agree = agree; within = within; reached = reached }; usable = λ q a b. is_usable s.slots u (record { unit = unit; port = port; x = x; y = y }) q (usable q a b); meets = meets (get_or u.ports port 0) there }, chosen.leads);
   most = chosen.most;
   within = omega arith;
 }
@@ -243,7 +243,7 @@ chosen_on s count hops unit port y x u chosen l e p agree within reached usable 
     there : slice_get u.ports port ≡ Some (get_or u.ports port 0)
     there = slice_get-get_or u.ports port 0 p
 
-pub node_there : (net : List NodeDecl) (port : ℕ) (u : UnitPart) → IsFormed net u → port < length u.ports → get_or u.ports port 0 < length net
+pub node_there : (net : List NodeDecl) (port : ℕ) (u : UnitPart) → HasUnitBounds net u → port < length u.ports → get_or u.ports port 0 < length net
 node_there net port u f p = f.there port (get_or u.ports port 0) (slice_get-get_or u.ports port 0 p)
 
 -- the answer for a chosen hop is the answer for its input

@@ -8,7 +8,7 @@ use Rattle.dn_net.specs.declared.node.Unit.{Unit as UnitPart}
 use Rattle.dn_net.specs.Decode.{unit_at, unit_of}
 use Rattle.dn_tables.specs.declared.placement.Hop.{Hop}
 use Rattle.dn_placement.specs.Order.{hop_page, page_by}
-use Rattle.dn_place.specs.Sought.{AreFormed, slot_count}
+use Rattle.dn_place.specs.Sought.{HaveUnitBounds, slot_count}
 
 -- a unit's node is there
 pub unit_there : (net : List NodeDecl) (n : ℕ) (u : UnitPart) → unit_at net n ≡ Some u → n < length net
@@ -32,7 +32,7 @@ last_within x size slots page f s = (div-lt_iff_lt-mul {k = 2 ^ page} {x = x + s
 pub quotient_within : (y p : ℕ) → y / p ≤ y
 quotient_within y p = div-le_self y p
 
-pub page_bound : (net : List NodeDecl) (h : Hop) → AreFormed net → hop_page net (Some h) ≤ 40
+pub page_bound : (net : List NodeDecl) (h : Hop) → HaveUnitBounds net → hop_page net (Some h) ≤ 40
 page_bound net h f = go (unit_at net h.unit) refl
   where
     go : (o : Option UnitPart) → unit_at net h.unit ≡ o → page_by o ≤ 40

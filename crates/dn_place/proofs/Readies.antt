@@ -1,5 +1,5 @@
 -- What the search asks holds of a request on a legal net.
-use Rattle.std.proofs.Common.{◌≡◌, ℕ, zero, suc, ◌+◌, ◌<◌, ◌≤◌, ◌⊎◌, inl, inr, Bool, true, false, if◌then◌else◌, ◌&&◌, nat_le, nat_lt, List, [], ◌∷◌, map, length, slice_get, Option, Some, None, is_some, IsTrue, refl, sym, ap, subst, arith, leb-true, ltb-true, lt-ltb}
+use Rattle.std.proofs.Common.{◌≡◌, ℕ, zero, suc, ◌+◌, ◌<◌, ◌≤◌, ◌⊎◌, inl, inr, Bool, true, false, if◌then◌else◌, ◌&&◌, nat_le, nat_lt, List, [], ◌∷◌, map, length, slice_get, Option, Some, None, is_some, IsTrue, refl, sym, ap, subst, arith, ltb-true, lt-ltb}
 use Rattle.std.specs.List.{list_all}
 use Rattle.std.proofs.lemmas.Bool.{and_parts}
 use Rattle.dn_base.proofs.Lists.{list_all-at}
@@ -9,7 +9,6 @@ use Rattle.dn_net.specs.declared.node.Unit.{Unit as UnitPart}
 use Rattle.dn_net.specs.Chain.{Member, IsChain}
 use Rattle.dn_net.specs.Decode.{top, is_agent_at, is_formed, is_stop, is_stop_at, over_within, ports_within, refers_within, sent_names, unit_at, unit_of, Step}
 use Rattle.dn_net.specs.Legal.{IsLegalNet}
-use Rattle.dn_net.specs.Units.{has_plain_shape}
 use Rattle.dn_net.proofs.Plain.{plain_at}
 use Rattle.dn_net.proofs.Steps.{node_at, unit_is_bare}
 use Rattle.dn_net.proofs.Stops.{agent_there}
@@ -21,30 +20,9 @@ use Rattle.dn_tables.specs.declared.table.NodeTable.{NodeTable}
 use Rattle.dn_tables.specs.Set.{FitsNet, has_slot, has_slot_by, unit_in, units_of}
 use Rattle.dn_placement.specs.declared.request.Request.{Request}
 use Rattle.dn_placement.specs.Slots.{Slots}
+use Rattle.dn_book.proofs.Hops.{has_bounds}
 use Rattle.dn_view.proofs.Alone.{reached_alone}
-use Rattle.dn_place.specs.Sought.{AreFormed, IsSearchReady, ReachOneStop, slot_count}
-
--- the bounds of a unit's shape
-pub record Bounds (page slots reach ports : ℕ) : Type 0 where
-  pub page_few : page ≤ 40
-  pub slots_few : slots ≤ 262144
-  pub reach_few : reach ≤ 56
-  pub ports_few : ports ≤ 8
-
-bounds : (u : UnitPart) → IsTrue (has_plain_shape u) → Bounds u.page u.slots u.reach (length u.ports)
-bounds u h =
-    let a = and_parts (nat_le u.page 40 && nat_le 1 u.slots && nat_le u.slots 262144 && nat_le u.page u.reach && nat_le u.reach 56 && nat_le 1 (length u.ports)) (nat_le (length u.ports) 8) h in
-    let b = and_parts (nat_le u.page 40 && nat_le 1 u.slots && nat_le u.slots 262144 && nat_le u.page u.reach && nat_le u.reach 56) (nat_le 1 (length u.ports)) a.0 in
-    let c = and_parts (nat_le u.page 40 && nat_le 1 u.slots && nat_le u.slots 262144 && nat_le u.page u.reach) (nat_le u.reach 56) b.0 in
-    let d = and_parts (nat_le u.page 40 && nat_le 1 u.slots && nat_le u.slots 262144) (nat_le u.page u.reach) c.0 in
-    let e = and_parts (nat_le u.page 40 && nat_le 1 u.slots) (nat_le u.slots 262144) d.0 in
-    let f = and_parts (nat_le u.page 40) (nat_le 1 u.slots) e.0 in
-    record {
-      page_few = leb-true u.page 40 f.0;
-      slots_few = leb-true u.slots 262144 e.1;
-      reach_few = leb-true u.reach 56 c.1;
-      ports_few = leb-true (length u.ports) 8 a.1;
-    }
+use Rattle.dn_place.specs.Sought.{HaveUnitBounds, IsSearchReady, ReachOneStop, slot_count}
 
 -- the ports of a unit are nodes that are there
 ports_there : (net : List NodeDecl) (node : ℕ) (u : UnitPart) → IsTrue (list_all (refers_within (length net)) net) → unit_at net node ≡ Some u → (port p : ℕ) → slice_get u.ports port ≡ Some p → p < length net
@@ -60,10 +38,10 @@ ports_there net node u closed is port p at = go (slice_get net node) refl is
     go None e f = cc
     go (Some d) e f = within d (list_all-at (refers_within (length net)) net node d closed e) f
 
-pub formed : (net : List NodeDecl) → IsLegalNet net → AreFormed net
-formed net legal = λ node u is.
-    let b = bounds u (plain_at net node u legal.shapes is) in
-    record { page = b.page_few; few = b.slots_few; reach = b.reach_few; ports = b.ports_few; there = ports_there net node u legal.nodes.closed is }
+pub unit_bounds : (net : List NodeDecl) → IsLegalNet net → HaveUnitBounds net
+unit_bounds net legal = λ node u is.
+    let b = has_bounds u (plain_at net node u legal.shapes is) in
+    record { page = b.page; few = b.slots; reach = b.reach; ports = b.ports; there = ports_there net node u legal.nodes.closed is }
 
 -- no slot holds a record
 abbrev empty : Held
@@ -109,7 +87,7 @@ one_stop net legal x y z a b = go (legal_one_way_to_unit net empty legal x y z a
 
 pub ready : (net : List NodeDecl) (slots : Slots) (rq : Request) (at : Option ℕ) → IsLegalNet net → AreHeld net slots.held → ((node slot : ℕ) → IsTrue (slots.is_free node slot) → slots.held node slot ≡ None) → IsTrue (are_rights rq.rights) → IsTrue (is_agent_at (slice_get net rq.agent)) → 1 ≤ rq.size → rq.base + rq.size ≤ top + 1 → IsSearchReady (record { net = net; slots = slots; request = rq; at = at })
 ready net slots rq at legal held empty rights agent some fits = record {
-  formed = formed net legal;
+  bounds = unit_bounds net legal;
   one_stop = one_stop net legal;
   alone = λ q i t w is l st there st'. reached_alone net slots rq q legal held rights empty agent is.is_placement is.admissible i l t w st there st';
   few = legal.is_net.few;

@@ -1,5 +1,5 @@
 -- No placement stands at an address that leads to no slot which a hop may take.
-use Rattle.std.proofs.Common.{◌≡◌, ℕ, ◌+◌, ◌-◌, ◌*◌, ◌/◌, ◌^◌, ◌<◌, ◌≤◌, false, List, [], ◌∷◌, length, Option, Some, None, IsTrue, refl, sym, ap, ◌∙◌, subst, arith}
+use Rattle.std.proofs.Common.{◌≡◌, ℕ, ◌+◌, ◌-◌, ◌/◌, ◌^◌, ◌<◌, ◌≤◌, List, [], ◌∷◌, length, Option, Some, None, IsTrue, refl, ap, ◌∙◌, subst, arith}
 use Rattle.std.proofs.lemmas.Bool.{false≢true}
 use Rattle.std.proofs.lemmas.Nat.{le-div, pow_pos}
 use Rattle.std.proofs.Math.Nat.{div-lt_iff_lt-mul, div-mul-le_self}
@@ -7,24 +7,22 @@ use Rattle.dn_interval.specs.declared.row.End.{End}
 use Rattle.dn_net.specs.declared.node.NodeDecl.{NodeDecl}
 use Rattle.dn_net.specs.Decode.{top, StopsAt}
 use Rattle.dn_tables.specs.declared.placement.Hop.{Hop}
-use Rattle.dn_tables.specs.Placement.{Place}
 use Rattle.dn_placement.specs.declared.request.Request.{Request}
-use Rattle.dn_placement.specs.Order.{IsAt, IsSuited, NoneSuited}
+use Rattle.dn_placement.specs.Order.{IsAt, NoneSuited}
 use Rattle.dn_placement.specs.Placement.{Joins, Leads, Meets, name_on}
 use Rattle.dn_placement.specs.Slots.{Slots}
-use Rattle.dn_place.specs.declared.slot.Slot.{Slot}
-use Rattle.dn_place.specs.declared.slot.Slot.TheVariants.{Barred}
+use Rattle.dn_place.specs.declared.slot_state.SlotState.{SlotState}
 use Rattle.dn_place.specs.Marks.{IsEntry}
-use Rattle.dn_place.specs.Slots.{IsBarred, is_usable_slot, slot_of}
+use Rattle.dn_place.specs.Slots.{IsBarred, is_usable_slot}
 use Rattle.dn_place.proofs.Usable.{usable_is}
 
 -- a hop finds the slot of its input usable
 open_slot : (net : List NodeDecl) (slots : Slots) (rq : Request) (hop : Hop) (nearer : List Hop) → 1 ≤ rq.size → Joins net slots rq hop nearer → IsBarred net slots (record { node = hop.unit; base = hop.x }) → ⊥
 open_slot net slots rq hop nearer some j barred =
-    false≢true (subst (λ (f : Slot). IsTrue (is_usable_slot hop.port (hop.y / 2 ^ j.unit.page + (hop.x / 2 ^ j.unit.page - hop.x / 2 ^ j.unit.page)) f)) (barred j.unit j.is_unit low) (usable_is slots j.unit hop (hop.x / 2 ^ j.unit.page) (j.usable (hop.x / 2 ^ j.unit.page) (omega arith) last)))
+    false≢true (subst (λ (f : SlotState). IsTrue (is_usable_slot hop.port (hop.y / 2 ^ j.unit.page + (hop.x / 2 ^ j.unit.page - hop.x / 2 ^ j.unit.page)) f)) (barred j.unit j.is_unit low) (usable_is slots j.unit hop (hop.x / 2 ^ j.unit.page) (j.usable (hop.x / 2 ^ j.unit.page) (omega arith) last)))
   where
     low : hop.x / 2 ^ j.unit.page < j.unit.slots
-    low = (div-lt_iff_lt-mul {k = 2 ^ j.unit.page} {x = hop.x} {y = j.unit.slots} (pow_pos j.unit.page)).1 (omega (arith, j.within, some))
+    low = (div-lt_iff_lt-mul {k = 2 ^ j.unit.page} {x = hop.x} {y = j.unit.slots} (pow_pos j.unit.page)).1 (omega (arith, j.fits.within, some))
 
     last : hop.x / 2 ^ j.unit.page ≤ (hop.x + rq.size - 1) / 2 ^ j.unit.page
     last = le-div (hop.x / 2 ^ j.unit.page) (hop.x + rq.size - 1) (2 ^ j.unit.page) (pow_pos j.unit.page) (omega (arith, div-mul-le_self hop.x (2 ^ j.unit.page), some))

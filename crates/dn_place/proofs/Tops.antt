@@ -3,8 +3,8 @@ use Rattle.std.proofs.Common.{◌≡◌, ℕ, ◌-◌, ◌≤◌, List, [], ◌�
 use Rattle.dn_tables.specs.Placement.{Place}
 use Rattle.dn_place.specs.Sought.{Sought}
 use Rattle.dn_placement.specs.Order.{IsSuited, hop_page, hops_key, key_of}
-use Rattle.dn_place.specs.Candidates.{IsUnder, NoneUnder, NoneBelow, IsChosen}
-use Rattle.dn_place.proofs.Levels.{begun, leapt, none_left}
+use Rattle.dn_place.specs.Candidates.{IsUnder, NoneUnder, IsChosen}
+use Rattle.dn_place.proofs.Levels.{NoneBelow, begun, leapt, none_left}
 
 -- placements of so many hops
 

@@ -9,10 +9,10 @@ use Rattle.dn_net.specs.Decode.{unit_at}
 use Rattle.dn_tables.specs.Placement.{Place}
 use Rattle.dn_tables.specs.declared.placement.Hop.{Hop}
 use Rattle.dn_placement.specs.Keys.{Begins}
-use Rattle.dn_place.specs.Candidates.{IsFirstUnder, IsUnder, NoneBelow, NoneUnder, key_of_hops, to_unit}
+use Rattle.dn_place.specs.Candidates.{IsFirstUnder, IsUnder, NoneUnder, key_of_hops, to_unit}
+use Rattle.dn_place.proofs.Levels.{NoneBelow, begun, found_first, leapt, next_one, none_left}
 use Rattle.dn_place.specs.Marks.{AreUnitsFrom}
 use Rattle.dn_place.specs.Sought.{Sought}
-use Rattle.dn_place.proofs.Levels.{begun, found_first, leapt, next_one, none_left}
 use Rattle.dn_place.proofs.Nexts.{no_unit, unit_next}
 use Rattle.dn_place.proofs.Pages.{unit_there}
 

@@ -1,6 +1,6 @@
 -- What a hop meets in a slot, and what a placement asks of it.
-use Rattle.std.proofs.Common.{◌≡◌, ℕ, ◌+◌, ◌-◌, ◌*◌, ◌/◌, ◌^◌, ◌<◌, ◌≤◌, ◌⊎◌, inl, inr, arith, Bool, true, false, not, if◌then◌else◌, ◌&&◌, ◌==◌, nat_eq, Option, Some, None, IsTrue, refl, sym, ap, ◌∙◌, subst, eq-eqb, eqb-true}
-use Rattle.std.proofs.lemmas.Bool.{cases_lt, false≢true, and_parts, and_from}
+use Rattle.std.proofs.Common.{◌≡◌, ℕ, ◌+◌, ◌-◌, ◌/◌, ◌^◌, ◌≤◌, arith, Bool, true, false, not, if◌then◌else◌, ◌&&◌, ◌==◌, nat_eq, Option, Some, None, IsTrue, refl, sym, ap, ◌∙◌, subst, eq-eqb, eqb-true}
+use Rattle.std.proofs.lemmas.Bool.{false≢true, and_parts, and_from}
 use Rattle.std.proofs.lemmas.Nat.{le-div, pow_pos}
 use Rattle.std.proofs.Math.Nat.{div-mul-le_self}
 use Rattle.dn_net.specs.declared.node.Unit.{Unit as UnitPart}
@@ -10,8 +10,8 @@ use Rattle.dn_tables.specs.declared.placement.Hop.{Hop}
 use Rattle.dn_placement.specs.Placement.{IsUsable, is_free, is_shared}
 use Rattle.dn_placement.specs.Records.{slot_record}
 use Rattle.dn_placement.specs.Slots.{Slots}
-use Rattle.dn_place.specs.declared.slot.Slot.{Slot}
-use Rattle.dn_place.specs.declared.slot.Slot.TheVariants.{Free, Shared, Barred}
+use Rattle.dn_place.specs.declared.slot_state.SlotState.{SlotState}
+use Rattle.dn_place.specs.declared.slot_state.SlotState.TheVariants.{Free, Shared, Barred}
 use Rattle.dn_place.specs.Slots.{AreFreeTo, is_free_slot, is_usable_slot, shared_by, slot_of}
 
 -- a slot that a hop may take is usable
@@ -34,7 +34,7 @@ usable_is slots u hop slot (is_shared h o) = go (slots.is_free hop.unit slot)
 
     go : (b : Bool) → IsTrue (is_usable_slot hop.port page (if b then Free else shared_by (slots.has_owner hop.unit slot) (slots.held hop.unit slot)))
     go true = refl
-    go false = subst (λ (f : Slot). IsTrue (is_usable_slot hop.port page f)) (sym shared) same
+    go false = subst (λ (f : SlotState). IsTrue (is_usable_slot hop.port page f)) (sym shared) same
 
 -- and a slot that is usable may be taken
 pub is_usable : (slots : Slots) (u : UnitPart) (hop : Hop) (slot : ℕ) → IsTrue (is_usable_slot hop.port (hop.y / 2 ^ u.page + (slot - hop.x / 2 ^ u.page)) (slot_of slots hop.unit slot)) → IsUsable slots u hop slot
@@ -79,7 +79,7 @@ free_is slots unit slot = go (slots.is_free unit slot) refl
     go false e = shared (slots.has_owner unit slot) (slots.held unit slot)
 
 -- a free slot is usable for each page
-pub free_usable : (port page : ℕ) (f : Slot) → IsTrue (is_free_slot f) → IsTrue (is_usable_slot port page f)
+pub free_usable : (port page : ℕ) (f : SlotState) → IsTrue (is_free_slot f) → IsTrue (is_usable_slot port page f)
 free_usable port page Free t = refl
 free_usable port page (Shared r) t = absurd (false≢true t)
 free_usable port page Barred t = absurd (false≢true t)

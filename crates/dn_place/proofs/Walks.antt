@@ -9,10 +9,10 @@ use Rattle.dn_tables.specs.Placement.{Place}
 use Rattle.dn_place.specs.Sought.{Sought}
 use Rattle.dn_placement.specs.Keys.{Begins}
 use Rattle.dn_placement.specs.Order.{key_of}
-use Rattle.dn_place.specs.Rows.{InRow, GivesOnly}
-use Rattle.dn_place.specs.Candidates.{IsUnder, NoneUnder, NoneBelow, IsFirstUnder}
-use Rattle.dn_place.proofs.Levels.{begun, leapt, found_first, none_left}
-use Rattle.dn_place.proofs.Stretches.{in_head}
+use Rattle.dn_place.specs.Rows.{InRow}
+use Rattle.dn_place.proofs.Stretches.{GivesOnly, in_head}
+use Rattle.dn_place.specs.Candidates.{IsUnder, NoneUnder, IsFirstUnder}
+use Rattle.dn_place.proofs.Levels.{NoneBelow, begun, leapt, found_first, none_left}
 
 -- how far the walk has come: no placement goes on with a number before the rest of the rows
 pub record Walked (s : Sought) (front : List ℕ) (rows rest : List Row) : Type 0 where

@@ -16,8 +16,8 @@ use Rattle.dn_placement.specs.Records.{hop_record, hop_rights, hops_records, joi
 use Rattle.dn_placement.proofs.Hops.{same_hops}
 use Rattle.dn_placement.proofs.Keys.{cancel, one_more, not_itself}
 use Rattle.dn_placement.proofs.Order.{same_placement}
-use Rattle.dn_place.specs.Candidates.{CanOwn, IsUnder, NoneUnder, NoneBelow, IsFirstUnder, IsChosen, PagesBelow, PagesFrom, key_of_hops, to_address, to_page}
-use Rattle.dn_place.proofs.Levels.{begun, leapt, found_first, none_left}
+use Rattle.dn_place.specs.Candidates.{CanOwn, IsUnder, NoneUnder, IsFirstUnder, IsChosen, PagesBelow, PagesFrom, key_of_hops, to_address, to_page}
+use Rattle.dn_place.proofs.Levels.{NoneBelow, begun, leapt, found_first, none_left}
 
 -- a placement of just these hops
 pub record Whole (s : Sought) (hops : List Hop) (q : Place) (given : List ℕ) : Type 0 where

@@ -17,10 +17,6 @@ pub record IsUnder (s : Sought) (front : List ℕ) (p : Place) : Type 0 where
 pub record NoneUnder (s : Sought) (front : List ℕ) : Type 0 where
   pub none : (q : Place) → IsUnder s front q → ⊥
 
--- there is none whose key goes on with a number below this one
-pub record NoneBelow (s : Sought) (front : List ℕ) (bound : ℕ) : Type 0 where
-  pub none : (q : Place) (j : ℕ) → j < bound → IsUnder s (front ++ j ∷ []) q → ⊥
-
 -- it is the first of them
 pub record IsFirstUnder (s : Sought) (front : List ℕ) (p : Place) : Type 0 where
   pub is : IsUnder s front p

@@ -1,8 +1,7 @@
 pub mod Candidates
-pub mod Grounds
 pub mod Hops
 pub mod Marks
-pub mod Platforms
+pub mod Problems
 pub mod Reaches
 pub mod Requests
 pub mod Rows

@@ -9,29 +9,29 @@ use Rattle.dn_kind.specs.declared.unit_kind.Record.{Record}
 use Rattle.dn_kind.specs.Rights.{both_rights}
 use Rattle.dn_tables.specs.declared.placement.Hop.{Hop}
 use Rattle.dn_placement.specs.Slots.{Slots}
-use Rattle.dn_place.specs.declared.slot.Slot.{Slot}
-use Rattle.dn_place.specs.declared.slot.Slot.TheVariants.{Free, Shared, Barred}
+use Rattle.dn_place.specs.declared.slot_state.SlotState.{SlotState}
+use Rattle.dn_place.specs.declared.slot_state.SlotState.TheVariants.{Free, Shared, Barred}
 use Rattle.dn_place.specs.Sought.{Sought}
 
 -- a slot that is not free: its record may be shared where it has both rights and the slot no owner
-abbrev pub shared_by : Bool → Option Record → Slot
+abbrev pub shared_by : Bool → Option Record → SlotState
 shared_by owned None = Barred
 shared_by owned (Some r) = if not owned && (r.rights.0 == both_rights.0) then Shared r else Barred
 
 -- what a hop meets in a slot
-abbrev pub slot_of : Slots → ℕ → ℕ → Slot
+abbrev pub slot_of : Slots → ℕ → ℕ → SlotState
 slot_of slots unit slot =
     if slots.is_free unit slot then Free
     else shared_by (slots.has_owner unit slot) (slots.held unit slot)
 
 -- the slot is free
-abbrev pub is_free_slot : Slot → Bool
+abbrev pub is_free_slot : SlotState → Bool
 is_free_slot Free = true
 is_free_slot (Shared r) = false
 is_free_slot Barred = false
 
 -- the slot is free, or has this record and may be shared
-abbrev pub is_usable_slot : ℕ → ℕ → Slot → Bool
+abbrev pub is_usable_slot : ℕ → ℕ → SlotState → Bool
 is_usable_slot port page Free = true
 is_usable_slot port page (Shared r) = nat_eq r.port port && nat_eq r.page page
 is_usable_slot port page Barred = false
@@ -58,7 +58,7 @@ AreFreeTo slots unit first to = (slot : ℕ) → first ≤ slot → slot < to �
 
 -- no hop that begins in a slot from a first one on, and before another, can take a slot for the pages
 -- of a port that it would meet there
-abbrev pub AreShut : Slot → ℕ → ℕ → ℕ → ℕ → ℕ → Type 0
+abbrev pub AreShut : SlotState → ℕ → ℕ → ℕ → ℕ → ℕ → Type 0
 AreShut found slot first to port page = (q : ℕ) → first ≤ q → q < to →
     IsTrue (is_usable_slot port (page + (slot - q)) found) → ⊥
 

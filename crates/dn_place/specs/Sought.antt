@@ -19,7 +19,7 @@ pub record Sought : Type 0 where
   pub at : Option ℕ
 
 -- the bounds of a unit: of its page, slots, reach and ports, and its ports are nodes that are there
-pub record IsFormed (net : List NodeDecl) (u : UnitPart) : Type 0 where
+pub record HasUnitBounds (net : List NodeDecl) (u : UnitPart) : Type 0 where
   pub page : u.page ≤ 40
   pub few : u.slots ≤ 262144
   pub reach : u.reach ≤ 56
@@ -27,8 +27,8 @@ pub record IsFormed (net : List NodeDecl) (u : UnitPart) : Type 0 where
   pub there : (port node : ℕ) → slice_get u.ports port ≡ Some node → node < length net
 
 -- each unit keeps its bounds
-abbrev pub AreFormed : List NodeDecl → Type 0
-AreFormed net = (node : ℕ) (u : UnitPart) → unit_at net node ≡ Some u → IsFormed net u
+abbrev pub HaveUnitBounds : List NodeDecl → Type 0
+HaveUnitBounds net = (node : ℕ) (u : UnitPart) → unit_at net node ≡ Some u → HasUnitBounds net u
 
 -- a name reaches one stop at most
 abbrev pub ReachOneStop : List NodeDecl → Type 0
@@ -44,7 +44,7 @@ ReachAlone s = (q : Place) (i : ℕ) (t w : Name) → IsSuited s.net s.slots s.r
 
 -- what the search asks
 pub record IsSearchReady (s : Sought) : Type 0 where
-  pub formed : AreFormed s.net
+  pub bounds : HaveUnitBounds s.net
   pub one_stop : ReachOneStop s.net
   pub alone : ReachAlone s
   pub few : length s.net ≤ 1024

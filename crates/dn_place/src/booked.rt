@@ -1,19 +1,19 @@
 //! The first admissible placement beside the grants of a book.
 
-ghost use Rattle.std.specs.Prelude.{◌≡◌, map, slice_get, Some, None, IfOk, IfSome, IsTrue};
+ghost use Rattle.std.specs.Prelude.{◌≡◌, slice_get, Some, None, IfOk, IfSome, IsTrue};
 ghost use Rattle.dn_net.specs.Terms.{is_agent_at};
+ghost use Rattle.dn_kind.specs.Terms.{kinds_of};
 ghost use Rattle.dn_placement.specs.declared.request.Request.{Request};
 ghost use Rattle.dn_placement.specs.Terms.{IsFirst, NoneSuited};
 ghost use Rattle.dn_book.specs.Terms.{IsKept, slots_of};
 ghost use Rattle.dn_view.specs.Terms.{IsSystem};
 ghost use Rattle.dn_place.specs.Terms.{IsHopReach, IsRequest};
 
+use crate::OutOfMemory;
 use crate::entry::entry_of;
 use crate::first::first_from;
-use crate::ground::Ground;
-use crate::reach::{Reach, reach_of};
+use crate::reach::{ReachMarks, reach_of};
 use crate::tables::is_barred;
-use dn_base::OutOfMemory;
 use dn_book::book::Book;
 use dn_placement::request::Request;
 use dn_tables::placement::Placement;
@@ -30,15 +30,14 @@ pub fn first_in_book(
     request: &Request,
     at: Option<u64>,
 ) -> Result<Option<Placement>, OutOfMemory>
-    requires system { IsSystem (λ k. meaning (k.vtable, k.value)) system }
-    requires kept { IsKept system.net.now
-        (map (λ k. meaning (k.vtable, k.value)) system.kinds.now.list.items)
-        book.now.grants book.now.set }
-    requires request { IsRequest system.net.now request.now }
-    ensures first { IfOk result (λ found. IfSome found (λ p. IsFirst system.entry.net.now
-        (slots_of system.entry.net.now book.now.grants) request.now at p)) }
-    ensures none { IfOk result (λ found. found ≡ None → NoneSuited system.entry.net.now
-        (slots_of system.entry.net.now book.now.grants) request.now at) }
+    requires system { IsSystem meaning system }
+    requires kept { IsKept system.on.net.now
+        (kinds_of meaning system.on.kinds.now) book.now.grants book.now.set }
+    requires request { IsRequest system.on.net.now request.now }
+    ensures first { IfOk result (λ found. IfSome found (λ p. IsFirst system.entry.on.net.now
+        (slots_of system.entry.on.net.now book.now.grants) request.now at p)) }
+    ensures none { IfOk result (λ found. found ≡ None → NoneSuited system.entry.on.net.now
+        (slots_of system.entry.on.net.now book.now.grants) request.now at) }
 {
     let reach = reach_of(alloc, system, request.agent, at)?;
     first_in_book_from(alloc, book, system, request, &reach)
@@ -51,18 +50,17 @@ pub fn first_in_book_from(
     book: &Book,
     system: System,
     request: &Request,
-    reach: &Reach,
+    reach: &ReachMarks,
 ) -> Result<Option<Placement>, OutOfMemory>
-    requires system { IsSystem (λ k. meaning (k.vtable, k.value)) system }
-    requires kept { IsKept system.net.now
-        (map (λ k. meaning (k.vtable, k.value)) system.kinds.now.list.items)
-        book.now.grants book.now.set }
-    requires reach { IsHopReach system.net.now request.now.agent reach.now }
-    requires request { IsRequest system.net.now request.now }
-    ensures first { IfOk result (λ found. IfSome found (λ p. IsFirst system.entry.net.now
-        (slots_of system.entry.net.now book.now.grants) request.now reach.now.at p)) }
-    ensures none { IfOk result (λ found. found ≡ None → NoneSuited system.entry.net.now
-        (slots_of system.entry.net.now book.now.grants) request.now reach.now.at) }
+    requires system { IsSystem meaning system }
+    requires kept { IsKept system.on.net.now
+        (kinds_of meaning system.on.kinds.now) book.now.grants book.now.set }
+    requires reach { IsHopReach system.on.net.now request.now.agent reach.now }
+    requires request { IsRequest system.on.net.now request.now }
+    ensures first { IfOk result (λ found. IfSome found (λ p. IsFirst system.entry.on.net.now
+        (slots_of system.entry.on.net.now book.now.grants) request.now reach.now.at p)) }
+    ensures none { IfOk result (λ found. found ≡ None → NoneSuited system.entry.on.net.now
+        (slots_of system.entry.on.net.now book.now.grants) request.now reach.now.at) }
 {
     let tables = book.tables();
     tables.facts();
@@ -73,19 +71,14 @@ pub fn first_in_book_from(
 /// may take the slot of its stop. Where it is `true`, no request of the agent has an admissible placement
 /// there; `false` says nothing. It takes no memory.
 pub fn is_shut(book: &Book, system: System, agent: u16, at: u64) -> bool
-    requires system { IsSystem (λ k. meaning (k.vtable, k.value)) system }
-    requires kept { IsKept system.net.now
-        (map (λ k. meaning (k.vtable, k.value)) system.kinds.now.list.items)
-        book.now.grants book.now.set }
-    requires agent { IsTrue (is_agent_at (slice_get system.net.now agent)) }
-    ensures { IsTrue result → (rq : Request) → rq.agent ≡ agent → NoneSuited system.entry.net.now
-        (slots_of system.entry.net.now book.now.grants) rq (Some at) }
+    requires system { IsSystem meaning system }
+    requires kept { IsKept system.on.net.now
+        (kinds_of meaning system.on.kinds.now) book.now.grants book.now.set }
+    requires agent { IsTrue (is_agent_at (slice_get system.on.net.now agent)) }
+    ensures { IsTrue result → (rq : Request) → rq.agent ≡ agent → NoneSuited system.entry.on.net.now
+        (slots_of system.entry.on.net.now book.now.grants) rq (Some at) }
 {
-    let ground = Ground {
-        net: system.net,
-        flats: system.flats,
-    };
-    let Some(entry) = entry_of(ground, agent, Some(at)) else {
+    let Some(entry) = entry_of(system, agent, Some(at)) else {
         return true;
     };
     let tables = book.tables();

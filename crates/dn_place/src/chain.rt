@@ -3,12 +3,12 @@
 ghost use Rattle.std.specs.Prelude.{◌≡◌, ◌∷◌, ◌%◌, ◌*◌, ◌/◌, ◌^◌, ◌+◌, ◌-◌, ◌<◌, ◌≤◌, ℕ, false, Some, IfOk, IsTrue, length, slice_get};
 ghost use Rattle.dn_net.specs.Terms.{unit_at};
 ghost use Rattle.dn_placement.specs.Terms.{Meets};
-ghost use Rattle.dn_place.specs.Terms.{AreToward, AreUsable, IsFirstOrNone, IsSearchStage, hops_view, key_of_hops, to_output, to_port, to_unit};
+ghost use Rattle.dn_place.specs.Terms.{AreToward, AreUsable, IsDoor, IsFirstOrNone, IsOutput, IsSearchStage, hops_view, key_of_hops, to_output, to_port, to_unit};
 
 use crate::hops::Hops;
 use crate::inputs::next_try;
-use crate::quest::{Found, Quest, unit_of};
-use crate::reach::{Reach, can_enter, can_stand, entry_at};
+use crate::quest::{FoundPlacement, Quest, unit_of};
+use crate::reach::{ReachMarks, can_enter, can_stand, entry_at};
 use crate::rows::{is_clear, lent_rows, made_rows, output, wanted_name};
 use crate::slots::power;
 use crate::whole::by_agent;
@@ -19,21 +19,32 @@ use std::alloc::Global;
 
 /// How far the search has come.
 #[derive(Clone, Copy)]
-pub(crate) struct Stage<'a> {
+pub(crate) struct SearchStage<'a> {
     /// Where memory is taken.
     pub(crate) alloc: Global,
     /// Where hops can stand.
-    pub(crate) reach: &'a Reach,
+    pub(crate) reach: &'a ReachMarks,
     /// How many hops there are to be.
     pub(crate) count: u8,
     /// Those that are chosen.
     pub(crate) chosen: Hops,
 }
 
+/// A port of a unit, through which the next hop is to lead.
+#[derive(Clone, Copy)]
+pub(crate) struct Door<'a> {
+    /// The unit.
+    pub(crate) translator: &'a Unit,
+    /// Its number.
+    pub(crate) unit: u16,
+    /// The number of its port.
+    pub(crate) port: u8,
+}
+
 /// The first placement of so many hops that ends with the chosen ones.
 #[cycle(hops)]
-pub(crate) fn by_hops<Q: Quest>(quest: &Q, stage: Stage) -> Found
-    requires sound { Q.is_sound quest.now }
+pub(crate) fn by_hops<Q: Quest>(quest: &Q, stage: SearchStage) -> FoundPlacement
+    requires consistent { Q.is_consistent quest.now }
     requires stage { IsSearchStage (Q.sought quest.now) stage }
     requires some { 1 ≤ stage.count }
     ensures { IfOk result (λ found. IsFirstOrNone (Q.sought quest.now)
@@ -57,8 +68,8 @@ pub(crate) fn by_hops<Q: Quest>(quest: &Q, stage: Stage) -> Found
 
 /// The same with the next hop in a unit.
 #[cycle(hops)]
-fn by_unit<Q: Quest>(quest: &Q, stage: Stage, unit: u16) -> Found
-    requires sound { Q.is_sound quest.now }
+fn by_unit<Q: Quest>(quest: &Q, stage: SearchStage, unit: u16) -> FoundPlacement
+    requires consistent { Q.is_consistent quest.now }
     requires stage { IsSearchStage (Q.sought quest.now) stage }
     requires more { length (hops_view stage.chosen) < stage.count }
     ensures { IfOk result (λ found. IsFirstOrNone (Q.sought quest.now)
@@ -71,7 +82,12 @@ fn by_unit<Q: Quest>(quest: &Q, stage: Stage, unit: u16) -> Found
         return Ok(None);
     }
     for port in 0..translator.ports.as_slice().len() as u8 {
-        if let Some(placement) = by_port(quest, stage, translator, unit, port)? {
+        let door = Door {
+            translator,
+            unit,
+            port,
+        };
+        if let Some(placement) = by_port(quest, stage, door)? {
             return Ok(Some(placement));
         }
     }
@@ -80,54 +96,43 @@ fn by_unit<Q: Quest>(quest: &Q, stage: Stage, unit: u16) -> Found
 
 /// The same through a port, by the rows of its node that give what the hops want.
 #[cycle(hops)]
-fn by_port<Q: Quest>(quest: &Q, stage: Stage, translator: &Unit, unit: u16, port: u8) -> Found
-    requires sound { Q.is_sound quest.now }
-    requires stage { IsSearchStage (Q.sought quest.now) stage }
-    requires more { length (hops_view stage.chosen) < stage.count }
-    requires unit { unit_at (Q.sought quest.now).net unit ≡ Some translator.now }
-    requires port { port < length translator.now.ports }
+fn by_port<Q: Quest>(quest: &Q, stage: SearchStage, door: Door) -> FoundPlacement
+    requires consistent { Q.is_consistent quest.now }
+    requires door { IsDoor (Q.sought quest.now) stage door }
     ensures { IfOk result (λ found. IsFirstOrNone (Q.sought quest.now)
-        (to_port stage.entry.count (hops_view stage.entry.chosen) unit port) found) }
+        (to_port stage.entry.count (hops_view stage.entry.chosen)
+        door.entry.unit door.entry.port) found) }
 {
-    let node = translator.ports.as_slice()[usize::from(port)];
+    let node = door.translator.ports.as_slice()[usize::from(door.port)];
     match lent_rows(quest.levels(node), stage.chosen) {
-        Some(rows) => by_rows(quest, stage, translator, unit, port, rows),
+        Some(rows) => by_rows(quest, stage, door, rows),
         None => {
             let rows = made_rows(stage.alloc, quest, node, stage.chosen)?;
-            by_rows(quest, stage, translator, unit, port, rows.rows())
+            by_rows(quest, stage, door, rows.rows())
         }
     }
 }
 
 /// The same by these rows: each that gives what the hops want fixes one output.
 #[cycle(hops)]
-fn by_rows<Q: Quest>(
-    quest: &Q,
-    stage: Stage,
-    translator: &Unit,
-    unit: u16,
-    port: u8,
-    rows: &[Row],
-) -> Found
-    requires sound { Q.is_sound quest.now }
-    requires stage { IsSearchStage (Q.sought quest.now) stage }
-    requires more { length (hops_view stage.chosen) < stage.count }
-    requires unit { unit_at (Q.sought quest.now).net unit ≡ Some translator.now }
-    requires port { port < length translator.now.ports }
-    requires toward { (node : ℕ) → slice_get translator.now.ports port ≡ Some node
+fn by_rows<Q: Quest>(quest: &Q, stage: SearchStage, door: Door, rows: &[Row]) -> FoundPlacement
+    requires consistent { Q.is_consistent quest.now }
+    requires door { IsDoor (Q.sought quest.now) stage door }
+    requires toward { (node : ℕ) → slice_get door.translator.now.ports door.port ≡ Some node
         → AreToward (Q.sought quest.now).net (Q.sought quest.now).request
         (hops_view stage.chosen) node rows.now }
     ensures { IfOk result (λ found. IsFirstOrNone (Q.sought quest.now)
-        (to_port stage.entry.count (hops_view stage.entry.chosen) unit port) found) }
+        (to_port stage.entry.count (hops_view stage.entry.chosen)
+        door.entry.unit door.entry.port) found) }
 {
-    let node = translator.ports.as_slice()[usize::from(port)];
+    let node = door.translator.ports.as_slice()[usize::from(door.port)];
     let size = quest.request().size;
     let target = wanted_name(quest.request(), stage.chosen);
-    let end = power(translator.reach);
+    let end = power(door.translator.reach);
     'rows: for row in rows {
         if let Some(y) = output(row, target, size) {
             if y + size <= end && is_clear(quest, node, stage.chosen, y, size) {
-                if let Some(placement) = by_output(quest, stage, translator, unit, port, y)? {
+                if let Some(placement) = by_output(quest, stage, door, y)? {
                     return Ok(Some(placement));
                 }
             }
@@ -138,28 +143,16 @@ fn by_rows<Q: Quest>(
 
 /// The same with an output.
 #[cycle(hops)]
-fn by_output<Q: Quest>(
-    quest: &Q,
-    stage: Stage,
-    translator: &Unit,
-    unit: u16,
-    port: u8,
-    y: u64,
-) -> Found
-    requires sound { Q.is_sound quest.now }
-    requires stage { IsSearchStage (Q.sought quest.now) stage }
-    requires more { length (hops_view stage.chosen) < stage.count }
-    requires unit { unit_at (Q.sought quest.now).net unit ≡ Some translator.now }
-    requires port { port < length translator.now.ports }
-    requires reached { y + (Q.sought quest.now).request.size ≤ 2 ^ translator.now.reach }
-    requires meets { (n : ℕ) → slice_get translator.now.ports port ≡ Some n →
-        Meets (Q.sought quest.now).net (Q.sought quest.now).request n y (hops_view stage.chosen) }
+fn by_output<Q: Quest>(quest: &Q, stage: SearchStage, door: Door, y: u64) -> FoundPlacement
+    requires consistent { Q.is_consistent quest.now }
+    requires output { IsOutput (Q.sought quest.now) stage door y }
     ensures { IfOk result (λ found. IsFirstOrNone (Q.sought quest.now)
-        (to_output stage.entry.count (hops_view stage.entry.chosen) unit port y) found) }
+        (to_output stage.entry.count (hops_view stage.entry.chosen)
+        door.entry.unit door.entry.port y) found) }
 {
     match entry_at(stage.reach, stage.count - stage.chosen.count()) {
-        Some(entry) => by_entry(quest, stage, translator, unit, port, y, entry),
-        None => by_inputs(quest, stage, translator, unit, port, y),
+        Some(entry) => by_entry(quest, stage, door, y, entry),
+        None => by_inputs(quest, stage, door, y),
     }
 }
 
@@ -167,73 +160,64 @@ fn by_output<Q: Quest>(
 #[cycle(hops)]
 fn by_entry<Q: Quest>(
     quest: &Q,
-    stage: Stage,
-    translator: &Unit,
-    unit: u16,
-    port: u8,
+    stage: SearchStage,
+    door: Door,
     y: u64,
     entry: End,
-) -> Found
-    requires sound { Q.is_sound quest.now }
-    requires stage { IsSearchStage (Q.sought quest.now) stage }
-    requires more { length (hops_view stage.chosen) < stage.count }
-    requires unit { unit_at (Q.sought quest.now).net unit ≡ Some translator.now }
-    requires port { port < length translator.now.ports }
-    requires reached { y + (Q.sought quest.now).request.size ≤ 2 ^ translator.now.reach }
-    requires meets { (n : ℕ) → slice_get translator.now.ports port ≡ Some n →
-        Meets (Q.sought quest.now).net (Q.sought quest.now).request n y (hops_view stage.chosen) }
+) -> FoundPlacement
+    requires consistent { Q.is_consistent quest.now }
+    requires output { IsOutput (Q.sought quest.now) stage door y }
     requires last { stage.count ≡ length (hops_view stage.chosen) + 1 }
     requires entry { stage.reach.now.entry ≡ Some entry }
     ensures { IfOk result (λ found. IsFirstOrNone (Q.sought quest.now)
-        (to_output stage.entry.count (hops_view stage.entry.chosen) unit port y) found) }
+        (to_output stage.entry.count (hops_view stage.entry.chosen)
+        door.entry.unit door.entry.port y) found) }
 {
     let x = entry.base;
-    if !can_meet(translator, quest.request().size, x, y) {
+    if !can_meet(door.translator, quest.request().size, x, y) {
         return Ok(None);
     }
-    let hop = Hop { unit, port, x, y };
-    let tried = next_try(quest, 1, translator, hop, 0);
+    let hop = Hop {
+        unit: door.unit,
+        port: door.port,
+        x,
+        y,
+    };
+    let tried = next_try(quest, 1, door.translator, hop, 0);
     let next = tried.x;
     if next != x {
         return Ok(None);
     }
-    by_input(quest, stage, translator, hop)
+    by_input(quest, stage, door.translator, hop)
 }
 
 /// The same with each input in turn: inputs agree with the output modulo the page.
 #[cycle(hops)]
-fn by_inputs<Q: Quest>(
-    quest: &Q,
-    stage: Stage,
-    translator: &Unit,
-    unit: u16,
-    port: u8,
-    y: u64,
-) -> Found
-    requires sound { Q.is_sound quest.now }
-    requires stage { IsSearchStage (Q.sought quest.now) stage }
-    requires more { length (hops_view stage.chosen) < stage.count }
-    requires unit { unit_at (Q.sought quest.now).net unit ≡ Some translator.now }
-    requires port { port < length translator.now.ports }
-    requires reached { y + (Q.sought quest.now).request.size ≤ 2 ^ translator.now.reach }
-    requires meets { (n : ℕ) → slice_get translator.now.ports port ≡ Some n →
-        Meets (Q.sought quest.now).net (Q.sought quest.now).request n y (hops_view stage.chosen) }
+fn by_inputs<Q: Quest>(quest: &Q, stage: SearchStage, door: Door, y: u64) -> FoundPlacement
+    requires consistent { Q.is_consistent quest.now }
+    requires output { IsOutput (Q.sought quest.now) stage door y }
     ensures { IfOk result (λ found. IsFirstOrNone (Q.sought quest.now)
-        (to_output stage.entry.count (hops_view stage.entry.chosen) unit port y) found) }
+        (to_output stage.entry.count (hops_view stage.entry.chosen)
+        door.entry.unit door.entry.port y) found) }
 {
-    let page = power(translator.page);
+    let page = power(door.translator.page);
     let size = quest.request().size;
-    let end = u64::from(translator.slots) * page;
+    let end = u64::from(door.translator.slots) * page;
     let place = stage.count - stage.chosen.count();
     let mut x = y % page;
     let mut free = 0;
     'inputs: while x + size <= end {
-        let hop = Hop { unit, port, x, y };
-        let tried = next_try(quest, place, translator, hop, free);
+        let hop = Hop {
+            unit: door.unit,
+            port: door.port,
+            x,
+            y,
+        };
+        let tried = next_try(quest, place, door.translator, hop, free);
         let next = tried.x;
         free = tried.free;
         if next == x {
-            if let Some(placement) = by_input(quest, stage, translator, hop)? {
+            if let Some(placement) = by_input(quest, stage, door.translator, hop)? {
                 return Ok(Some(placement));
             }
             x += page;
@@ -246,8 +230,8 @@ fn by_inputs<Q: Quest>(
 
 /// The same with an input, so with a whole hop.
 #[cycle(hops)]
-fn by_input<Q: Quest>(quest: &Q, stage: Stage, translator: &Unit, hop: Hop) -> Found
-    requires sound { Q.is_sound quest.now }
+fn by_input<Q: Quest>(quest: &Q, stage: SearchStage, translator: &Unit, hop: Hop) -> FoundPlacement
+    requires consistent { Q.is_consistent quest.now }
     requires stage { IsSearchStage (Q.sought quest.now) stage }
     requires more { length (hops_view stage.chosen) < stage.count }
     requires unit { unit_at (Q.sought quest.now).net hop.unit ≡ Some translator.now }
@@ -267,7 +251,7 @@ fn by_input<Q: Quest>(quest: &Q, stage: Stage, translator: &Unit, hop: Hop) -> F
         (key_of_hops stage.entry.count (hop ∷ hops_view stage.entry.chosen)) found) }
 {
     let chosen = stage.chosen.behind(hop);
-    by_hops(quest, Stage { chosen, ..stage })
+    by_hops(quest, SearchStage { chosen, ..stage })
 }
 
 /// Whether an input agrees with an output modulo the page of a unit, and so many addresses from it on lie

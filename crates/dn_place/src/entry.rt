@@ -4,20 +4,20 @@ ghost use Rattle.std.specs.Prelude.{◌≡◌, ◌<◌, ◌-◌, true, length, m
 ghost use Rattle.dn_interval.specs.declared.row.End.{End};
 ghost use Rattle.dn_interval.specs.Terms.{EndsFit, GivenBy, HasEnds, Member, further_end, in_span};
 ghost use Rattle.dn_flat.specs.Terms.{levels_give};
-ghost use Rattle.dn_place.specs.Terms.{IsEntry, IsGround, ReachOneStop};
+ghost use Rattle.dn_view.specs.Terms.{IsSystem};
+ghost use Rattle.dn_place.specs.Terms.{IsEntry};
 
-use crate::ground::Ground;
 use dn_interval::{End, Row, Rows};
+use dn_view::system::System;
 
 /// The stop that an address of an agent reaches, if one is asked for.
-pub(crate) fn entry_of(ground: Ground, agent: u16, at: Option<u64>) -> Option<End>
-    requires ground { IsGround ground }
-    requires one_stop { ReachOneStop ground.net.now }
-    requires there { agent < length ground.net.now }
-    ensures { IsEntry ground.entry.net.now agent at result }
+pub(crate) fn entry_of(system: System, agent: u16, at: Option<u64>) -> Option<End>
+    requires system { IsSystem meaning system }
+    requires there { agent < length system.on.net.now }
+    ensures { IsEntry system.entry.on.net.now agent at result }
 {
     match at {
-        Some(at) => stop_of(ground.flats.of(agent).stops.as_slice(), at),
+        Some(at) => stop_of(system.flats.of(agent).stops.as_slice(), at),
         None => None,
     }
 }

@@ -1,21 +1,20 @@
 //! The first admissible placement.
 
-ghost use Rattle.std.specs.Prelude.{◌≡◌, ◌<◌, ◌↔◌, length, map, IfOk, IfSome, IsTrue, None, []};
-ghost use Rattle.std.specs.List.{All};
-ghost use Rattle.dn_kind.specs.Terms.{IsLawful, are_rights};
+ghost use Rattle.std.specs.Prelude.{◌≡◌, ◌<◌, ◌↔◌, length, IfOk, IfSome, IsTrue, None, []};
+ghost use Rattle.dn_kind.specs.Terms.{AreKinds, are_rights, kinds_of};
 ghost use Rattle.dn_tables.specs.Terms.{FitsNet, fits_kinds, has_slot, record_kept};
 ghost use Rattle.dn_placement.specs.Terms.{IsAdmissible, IsFirst, IsPlacement, NoneSuited, slots_of_set};
 ghost use Rattle.dn_view.specs.Terms.{IsSystem};
 ghost use Rattle.dn_place.specs.Terms.{IsFirstOrNone, IsHopReach, IsRequest, IsSearchReady, hops_view, slot_of};
 
-use crate::chain::{Stage, by_hops};
+use crate::OutOfMemory;
+use crate::chain::{SearchStage, by_hops};
 use crate::hops::Hops;
-use crate::platform::{Aim, Platform};
-use crate::quest::{Found, Quest};
-use crate::reach::{Reach, reach_of};
-use crate::slot::Slot;
+use crate::problem::{Aim, SearchProblem};
+use crate::quest::{FoundPlacement, Quest};
+use crate::reach::{ReachMarks, reach_of};
+use crate::slot_state::SlotState;
 use crate::tables::slot_at;
-use dn_base::OutOfMemory;
 use dn_placement::request::Request;
 use dn_tables::placement::Placement;
 use dn_tables::set::TableSet;
@@ -34,16 +33,13 @@ pub fn first(
     request: &Request,
     at: Option<u64>,
 ) -> Result<Option<Placement>, OutOfMemory>
-    requires system { IsSystem (λ k. meaning (k.vtable, k.value)) system }
-    requires fits { FitsNet system.net.now
-        (map (λ k. meaning (k.vtable, k.value)) system.kinds.now.list.items) tables.now }
-    requires request { IsRequest system.net.now request.now }
-    ensures first { IfOk result (λ found. IfSome found (λ p. IsFirst system.entry.net.now
-        (slots_of_set (map (λ k. meaning (k.vtable, k.value)) system.entry.kinds.now.list.items)
-        tables.now) request.now at p)) }
-    ensures none { IfOk result (λ found. found ≡ None → NoneSuited system.entry.net.now
-        (slots_of_set (map (λ k. meaning (k.vtable, k.value)) system.entry.kinds.now.list.items)
-        tables.now) request.now at) }
+    requires system { IsSystem meaning system }
+    requires fits { FitsNet system.on.net.now (kinds_of meaning system.on.kinds.now) tables.now }
+    requires request { IsRequest system.on.net.now request.now }
+    ensures first { IfOk result (λ found. IfSome found (λ p. IsFirst system.entry.on.net.now
+        (slots_of_set (kinds_of meaning system.entry.on.kinds.now) tables.now) request.now at p)) }
+    ensures none { IfOk result (λ found. found ≡ None → NoneSuited system.entry.on.net.now
+        (slots_of_set (kinds_of meaning system.entry.on.kinds.now) tables.now) request.now at) }
 {
     let reach = reach_of(alloc, system, request.agent, at)?;
     first_from(alloc, system, tables, request, &reach)
@@ -56,19 +52,18 @@ pub fn first_from(
     system: System,
     tables: &TableSet,
     request: &Request,
-    reach: &Reach,
+    reach: &ReachMarks,
 ) -> Result<Option<Placement>, OutOfMemory>
-    requires system { IsSystem (λ k. meaning (k.vtable, k.value)) system }
-    requires fits { FitsNet system.net.now
-        (map (λ k. meaning (k.vtable, k.value)) system.kinds.now.list.items) tables.now }
-    requires reach { IsHopReach system.net.now request.now.agent reach.now }
-    requires request { IsRequest system.net.now request.now }
-    ensures first { IfOk result (λ found. IfSome found (λ p. IsFirst system.entry.net.now
-        (slots_of_set (map (λ k. meaning (k.vtable, k.value)) system.entry.kinds.now.list.items)
-        tables.now) request.now reach.now.at p)) }
-    ensures none { IfOk result (λ found. found ≡ None → NoneSuited system.entry.net.now
-        (slots_of_set (map (λ k. meaning (k.vtable, k.value)) system.entry.kinds.now.list.items)
-        tables.now) request.now reach.now.at) }
+    requires system { IsSystem meaning system }
+    requires fits { FitsNet system.on.net.now (kinds_of meaning system.on.kinds.now) tables.now }
+    requires reach { IsHopReach system.on.net.now request.now.agent reach.now }
+    requires request { IsRequest system.on.net.now request.now }
+    ensures first { IfOk result
+        (λ found. IfSome found (λ p. IsFirst system.entry.on.net.now (slots_of_set
+        (kinds_of meaning system.entry.on.kinds.now) tables.now) request.now reach.now.at p)) }
+    ensures none { IfOk result (λ found. found
+        ≡ None → NoneSuited system.entry.on.net.now (slots_of_set
+        (kinds_of meaning system.entry.on.kinds.now) tables.now) request.now reach.now.at) }
 {
     tables.facts();
     by_tables::<Brand>(alloc, system, tables, request, reach)
@@ -80,52 +75,47 @@ fn by_tables<A: Aim>(
     system: System,
     tables: &TableSet,
     request: &Request,
-    reach: &Reach,
-) -> Found
-    requires system { IsSystem (λ k. meaning (k.vtable, k.value)) system }
-    requires fits { FitsNet system.net.now
-        (map (λ k. meaning (k.vtable, k.value)) system.kinds.now.list.items) tables.now }
+    reach: &ReachMarks,
+) -> FoundPlacement
+    requires system { IsSystem meaning system }
+    requires fits { FitsNet system.on.net.now (kinds_of meaning system.on.kinds.now) tables.now }
     requires rights { IsTrue (are_rights request.now.rights) }
     requires aim { A.sought ≡ record {
-      net = system.net.now;
-      slots = slots_of_set (map (λ k. meaning (k.vtable, k.value)) system.kinds.now.list.items)
-          tables.now;
+      net = system.on.net.now;
+      slots = slots_of_set (kinds_of meaning system.on.kinds.now) tables.now;
       request = request.now;
       at = reach.now.at;
     } }
     requires ready { IsSearchReady A.sought }
-    requires reach { IsHopReach system.net.now request.now.agent reach.now }
+    requires reach { IsHopReach system.on.net.now request.now.agent reach.now }
     ensures { IfOk result (λ found. IsFirstOrNone A.sought [] found) }
 {
-    let kinds = system.kinds;
-    let met = |unit: u16, slot: u32| -> Slot
-        requires lawful { All (λ k. IsLawful (meaning (k.vtable, k.value))) kinds.now.list.items }
-        requires fits { IsTrue (fits_kinds
-            (map (λ k. meaning (k.vtable, k.value)) kinds.now.list.items) tables.now) }
+    let kinds = system.on.kinds;
+    let met = |unit: u16, slot: u32| -> SlotState
+        requires kinds { AreKinds meaning kinds.now }
+        requires fits { IsTrue (fits_kinds (kinds_of meaning kinds.now) tables.now) }
         requires there { IsTrue (has_slot tables.now unit slot) }
-        ensures { result ≡ slot_of (slots_of_set
-            (map (λ k. meaning (k.vtable, k.value)) kinds.entry.now.list.items)
-            tables.entry.now) unit slot }
+        ensures { result
+            ≡ slot_of (slots_of_set (kinds_of meaning kinds.entry.now) tables.entry.now) unit slot }
     { slot_at(kinds, tables, unit, slot) };
     let exact = |v: u64, hops: Hops, own: u8| -> Result<bool, OutOfMemory>
-        requires system { IsSystem (λ k. meaning (k.vtable, k.value)) system }
-        requires fits { FitsNet system.net.now
-            (map (λ k. meaning (k.vtable, k.value)) system.kinds.now.list.items) tables.now }
+        requires system { IsSystem meaning system }
+        requires fits { FitsNet system.on.net.now
+            (kinds_of meaning system.on.kinds.now) tables.now }
         requires rights { IsTrue (are_rights request.now.rights) }
         requires own { own < length (hops_view hops) }
-        requires placed { IsPlacement system.net.now
-            (slots_of_set (map (λ k. meaning (k.vtable, k.value)) system.kinds.now.list.items)
-            tables.now) request.now (record { v = v; hops = hops_view hops; own = own }) }
-        ensures { IfOk result (λ yes. IsTrue yes ↔ IsAdmissible system.entry.net.now
-            (record_kept (map (λ k. meaning (k.vtable, k.value)) system.entry.kinds.now.list.items)
-            tables.entry.now) request.entry.now
-            (record { v = v; hops = hops_view hops; own = own })) }
+        requires placed { IsPlacement system.on.net.now
+            (slots_of_set (kinds_of meaning system.on.kinds.now) tables.now) request.now
+            (record { v = v; hops = hops_view hops; own = own }) }
+        ensures { IfOk result (λ yes. IsTrue yes ↔ IsAdmissible system.entry.on.net.now
+            (record_kept (kinds_of meaning system.entry.on.kinds.now) tables.entry.now)
+            request.entry.now (record { v = v; hops = hops_view hops; own = own })) }
     {
         let placement = hops.into_placement(alloc, v, own);
         exact(alloc, system, tables, request, &placement)
     };
-    let platform = Platform::<'_, A, _, _> {
-        net: system.net,
+    let problem = SearchProblem::<'_, A, _, _> {
+        net: system.on.net,
         flats: system.flats,
         request: *request,
         at: reach.at,
@@ -133,12 +123,12 @@ fn by_tables<A: Aim>(
         exact,
         aim: PhantomData,
     };
-    first_of(alloc, &platform, reach)
+    first_of(alloc, &problem, reach)
 }
 
 /// The first placement that is looked for. `None` exactly where there is none.
-fn first_of<Q: Quest>(alloc: Global, quest: &Q, reach: &Reach) -> Found
-    requires sound { Q.is_sound quest.now }
+fn first_of<Q: Quest>(alloc: Global, quest: &Q, reach: &ReachMarks) -> FoundPlacement
+    requires consistent { Q.is_consistent quest.now }
     requires ready { IsSearchReady (Q.sought quest.now) }
     requires reach { IsHopReach (Q.sought quest.now).net (Q.sought quest.now).request.agent
         reach.now }
@@ -146,7 +136,7 @@ fn first_of<Q: Quest>(alloc: Global, quest: &Q, reach: &Reach) -> Found
     ensures { IfOk result (λ found. IsFirstOrNone (Q.sought quest.now) [] found) }
 {
     for count in 1..4 {
-        let stage = Stage {
+        let stage = SearchStage {
             alloc,
             reach,
             count,

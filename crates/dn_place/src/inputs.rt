@@ -20,7 +20,7 @@ pub(crate) fn next_try<Q: Quest>(
     hop: Hop,
     free: u32,
 ) -> Input
-    requires sound { Q.is_sound quest.now }
+    requires consistent { Q.is_consistent quest.now }
     requires ready { IsSearchReady (Q.sought quest.now) }
     requires within { IsWithin (Q.sought quest.now) translator.now hop }
     requires reached { hop.y + (Q.sought quest.now).request.size ≤ 2 ^ translator.now.reach }
@@ -49,7 +49,7 @@ pub(crate) fn next_try<Q: Quest>(
 /// The first input of a unit from the hop's on, in its place in a slot, past names that are known to be
 /// reached by two addresses of agents.
 fn past_crowd<Q: Quest>(quest: &Q, translator: &Unit, hop: Hop) -> u64
-    requires sound { Q.is_sound quest.now }
+    requires consistent { Q.is_consistent quest.now }
     requires ready { IsSearchReady (Q.sought quest.now) }
     requires within { IsWithin (Q.sought quest.now) translator.now hop }
     ensures onward { hop.x ≤ result }

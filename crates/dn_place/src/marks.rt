@@ -5,33 +5,36 @@ ghost use Rattle.std.specs.Prelude.{◌≡◌, ◌<◌, ◌++◌, [], ◌∷◌,
 ghost use Rattle.dn_net.specs.declared.node.Unit.{Unit as UnitPart};
 ghost use Rattle.dn_net.specs.Terms.{unit_at};
 ghost use Rattle.dn_flat.specs.Terms.{levels_give};
-ghost use Rattle.dn_place.specs.Terms.{AreUnitsFrom, IsGround, Keeps, MarkedBelow, Marks, MarksAfter, MarksAll, MarksEnds, MarksGiven, MarksRows, is_marked};
+ghost use Rattle.dn_view.specs.Terms.{IsSystem};
+ghost use Rattle.dn_place.specs.Terms.{AreUnitsFrom, Keeps, MarkedBelow, Marks, MarksAfter, MarksAll, MarksEnds, MarksGiven, MarksRows, is_marked};
 
-use crate::ground::{Ground, unit_in};
-use dn_base::OutOfMemory;
+use crate::OutOfMemory;
+use crate::unit::unit_in;
 use dn_interval::{Row, Rows};
+use dn_net::net::Net;
+use dn_view::system::System;
 use std::alloc::Global;
 
 /// The numbers of the units, ascending.
-pub(crate) fn units_of(alloc: Global, ground: Ground) -> Result<Vec<u16>, OutOfMemory>
-    ensures { IfOk result (λ units. AreUnitsFrom ground.entry.net.now 0 units.items) }
+pub(crate) fn units_of(alloc: Global, net: &Net) -> Result<Vec<u16>, OutOfMemory>
+    ensures { IfOk result (λ units. AreUnitsFrom net.now 0 units.items) }
 {
     let mut units = Vec::new(alloc);
-    for node in 0..ground.net.nodes() {
-        push_unit(ground, node, &mut units)?;
+    for node in 0..net.nodes() {
+        push_unit(net, node, &mut units)?;
     }
     Ok(units)
 }
 
 /// Adds the number of a node, if it is a unit.
-fn push_unit(ground: Ground, node: u16, units: &mut Vec<u16>) -> Result<(), OutOfMemory>
-    requires there { node < length ground.net.now }
-    ensures unit { OnOk result (is_some (unit_at ground.entry.net.now node) ≡ true →
+fn push_unit(net: &Net, node: u16, units: &mut Vec<u16>) -> Result<(), OutOfMemory>
+    requires there { node < length net.now }
+    ensures unit { OnOk result (is_some (unit_at net.now node) ≡ true →
         units.new.items ≡ units.old.items ++ node ∷ []) }
-    ensures none { OnOk result (is_some (unit_at ground.entry.net.now node) ≡ false →
+    ensures none { OnOk result (is_some (unit_at net.now node) ≡ false →
         units.new.items ≡ units.old.items) }
 {
-    match ground.net.unit(node) {
+    match net.unit(node) {
         Some(_) => {
             units.push(node)?;
             Ok(())
@@ -43,15 +46,15 @@ fn push_unit(ground: Ground, node: u16, units: &mut Vec<u16>) -> Result<(), OutO
 /// The units in which the first hop can stand: those of the agent's stops.
 pub(crate) fn from_agent(
     alloc: Global,
-    ground: Ground,
+    system: System,
     agent: u16,
 ) -> Result<Vec<bool>, OutOfMemory>
-    requires ground { IsGround ground }
-    requires there { agent < length ground.net.now }
-    ensures { IfOk result (λ marks. MarksAll ground.entry.net.now agent marks.items) }
+    requires system { IsSystem meaning system }
+    requires there { agent < length system.on.net.now }
+    ensures { IfOk result (λ marks. MarksAll system.entry.on.net.now agent marks.items) }
 {
-    let mut marks = vec![in alloc; false; usize::from(ground.net.nodes())]?;
-    mark_node(ground, agent, &mut marks);
+    let mut marks = vec![in alloc; false; usize::from(system.on.net.nodes())]?;
+    mark_node(system, agent, &mut marks);
     Ok(marks)
 }
 
@@ -66,63 +69,63 @@ pub(crate) fn has_mark(marks: &[bool], node: u16) -> bool
 }
 
 /// The units that a port of a marked unit leads to.
-pub(crate) fn after(alloc: Global, ground: Ground, from: &[bool]) -> Result<Vec<bool>, OutOfMemory>
-    requires ground { IsGround ground }
-    ensures { IfOk result (λ marks. MarksAfter ground.entry.net.now from.now marks.items) }
+pub(crate) fn after(alloc: Global, system: System, from: &[bool]) -> Result<Vec<bool>, OutOfMemory>
+    requires system { IsSystem meaning system }
+    ensures { IfOk result (λ marks. MarksAfter system.entry.on.net.now from.now marks.items) }
 {
-    let mut marks = vec![in alloc; false; usize::from(ground.net.nodes())]?;
-    mark_after(ground, from, &mut marks);
+    let mut marks = vec![in alloc; false; usize::from(system.on.net.nodes())]?;
+    mark_after(system, from, &mut marks);
     Ok(marks)
 }
 
 /// Marks what the ports of marked units lead to.
-fn mark_after(ground: Ground, from: &[bool], marks: &mut [bool])
-    requires ground { IsGround ground }
-    ensures { MarkedBelow ground.entry.net.now from.now
-        (length ground.entry.net.now) marks.new }
+fn mark_after(system: System, from: &[bool], marks: &mut [bool])
+    requires system { IsSystem meaning system }
+    ensures { MarkedBelow system.entry.on.net.now from.now
+        (length system.entry.on.net.now) marks.new }
 {
-    for node in 0..ground.net.nodes() {
-        mark_after_node(ground, from, node, marks);
+    for node in 0..system.on.net.nodes() {
+        mark_after_node(system, from, node, marks);
     }
 }
 
 /// Marks what the ports of a unit lead to, if it is marked.
-fn mark_after_node(ground: Ground, from: &[bool], node: u16, marks: &mut [bool])
-    requires ground { IsGround ground }
+fn mark_after_node(system: System, from: &[bool], node: u16, marks: &mut [bool])
+    requires system { IsSystem meaning system }
     ensures keeps { Keeps marks.old marks.new }
     ensures marks { is_marked from.now node ≡ true → (k n : ℕ) (u : UnitPart) →
-        unit_at ground.entry.net.now node ≡ Some u → slice_get u.ports k ≡ Some n →
-        Marks ground.entry.net.now n marks.new }
+        unit_at system.entry.on.net.now node ≡ Some u → slice_get u.ports k ≡ Some n →
+        Marks system.entry.on.net.now n marks.new }
 {
     if has_mark(from, node) {
-        mark_unit(ground, node, marks);
+        mark_unit(system, node, marks);
     }
 }
 
 /// Marks what the ports of a unit lead to.
-fn mark_unit(ground: Ground, unit: u16, marks: &mut [bool])
-    requires ground { IsGround ground }
+fn mark_unit(system: System, unit: u16, marks: &mut [bool])
+    requires system { IsSystem meaning system }
     ensures keeps { Keeps marks.old marks.new }
-    ensures marks { (k n : ℕ) (u : UnitPart) → unit_at ground.entry.net.now unit ≡ Some u →
-        slice_get u.ports k ≡ Some n → Marks ground.entry.net.now n marks.new }
+    ensures marks { (k n : ℕ) (u : UnitPart) → unit_at system.entry.on.net.now unit ≡ Some u →
+        slice_get u.ports k ≡ Some n → Marks system.entry.on.net.now n marks.new }
 {
-    let Some(translator) = unit_in(ground, unit) else {
+    let Some(translator) = unit_in(system, unit) else {
         return;
     };
     for port in translator.ports.as_slice() {
-        mark_node(ground, *port, marks);
+        mark_node(system, *port, marks);
     }
 }
 
 /// Marks what a node leads to.
-fn mark_node(ground: Ground, node: u16, marks: &mut [bool])
-    requires ground { IsGround ground }
+fn mark_node(system: System, node: u16, marks: &mut [bool])
+    requires system { IsSystem meaning system }
     ensures keeps { Keeps marks.old marks.new }
-    ensures marks { node < length ground.entry.net.now →
-        Marks ground.entry.net.now node marks.new }
+    ensures marks { node < length system.entry.on.net.now →
+        Marks system.entry.on.net.now node marks.new }
 {
-    if node < ground.net.nodes() {
-        mark_levels(ground.flats.of(node).stops.as_slice(), marks);
+    if node < system.on.net.nodes() {
+        mark_levels(system.flats.of(node).stops.as_slice(), marks);
     }
 }
 

@@ -1,12 +1,12 @@
-//! What the search asks of a request and of the platform on which it is made.
+//! What the search asks of a request, of the net and of the slots.
 
 ghost use Rattle.std.specs.Prelude.{◌≡◌, IfSome, IfNone, Some, None};
 ghost use Rattle.dn_net.specs.Terms.{unit_at};
-ghost use Rattle.dn_place.specs.Terms.{IsFormed, IsSearchReady};
+ghost use Rattle.dn_place.specs.Terms.{HasUnitBounds, IsSearchReady};
 
+use crate::OutOfMemory;
 use crate::hops::Hops;
-use crate::slot::Slot;
-use dn_base::OutOfMemory;
+use crate::slot_state::SlotState;
 use dn_flat::levels::Levels;
 use dn_interval::{End, Rows, Span};
 use dn_net::node::Unit;
@@ -15,9 +15,9 @@ use dn_tables::placement::Placement;
 use std::alloc::Global;
 
 /// The placement that is found, if one is. `Err` is want of memory.
-pub(crate) type Found = Result<Option<Placement>, OutOfMemory>;
+pub(crate) type FoundPlacement = Result<Option<Placement>, OutOfMemory>;
 
-/// A request, and the platform on which a placement of it is looked for.
+/// A request, and the net and the slots in which a placement of it is looked for.
 pub(crate) trait Quest {
     ghost use Rattle.std.specs.Prelude.{◌≡◌, ◌+◌, ◌<◌, ◌≤◌, ◌↔◌, length, IfOk, IfSome, IsTrue};
     ghost use Rattle.std.specs.Option.{option_copied};
@@ -35,39 +35,39 @@ pub(crate) trait Quest {
     /// What is looked for, and where.
     ghost sought: { Self → Sought };
 
-    /// The parts of the platform fit one another.
-    ghost is_sound: { Self → Type 0 };
+    /// The net, the request and the functions that are asked agree with what is looked for.
+    ghost is_consistent: { Self → Type 0 };
 
     /// The request.
     fn request(&self) -> Request
-        requires { is_sound self.now }
+        requires { is_consistent self.now }
         ensures { result ≡ (sought self.now).request };
 
     /// The address of the agent that is asked for, if one is.
     fn at(&self) -> Option<u64>
-        requires { is_sound self.now }
+        requires { is_consistent self.now }
         ensures { result ≡ (sought self.now).at };
 
     /// How many nodes the net has.
     fn nodes(&self) -> u16
-        requires { is_sound self.now }
+        requires { is_consistent self.now }
         ensures { result ≡ length (sought self.now).net };
 
     /// The unit that a node is, if it is one.
     fn unit(&self, node: u16) -> Option<&Unit>
-        requires sound { is_sound self.now }
+        requires consistent { is_consistent self.now }
         requires there { node < length (sought self.now).net }
         ensures { option_copied result ≡ unit_at (sought self.now).net node };
 
     /// What a node reaches.
     fn levels(&self, node: u16) -> &Levels
-        requires sound { is_sound self.now }
+        requires consistent { is_consistent self.now }
         requires there { node < length (sought self.now).net }
         ensures { IsLevels (sought self.now).net node result.now };
 
     /// Where the addresses of a node resolve to so many names from one on, one after another, and to no other.
     fn toward(&self, alloc: Global, node: u16, first: End, size: u64) -> Result<Rows, OutOfMemory>
-        requires sound { is_sound self.now }
+        requires consistent { is_consistent self.now }
         requires there { node < length (sought self.now).net }
         requires some { 1 ≤ size }
         requires within { first.base + size ≤ TOP + 1 }
@@ -77,20 +77,20 @@ pub(crate) trait Quest {
     /// Names of a unit, one after another, that two addresses of agents reach, of which some are among so
     /// many names from one on. `None` says nothing.
     fn crowd(&self, unit: u16, first: u64, size: u64) -> Option<Span>
-        requires { is_sound self.now }
+        requires { is_consistent self.now }
         ensures crowded { IfSome result (λ s. AreCrowded (sought self.now).net unit s) }
         ensures from { IfSome result (λ s. first ≤ s.hi) }
         ensures to { IfSome result (λ s. s.lo < first + size) };
 
     /// What a hop meets in a slot.
-    fn slot(&self, unit: u16, slot: u32) -> Slot
-        requires sound { is_sound self.now }
+    fn slot(&self, unit: u16, slot: u32) -> SlotState
+        requires consistent { is_consistent self.now }
         requires there { slot < slot_count (unit_at (sought self.now).net unit) }
         ensures { result ≡ slot_of (sought self.now).slots unit slot };
 
     /// Whether the placement with these hops is admissible.
     fn is_exact(&self, v: u64, hops: Hops, own: u8) -> Result<bool, OutOfMemory>
-        requires sound { is_sound self.now }
+        requires consistent { is_consistent self.now }
         requires placed { IsPlacement (sought self.now).net (sought self.now).slots
             (sought self.now).request (record { v = v; hops = hops_view hops; own = own }) }
         ensures { IfOk result (λ yes. IsTrue yes ↔ IsAdmissible (sought self.now).net
@@ -100,10 +100,10 @@ pub(crate) trait Quest {
 
 /// The unit of a node, if it is one.
 pub(crate) fn unit_of<Q: Quest>(quest: &Q, node: u16) -> Option<&Unit>
-    requires sound { Q.is_sound quest.now }
+    requires consistent { Q.is_consistent quest.now }
     requires ready { IsSearchReady (Q.sought quest.now) }
     ensures some { IfSome result (λ u. unit_at (Q.sought quest.now).net node ≡ Some u.now) }
-    ensures formed { IfSome result (λ u. IsFormed (Q.sought quest.now).net u.now) }
+    ensures bounds { IfSome result (λ u. HasUnitBounds (Q.sought quest.now).net u.now) }
     ensures none { IfNone result (unit_at (Q.sought quest.now).net node ≡ None) }
 {
     if node < quest.nodes() {

@@ -5,10 +5,9 @@ ghost use Rattle.dn_net.specs.Terms.{is_agent_at};
 ghost use Rattle.dn_view.specs.Terms.{IsSystem};
 ghost use Rattle.dn_place.specs.Terms.{IsHopReach, mark_at};
 
+use crate::OutOfMemory;
 use crate::entry::entry_of;
-use crate::ground::Ground;
 use crate::marks::{after, from_agent, has_mark, units_of};
-use dn_base::OutOfMemory;
 use dn_interval::End;
 use dn_view::system::System;
 use std::alloc::Global;
@@ -16,7 +15,7 @@ use std::alloc::Global;
 /// Where the hops of an agent's requests can stand, at one address where one is asked for: for each node
 /// whether a first, a second or a third hop from the agent's end can stand in it.
 #[derive(Drop)]
-pub struct Reach {
+pub struct ReachMarks {
     /// The address that is asked for, if one is.
     pub(crate) at: Option<u64>,
     /// The numbers of the units, ascending.
@@ -35,22 +34,18 @@ pub fn reach_of(
     system: System,
     agent: u16,
     at: Option<u64>,
-) -> Result<Reach, OutOfMemory>
-    requires system { IsSystem (λ k. meaning (k.vtable, k.value)) system }
-    requires agent { IsTrue (is_agent_at (slice_get system.net.now agent)) }
-    ensures reach { IfOk result (λ r. IsHopReach system.entry.net.now agent r) }
+) -> Result<ReachMarks, OutOfMemory>
+    requires system { IsSystem meaning system }
+    requires agent { IsTrue (is_agent_at (slice_get system.on.net.now agent)) }
+    ensures reach { IfOk result (λ r. IsHopReach system.entry.on.net.now agent r) }
     ensures at { IfOk result (λ r. r.at ≡ at) }
 {
-    let ground = Ground {
-        net: system.net,
-        flats: system.flats,
-    };
-    let entry = entry_of(ground, agent, at);
-    let units = units_of(alloc, ground)?;
-    let first = from_agent(alloc, ground, agent)?;
-    let second = after(alloc, ground, &first)?;
-    let third = after(alloc, ground, &second)?;
-    Ok(Reach {
+    let entry = entry_of(system, agent, at);
+    let units = units_of(alloc, system.on.net)?;
+    let first = from_agent(alloc, system, agent)?;
+    let second = after(alloc, system, &first)?;
+    let third = after(alloc, system, &second)?;
+    Ok(ReachMarks {
         at,
         units,
         first,
@@ -61,7 +56,7 @@ pub fn reach_of(
 }
 
 /// Whether a hop at this place from the agent's end can stand in the unit.
-pub(crate) fn can_stand(reach: &Reach, place: u8, unit: u16) -> bool
+pub(crate) fn can_stand(reach: &ReachMarks, place: u8, unit: u16) -> bool
     ensures { result ≡ mark_at reach.now.first.items reach.now.second.items
         reach.now.third.items place unit }
 {
@@ -76,7 +71,7 @@ pub(crate) fn can_stand(reach: &Reach, place: u8, unit: u16) -> bool
 
 /// Whether a hop at this place from the agent's end can stand in the unit, by the address that is asked
 /// for.
-pub(crate) fn can_enter(reach: &Reach, place: u8, unit: u16) -> bool
+pub(crate) fn can_enter(reach: &ReachMarks, place: u8, unit: u16) -> bool
     ensures first { result ≡ false → place ≡ 1 }
     ensures asked { result ≡ false → reach.now.entry ≡ None → ⊥ }
     ensures other { result ≡ false → (x : ℕ) →
@@ -89,7 +84,7 @@ pub(crate) fn can_enter(reach: &Reach, place: u8, unit: u16) -> bool
 }
 
 /// The one name that a hop at this place from the agent's end can enter, where there is but one.
-pub(crate) fn entry_at(reach: &Reach, place: u8) -> Option<End>
+pub(crate) fn entry_at(reach: &ReachMarks, place: u8) -> Option<End>
     ensures first { IfSome result (λ z. place ≡ 1) }
     ensures entry { IfSome result (λ z. reach.now.entry ≡ Some z) }
 {

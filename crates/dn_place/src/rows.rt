@@ -10,9 +10,9 @@ ghost use Rattle.dn_flat.specs.Terms.{IsLevels, levels_give};
 ghost use Rattle.dn_placement.specs.declared.request.Request.{Request};
 ghost use Rattle.dn_place.specs.Terms.{AreToward, GivesNone, InRow, IsClear, IsSearchReady, end_near, hops_view, is_near, is_past, levels_near, row_near, rows_near, wanted_name};
 
+use crate::OutOfMemory;
 use crate::hops::Hops;
 use crate::quest::Quest;
-use dn_base::OutOfMemory;
 use dn_flat::levels::Levels;
 use dn_interval::{End, Row, Rows, Seg, Span};
 use dn_placement::request::Request;
@@ -73,7 +73,7 @@ pub(crate) fn made_rows<Q: Quest>(
     node: u16,
     hops: Hops,
 ) -> Result<Rows, OutOfMemory>
-    requires sound { Q.is_sound quest.now }
+    requires consistent { Q.is_consistent quest.now }
     requires ready { IsSearchReady (Q.sought quest.now) }
     requires there { node < length (Q.sought quest.now).net }
     ensures { IfOk result (λ rows. AreToward (Q.sought quest.now).net
@@ -204,7 +204,7 @@ fn are_levels_past(levels: &[Rows], a: u64, size: u64) -> bool
 
 /// Whether no stop is reached from the stretch of a node, where it is to reach none.
 pub(crate) fn is_clear<Q: Quest>(quest: &Q, node: u16, hops: Hops, a: u64, size: u64) -> bool
-    requires sound { Q.is_sound quest.now }
+    requires consistent { Q.is_consistent quest.now }
     requires there { node < length (Q.sought quest.now).net }
     requires some { 1 ≤ size }
     requires fits { a + size ≤ TOP + 1 }

@@ -5,35 +5,35 @@ ghost use Rattle.dn_net.specs.Terms.{unit_at};
 ghost use Rattle.dn_place.specs.Terms.{AreBarred, AreFree, AreFreeTo, AreShut, AreUsable, IsSearchReady, IsWithin, is_free_slot, is_usable_slot, slot_count, slot_of};
 
 use crate::quest::Quest;
-use crate::slot::Slot;
+use crate::slot_state::SlotState;
 use dn_net::node::Unit;
 use dn_tables::placement::Hop;
 
 /// Whether a slot is free, or has this record and may be shared.
-fn is_usable_slot(slot: Slot, port: u8, page: u64) -> bool
+fn is_usable_slot(slot: SlotState, port: u8, page: u64) -> bool
     ensures { result ≡ is_usable_slot port page slot }
 {
     match slot {
-        Slot::Free => true,
-        Slot::Shared(record) => record.port == port && record.page == page,
-        Slot::Barred => false,
+        SlotState::Free => true,
+        SlotState::Shared(record) => record.port == port && record.page == page,
+        SlotState::Barred => false,
     }
 }
 
 /// Whether a slot is free.
-fn is_free_slot(slot: Slot) -> bool
+fn is_free_slot(slot: SlotState) -> bool
     ensures { result ≡ is_free_slot slot }
 {
     match slot {
-        Slot::Free => true,
-        Slot::Shared(_) => false,
-        Slot::Barred => false,
+        SlotState::Free => true,
+        SlotState::Shared(_) => false,
+        SlotState::Barred => false,
     }
 }
 
 /// Whether the slots are free.
 fn are_free<Q: Quest>(quest: &Q, unit: u16, first: u32, last: u32) -> bool
-    requires sound { Q.is_sound quest.now }
+    requires consistent { Q.is_consistent quest.now }
     requires ordered { first ≤ last }
     requires within { last < slot_count (unit_at (Q.sought quest.now).net unit) }
     requires few { last < 262144 }
@@ -49,7 +49,7 @@ fn are_free<Q: Quest>(quest: &Q, unit: u16, first: u32, last: u32) -> bool
 
 /// Before which slot those of a unit from one on are free, of those up to a last one.
 fn free_end<Q: Quest>(quest: &Q, unit: u16, from: u32, last: u32) -> u32
-    requires sound { Q.is_sound quest.now }
+    requires consistent { Q.is_consistent quest.now }
     requires within { last < slot_count (unit_at (Q.sought quest.now).net unit) }
     requires few { last < 262144 }
     ensures { AreFreeTo (Q.sought quest.now).slots unit from result }
@@ -75,7 +75,7 @@ fn last_unusable<Q: Quest>(
     page: u64,
     free: u32,
 ) -> Option<u32>
-    requires sound { Q.is_sound quest.now }
+    requires consistent { Q.is_consistent quest.now }
     requires ordered { first ≤ last }
     requires within { last < slot_count (unit_at (Q.sought quest.now).net unit) }
     requires few { last < 262144 }
@@ -101,7 +101,7 @@ fn last_unusable<Q: Quest>(
 /// The first slot past this one from which a hop can go on, where another slot is not usable for the
 /// pages of a port whose first is for the first slot: a hop finds it usable only where it meets it
 /// for the page of its record.
-fn past_slot(found: Slot, slot: u32, first: u32, port: u8, page: u64) -> u32
+fn past_slot(found: SlotState, slot: u32, first: u32, port: u8, page: u64) -> u32
     requires ordered { first ≤ slot }
     requires few { slot < 262144 }
     requires unusable { is_usable_slot port (page + (slot - first)) found ≡ false }
@@ -110,8 +110,8 @@ fn past_slot(found: Slot, slot: u32, first: u32, port: u8, page: u64) -> u32
     ensures shut { AreShut found slot first result port page }
 {
     match found {
-        Slot::Free => slot + 1,
-        Slot::Shared(record) => {
+        SlotState::Free => slot + 1,
+        SlotState::Shared(record) => {
             if record.port == port
                 && page <= record.page
                 && record.page - page < u64::from(slot - first)
@@ -121,7 +121,7 @@ fn past_slot(found: Slot, slot: u32, first: u32, port: u8, page: u64) -> u32
                 slot + 1
             }
         }
-        Slot::Barred => slot + 1,
+        SlotState::Barred => slot + 1,
     }
 }
 
@@ -144,7 +144,7 @@ struct HopSlots {
 
 /// The slots that a hop takes.
 fn slots_of_hop<Q: Quest>(quest: &Q, translator: &Unit, hop: Hop) -> HopSlots
-    requires sound { Q.is_sound quest.now }
+    requires consistent { Q.is_consistent quest.now }
     requires ready { IsSearchReady (Q.sought quest.now) }
     requires within { IsWithin (Q.sought quest.now) translator.now hop }
     ensures page { result.page ≡ 2 ^ translator.now.page }
@@ -165,7 +165,7 @@ fn slots_of_hop<Q: Quest>(quest: &Q, translator: &Unit, hop: Hop) -> HopSlots
 
 /// Whether the slots of a hop are free.
 pub(crate) fn is_hop_free<Q: Quest>(quest: &Q, translator: &Unit, hop: Hop) -> bool
-    requires sound { Q.is_sound quest.now }
+    requires consistent { Q.is_consistent quest.now }
     requires ready { IsSearchReady (Q.sought quest.now) }
     requires within { IsWithin (Q.sought quest.now) translator.now hop }
     ensures { IsTrue result ↔ AreFree (Q.sought quest.now).slots hop.unit
@@ -188,7 +188,7 @@ pub(crate) struct Input {
 /// free before a slot, and are then known to be free before the one that is answered, so that inputs in
 /// turn look at each slot once.
 pub(crate) fn next_input<Q: Quest>(quest: &Q, translator: &Unit, hop: Hop, free: u32) -> Input
-    requires sound { Q.is_sound quest.now }
+    requires consistent { Q.is_consistent quest.now }
     requires ready { IsSearchReady (Q.sought quest.now) }
     requires within { IsWithin (Q.sought quest.now) translator.now hop }
     requires reached { hop.y + (Q.sought quest.now).request.size ≤ 2 ^ translator.now.reach }

@@ -6,7 +6,7 @@ ghost use Rattle.dn_placement.specs.Terms.{IsAt, Leads, hop_page};
 ghost use Rattle.dn_place.specs.Terms.{AreToward, CanOwn, IsAddressed, IsChosen, IsFirstOrNone, IsSearchReady, PagesBelow, PagesFrom, hops_view, key_of_hops, to_address, to_page};
 
 use crate::hops::Hops;
-use crate::quest::{Found, Quest, unit_of};
+use crate::quest::{FoundPlacement, Quest, unit_of};
 use crate::rows::{lent_rows, made_rows, output, wanted_name};
 use crate::slots::is_hop_free;
 use dn_interval::Row;
@@ -15,8 +15,8 @@ use dn_tables::placement::Hop;
 use std::alloc::Global;
 
 /// The first placement of just these hops, by the rows of the agent that give the input of the first.
-pub(crate) fn by_agent<Q: Quest>(alloc: Global, quest: &Q, hops: Hops) -> Found
-    requires sound { Q.is_sound quest.now }
+pub(crate) fn by_agent<Q: Quest>(alloc: Global, quest: &Q, hops: Hops) -> FoundPlacement
+    requires consistent { Q.is_consistent quest.now }
     requires ready { IsSearchReady (Q.sought quest.now) }
     requires chosen { IsChosen (Q.sought quest.now) (length (hops_view hops)) (hops_view hops) }
     requires some { 1 ≤ length (hops_view hops) }
@@ -34,8 +34,8 @@ pub(crate) fn by_agent<Q: Quest>(alloc: Global, quest: &Q, hops: Hops) -> Found
 }
 
 /// The same by these rows: each that gives the input of the first hop fixes one address.
-fn by_rows<Q: Quest>(alloc: Global, quest: &Q, hops: Hops, rows: &[Row]) -> Found
-    requires sound { Q.is_sound quest.now }
+fn by_rows<Q: Quest>(alloc: Global, quest: &Q, hops: Hops, rows: &[Row]) -> FoundPlacement
+    requires consistent { Q.is_consistent quest.now }
     requires ready { IsSearchReady (Q.sought quest.now) }
     requires chosen { IsChosen (Q.sought quest.now) (length (hops_view hops)) (hops_view hops) }
     requires some { 1 ≤ length (hops_view hops) }
@@ -69,8 +69,8 @@ fn is_at(at: Option<u64>, v: u64) -> bool
 }
 
 /// The same at an address of the agent: the own hop with the smaller page first.
-fn by_address<Q: Quest>(alloc: Global, quest: &Q, hops: Hops, v: u64) -> Found
-    requires sound { Q.is_sound quest.now }
+fn by_address<Q: Quest>(alloc: Global, quest: &Q, hops: Hops, v: u64) -> FoundPlacement
+    requires consistent { Q.is_consistent quest.now }
     requires ready { IsSearchReady (Q.sought quest.now) }
     requires addressed { IsAddressed (Q.sought quest.now) (hops_view hops) v }
     ensures { IfOk result (λ found. IsFirstOrNone (Q.sought quest.now)
@@ -87,8 +87,8 @@ fn by_address<Q: Quest>(alloc: Global, quest: &Q, hops: Hops, v: u64) -> Found
 }
 
 /// The same with an own hop of this page: the one nearer memory first.
-fn by_page<Q: Quest>(alloc: Global, quest: &Q, hops: Hops, v: u64, page: u8) -> Found
-    requires sound { Q.is_sound quest.now }
+fn by_page<Q: Quest>(alloc: Global, quest: &Q, hops: Hops, v: u64, page: u8) -> FoundPlacement
+    requires consistent { Q.is_consistent quest.now }
     requires ready { IsSearchReady (Q.sought quest.now) }
     requires addressed { IsAddressed (Q.sought quest.now) (hops_view hops) v }
     ensures { IfOk result (λ found. IsFirstOrNone (Q.sought quest.now)
@@ -119,7 +119,7 @@ fn has_both(rights: Rights) -> bool
 
 /// Whether the hop has the page, and its slots are free.
 fn can_own<Q: Quest>(quest: &Q, hops: Hops, own: u8, page: u8) -> bool
-    requires sound { Q.is_sound quest.now }
+    requires consistent { Q.is_consistent quest.now }
     requires ready { IsSearchReady (Q.sought quest.now) }
     requires leads { Leads (Q.sought quest.now).net (Q.sought quest.now).slots
         (Q.sought quest.now).request (hops_view hops) }
@@ -137,7 +137,7 @@ fn can_own<Q: Quest>(quest: &Q, hops: Hops, own: u8, page: u8) -> bool
 
 /// The page of a hop's unit, or 0.
 fn page_of<Q: Quest>(quest: &Q, hop: Hop) -> u8
-    requires sound { Q.is_sound quest.now }
+    requires consistent { Q.is_consistent quest.now }
     requires ready { IsSearchReady (Q.sought quest.now) }
     ensures page { result ≡ hop_page (Q.sought quest.now).net (Some hop) }
     ensures most { result ≤ 40 }
@@ -150,7 +150,7 @@ fn page_of<Q: Quest>(quest: &Q, hop: Hop) -> u8
 
 /// The least page of the hops that is at least this one. None where all are below.
 fn page_from<Q: Quest>(quest: &Q, hops: Hops, from: u8) -> Option<u8>
-    requires sound { Q.is_sound quest.now }
+    requires consistent { Q.is_consistent quest.now }
     requires ready { IsSearchReady (Q.sought quest.now) }
     requires few { from ≤ 41 }
     ensures past { IfSome result (λ page. from ≤ page) }

@@ -34,19 +34,24 @@ pub data IsUsable (slots : Slots) (u : UnitPart) (hop : Hop) (slot : ℕ) : Type
   is_shared : IsHolding slots u hop slot → IsTrue (not (slots.has_owner hop.unit slot)) →
       IsUsable slots u hop slot
 
+-- A hop fits this unit for so many addresses: the unit has the port, `x` and `y` agree modulo the page,
+-- and both ends lie within.
+pub record FitsUnit (u : UnitPart) (size : ℕ) (hop : Hop) : Type 0 where
+  pub node : ℕ
+  pub is_port : slice_get u.ports hop.port ≡ Some node
+  pub agree : hop.x % 2 ^ u.page ≡ hop.y % 2 ^ u.page
+  pub within : hop.x + size ≤ u.slots * 2 ^ u.page
+  pub reached : hop.y + size ≤ 2 ^ u.reach
+
 -- a hop fits its unit and finds its slots usable, and leads to the hops nearer to memory or to memory
 pub record Joins (net : List NodeDecl) (slots : Slots) (rq : Request) (hop : Hop)
     (nearer : List Hop) : Type 0 where
   pub unit : UnitPart
   pub is_unit : unit_at net hop.unit ≡ Some unit
-  pub node : ℕ
-  pub is_port : slice_get unit.ports hop.port ≡ Some node
-  pub agree : hop.x % 2 ^ unit.page ≡ hop.y % 2 ^ unit.page
-  pub within : hop.x + rq.size ≤ unit.slots * 2 ^ unit.page
-  pub reached : hop.y + rq.size ≤ 2 ^ unit.reach
+  pub fits : FitsUnit unit rq.size hop
   pub usable : (slot : ℕ) → first_slot unit hop ≤ slot → slot ≤ last_slot unit rq.size hop →
       IsUsable slots unit hop slot
-  pub meets : Meets net rq node hop.y nearer
+  pub meets : Meets net rq fits.node hop.y nearer
 
 -- each of the hops joins those nearer to memory
 abbrev pub Leads : List NodeDecl → Slots → Request → List Hop → Type 0

@@ -19,6 +19,7 @@ pub mod Judged
 pub mod Kept
 pub mod Made
 pub mod Dumped
+pub mod OneDump
 pub mod Places
 pub mod Counted
 pub mod Drafted

@@ -1,7 +1,7 @@
 -- The text of an image: a heading with its number of bytes, and the bytes in hexadecimal.
-use Rattle.std.specs.Prelude.{ℕ, zero, suc, ◌+◌, ◌/◌, List, [], ◌++◌, take, drop, length, codes}
+use Rattle.std.specs.Prelude.{◌≡◌, ℕ, zero, suc, ◌+◌, ◌/◌, List, [], ◌++◌, take, drop, length, codes}
 use Rattle.std.specs.Fmt.{decimal}
-use Rattle.hex.specs.Hex.{encode_lower}
+use Rattle.hex.specs.Hex.{IsBytes, encode_lower}
 
 -- the heading, which has the number of bytes
 abbrev pub heading_text : ℕ → List ℕ
@@ -23,3 +23,7 @@ lines_text bytes = lines_of ((length bytes + 31) / 32) bytes
 -- the text of an image
 abbrev pub dump_text : List ℕ → List ℕ
 dump_text image = heading_text (length image) ++ lines_text image
+
+-- Two texts of images that are the same are the text of one image.
+abbrev pub DumpIsOne : Type 0
+DumpIsOne = (image other : List ℕ) → IsBytes image → IsBytes other → dump_text image ≡ dump_text other → image ≡ other

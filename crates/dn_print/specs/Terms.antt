@@ -1,5 +1,5 @@
 -- The words of the crate that clauses cite, from one place.
-pub use Rattle.dn_print.specs.Dump.{dump_text, heading_text, line_text, lines_text}
+pub use Rattle.dn_print.specs.Dump.{DumpIsOne, dump_text, heading_text, line_text, lines_text}
 pub use Rattle.dn_print.specs.Names.{Appended, address_text, dests_within, entries_within, name_text, names_text}
 pub use Rattle.dn_print.specs.Printable.{PrintableIsReadBack, TextsArePrintable}
 pub use Rattle.dn_print.specs.ReadBack.{ReadBack}

@@ -31,7 +31,7 @@ use Rattle.dn_net.proofs.Levels.{IsRow, level_is_row}
 use Rattle.dn_net.proofs.Members.{member_filter, filter_member, member_flat_map, flat_map_member}
 use Rattle.dn_net.proofs.Resolution.{name_is}
 use Rattle.dn_walk.specs.declared.walks.WalkRow.{WalkRow}
-use Rattle.dn_walk.specs.Legs.{Leg, leg_view, bare_leg, bare_legs, AreLegs}
+use Rattle.dn_walk.specs.Legs.{BareLeg, leg_view, bare_leg, bare_legs, AreLegs}
 use Rattle.dn_walk.specs.Levels.{bare_onto, bare_extensions_by}
 use Rattle.dn_walk.specs.Rows.{BareWalk, bare_walk, row_view}
 use Rattle.dn_walk.proofs.Bridge.{met_bare, each_onto}
@@ -39,15 +39,19 @@ use Rattle.dn_walk.proofs.Nodes.{legs_of_node}
 use Rattle.dn_walk.proofs.BareWalks.{rise_back}
 use Rattle.dn_walk.proofs.Ends.{end_in}
 use Rattle.dn_shape.specs.Absorb.{steps_past, rows_past}
-use Rattle.dn_shape.specs.Past.{LeadOn, onward, walks_past, bare_onward, bare_gives, bare_give}
+use Rattle.dn_shape.specs.Past.{LeadOn, onward, bare_onward, bare_gives, bare_give}
 use Rattle.dn_shape.proofs.Passing.{end_name, ends_past, ends_past_ascend, past_in}
+
+-- the walks of one choice from a node, past another
+abbrev pub walks_past : List NodeDecl → ℕ → ℕ → List Walk
+walks_past net m i = flat_map (onward net m) (extensions_of net (still_walk i))
 
 -- what is told of the walks that go on by the legs of a node
 pub bare_extensions_are : (w : Walk) (ls : List NetLeg) → bare_extensions_by (map bare_leg ls) (bare_walk w) ≡ map bare_walk (map (onto w) (filter (meets w) ls))
 bare_extensions_are w ls = ap (map (bare_onto (bare_walk w))) (met_bare w ls) ∙ each_onto w (filter (meets w) ls)
 
 -- what is told of the walks of one choice from a node
-pub first_bare : (net : List NodeDecl) (i : ℕ) (ls : List Leg) → option_map bare_legs (slice_get net i) ≡ Some ls → bare_extensions_by ls (bare_walk (still_walk i)) ≡ map bare_walk (extensions_of net (still_walk i))
+pub first_bare : (net : List NodeDecl) (i : ℕ) (ls : List BareLeg) → option_map bare_legs (slice_get net i) ≡ Some ls → bare_extensions_by ls (bare_walk (still_walk i)) ≡ map bare_walk (extensions_of net (still_walk i))
 first_bare net i ls e = by (slice_get net i) refl e
   where
     by : (o : Option NodeDecl) → slice_get net i ≡ o → option_map bare_legs o ≡ Some ls → bare_extensions_by ls (bare_walk (still_walk i)) ≡ map bare_walk (extensions_of net (still_walk i))
@@ -57,7 +61,7 @@ first_bare net i ls e = by (slice_get net i) refl e
         ap (λ l. bare_extensions_by l (bare_walk (still_walk i))) (sym s) ∙ bare_extensions_are (still_walk i) (legs n) ∙ ap (λ o. map bare_walk (map (onto (still_walk i)) (filter (meets (still_walk i)) (legs_of o)))) (sym f)
 
 -- and of a walk that goes on where it leads into the node
-pub onward_bare : (net : List NodeDecl) (m : ℕ) (ls : List Leg) → option_map bare_legs (slice_get net m) ≡ Some ls → (w : Walk) → bare_onward ls m (bare_walk w) ≡ map bare_walk (onward net m w)
+pub onward_bare : (net : List NodeDecl) (m : ℕ) (ls : List BareLeg) → option_map bare_legs (slice_get net m) ≡ Some ls → (w : Walk) → bare_onward ls m (bare_walk w) ≡ map bare_walk (onward net m w)
 onward_bare net m ls e w = by (w.to.node == m) refl (slice_get net m) refl e
   where
     by : (b : Bool) → (w.to.node == m) ≡ b → (o : Option NodeDecl) → slice_get net m ≡ o → option_map bare_legs o ≡ Some ls → (if b then bare_extensions_by ls (bare_walk w) else bare_walk w ∷ []) ≡ map bare_walk (if b then extensions_of net w else w ∷ [])
@@ -68,7 +72,7 @@ onward_bare net m ls e w = by (w.to.node == m) refl (slice_get net m) refl e
         let g : slice_get net w.to.node ≡ Some n = ap (slice_get net) (eqb-true w.to.node m h) ∙ f in
         ap (λ l. bare_extensions_by l (bare_walk w)) (sym s) ∙ bare_extensions_are w (legs n) ∙ ap (λ o. map bare_walk (map (onto w) (filter (meets w) (legs_of o)))) (sym g)
 
-pub all_bare : (net : List NodeDecl) (m : ℕ) (ls : List Leg) → option_map bare_legs (slice_get net m) ≡ Some ls → (ws : List Walk) → flat_map (bare_onward ls m) (map bare_walk ws) ≡ map bare_walk (flat_map (onward net m) ws)
+pub all_bare : (net : List NodeDecl) (m : ℕ) (ls : List BareLeg) → option_map bare_legs (slice_get net m) ≡ Some ls → (ws : List Walk) → flat_map (bare_onward ls m) (map bare_walk ws) ≡ map bare_walk (flat_map (onward net m) ws)
 all_bare net m ls e [] = refl
 all_bare net m ls e (w ∷ ws) =
     ap (λ x. x ++ flat_map (bare_onward ls m) (map bare_walk ws)) (onward_bare net m ls e w)
@@ -76,7 +80,7 @@ all_bare net m ls e (w ∷ ws) =
     ∙ sym (map-append bare_walk (onward net m w) (flat_map (onward net m) ws))
 
 -- the walks past a node, from those of one choice
-pub past_bare : (net : List NodeDecl) (m i : ℕ) (ls : List Leg) (first lent walks : List WalkRow) → option_map bare_legs (slice_get net m) ≡ Some ls → map row_view first ≡ map bare_walk (extensions_of net (still_walk i)) → lent ≡ first →
+pub past_bare : (net : List NodeDecl) (m i : ℕ) (ls : List BareLeg) (first lent walks : List WalkRow) → option_map bare_legs (slice_get net m) ≡ Some ls → map row_view first ≡ map bare_walk (extensions_of net (still_walk i)) → lent ≡ first →
     map row_view walks ≡ flat_map (bare_onward ls m) (map row_view lent) → map row_view walks ≡ map bare_walk (walks_past net m i)
 past_bare net m i ls first lent walks e one same more =
     more
@@ -89,11 +93,11 @@ pub legs_lead : (net : List NodeDecl) → KeepsNodeRules net → (i : ℕ) (segs
 legs_lead net rules i segs l e = by (item_there net i l)
   where
     lead : AreLegs (length net) (map leg_view segs) → LeadOn segs
-    lead h = record { firsts = rise_back leg_view (λ (l : Leg). l.lo) segs h.firsts; lasts = rise_back leg_view (λ (l : Leg). l.hi) segs h.lasts }
+    lead h = record { firsts = rise_back leg_view (λ (l : BareLeg). l.lo) segs h.firsts; lasts = rise_back leg_view (λ (l : BareLeg). l.hi) segs h.lasts }
 
     by : (n : NodeDecl) × (slice_get net i ≡ Some n) → LeadOn segs
     by (n, at) =
-        let s : ◌≡◌ {A = Option (List Leg)} (Some (bare_legs n)) (Some (map leg_view segs)) = ap (option_map bare_legs) (sym at) ∙ e in
+        let s : ◌≡◌ {A = Option (List BareLeg)} (Some (bare_legs n)) (Some (map leg_view segs)) = ap (option_map bare_legs) (sym at) ∙ e in
         let t : bare_legs n ≡ map leg_view segs = cc in
         lead (subst (AreLegs (length net)) t (legs_of_node net rules i n at))
 

@@ -1,12 +1,12 @@
 -- The walks that lead from a node past another, of which the rows are made.
 use Rattle.std.specs.Prelude.{ℕ, ◌+◌, ◌-◌, Bool, if◌then◌else◌, ◌&&◌, nat_le, nat_eq, ◌==◌, List, [], ◌∷◌}
-use Rattle.std.specs.List.{flat_map, list_any}
+use Rattle.std.specs.List.{list_any}
 use Rattle.std.specs.List.Sorted.{IsNonDecreasingBy}
 use Rattle.dn_interval.specs.declared.row.End.{End}
 use Rattle.dn_interval.specs.declared.row.Seg.{Seg}
 use Rattle.dn_net.specs.declared.node.NodeDecl.{NodeDecl}
-use Rattle.dn_net.specs.Walks.{Walk, extensions_of, still_walk}
-use Rattle.dn_walk.specs.Legs.{Leg}
+use Rattle.dn_net.specs.Walks.{Walk, extensions_of}
+use Rattle.dn_walk.specs.Legs.{BareLeg}
 use Rattle.dn_walk.specs.Rows.{BareWalk}
 use Rattle.dn_walk.specs.Levels.{bare_extensions_by}
 
@@ -14,12 +14,8 @@ use Rattle.dn_walk.specs.Levels.{bare_extensions_by}
 abbrev pub onward : List NodeDecl → ℕ → Walk → List Walk
 onward net m w = if w.to.node == m then extensions_of net w else w ∷ []
 
--- the walks of one choice from a node, past another
-abbrev pub walks_past : List NodeDecl → ℕ → ℕ → List Walk
-walks_past net m i = flat_map (onward net m) (extensions_of net (still_walk i))
-
 -- the same of what is told of a walk, by the legs of the node
-abbrev pub bare_onward : List Leg → ℕ → BareWalk → List BareWalk
+abbrev pub bare_onward : List BareLeg → ℕ → BareWalk → List BareWalk
 bare_onward legs m t = if t.end == m then bare_extensions_by legs t else t ∷ []
 
 -- legs by which walks go on: neither their first nor their last addresses descend

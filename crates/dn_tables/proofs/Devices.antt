@@ -1,12 +1,13 @@
 -- The tables of a set, as a device tells them.
-use Rattle.std.proofs.Common.{◌≡◌, ℕ, zero, suc, ◌+◌, ◌<◌, true, false, if◌then◌else◌, nat_lt, ◌==◌, List, [], ◌∷◌, ◌++◌, length, slice_set, Option, Some, None, IfSome, refl, sym, ap, ◌∙◌, subst, arith}
+use Rattle.std.proofs.Common.{◌≡◌, ℕ, zero, suc, ◌+◌, ◌<◌, true, false, if◌then◌else◌, nat_lt, ◌==◌, List, [], ◌∷◌, ◌++◌, map, length, slice_set, Option, Some, None, IfSome, refl, sym, ap, ap₂, ◌∙◌, subst, arith}
 use Rattle.std.specs.Option.{option_map}
 use Rattle.dn_base.proofs.Orders.{lt-ltb, eq-eqb, ne_eqb}
 use Rattle.dn_base.specs.Device.{UnitSize, sizes_of, has_word, with_word}
 use Rattle.dn_base.specs.declared.device.UnitWords.{UnitWords}
+use Rattle.dn_net.specs.declared.node.NodeDecl.{NodeDecl}
 use Rattle.dn_net.specs.declared.node.Unit.{Unit as UnitPart}
 use Rattle.dn_tables.specs.declared.table.NodeTable.{NodeTable}
-use Rattle.dn_tables.specs.Set.{unit_in, words_in, table_on_device, tables_from, tables_of_set, with_table, with_words, IsOnDevice}
+use Rattle.dn_tables.specs.Set.{unit_in, units_of, words_in, words_of, device_tables, table_on_device, tables_from, tables_of_set, tables_told, with_table, with_words, IsOnDevice}
 use Rattle.dn_tables.specs.Writes.{WordWrite, words_after, device_after, set_after}
 use Rattle.dn_tables.proofs.Kept.{with_table_twice, no_change}
 use Rattle.dn_tables.proofs.Values.{length_after}
@@ -96,3 +97,7 @@ on_device_after writes set set' node u units units' told told' e d same on_devic
   units = same ∙ d.units ∙ sym (sizes_after writes set 0 node) ∙ ap (λ s. sizes_of (tables_of_set s)) (sym kept);
   words = subst (λ s. IfSome told' (λ tables. tables ≡ tables_of_set s)) (sym kept) (subst (λ o. IfSome o (λ tables. tables ≡ tables_of_set (set_after node writes set))) (sym on_device) (told_after writes set node u told e d.words));
 }
+
+-- the tables of a set, told of the net that it belongs to
+pub device_told : (set : List NodeTable) (net : List NodeDecl) (words : List (List ℕ)) → units_of set ≡ map (λ n. n.unit) net → words_of set ≡ words → tables_of_set set ≡ device_tables 0 net words
+device_told set net words e f = ap₂ (tables_told 0) e f

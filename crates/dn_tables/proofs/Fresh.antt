@@ -1,5 +1,5 @@
 -- The set that is made of a net, and its units on a device.
-use Rattle.std.proofs.Common.{◌≡◌, ℕ, zero, suc, ◌+◌, ◌*◌, ◌<◌, ◌≤◌, Bool, true, false, ◌&&◌, ◌||◌, ◌==◌, nat_le, List, [], ◌∷◌, ◌++◌, map, take, drop, length, replicate, slice_get, Option, Some, None, IsTrue, is_some, eqb-true, refl, sym, ap, ◌∙◌, subst, arith, append_assoc, append-nil, length-append}
+use Rattle.std.proofs.Common.{◌≡◌, ℕ, zero, suc, ◌+◌, ◌*◌, ◌<◌, ◌≤◌, inl, Bool, true, false, ◌&&◌, ◌||◌, ◌==◌, nat_le, List, [], ◌∷◌, ◌++◌, map, take, drop, length, replicate, slice_get, Option, Some, None, IsTrue, is_some, eqb-true, refl, sym, ap, ◌∙◌, subst, arith, append_assoc, append-nil, length-append}
 use Rattle.std.specs.List.{All, list_all}
 use Rattle.std.proofs.lemmas.List.{length-replicate, take_at, take_all, map-append}
 use Rattle.std.proofs.lemmas.Option.{same_Some}
@@ -247,19 +247,21 @@ units_stopped nodes k t done failed log log' log'' sizes sizes' told told' told'
       made = length T;
       all = λ h. let x : ◌≡◌ {A = Bool} false true = sym d ∙ h in cc;
       less = λ h. omega arith;
+      unfinished = λ h. inl (omega arith);
       units = e ∙ so_far ∙ ap sizes_of (sym front);
       logged = subst (λ o. Logged log o (map make_event (take (length T) (tables_of_set nodes)))) (sym g) (subst (λ l. Logged log log' (map make_event l)) (sym front) logged);
       on_device = f ∙ on_device ∙ ap (λ (l : List UnitWords). option_map (λ before. before ++ l) told) (sym front);
     }
 
 -- all units were made
-pub units_all : (nodes : List NodeTable) (k : ℕ) (done failed : Bool) (log log' : Option (List TableEvent)) (sizes : List UnitSize) (told told' : Option (List UnitWords)) → length nodes ≤ k → failed ≡ false → sizes ≡ sizes_of (tables_of_set (take k nodes)) → Logged log log' (map make_event (tables_of_set (take k nodes))) → told' ≡ option_map (λ before. before ++ tables_of_set (take k nodes)) told → AreUnitsMade (tables_of_set nodes) done failed log log' sizes told told'
-units_all nodes k done failed log log' sizes told told' l f so_far logged on_device =
+pub units_all : (nodes : List NodeTable) (k : ℕ) (done failed : Bool) (log log' : Option (List TableEvent)) (sizes : List UnitSize) (told told' : Option (List UnitWords)) → length nodes ≤ k → done ≡ true → failed ≡ false → sizes ≡ sizes_of (tables_of_set (take k nodes)) → Logged log log' (map make_event (tables_of_set (take k nodes))) → told' ≡ option_map (λ before. before ++ tables_of_set (take k nodes)) told → AreUnitsMade (tables_of_set nodes) done failed log log' sizes told told'
+units_all nodes k done failed log log' sizes told told' l d f so_far logged on_device =
     let whole : tables_of_set (take k nodes) ≡ take (length (tables_of_set nodes)) (tables_of_set nodes) = ap tables_of_set (take_all k nodes l) ∙ sym (take_all (length (tables_of_set nodes)) (tables_of_set nodes) (omega arith)) in
     record {
       made = length (tables_of_set nodes);
       all = λ h. refl;
       less = λ h. let x : ◌≡◌ {A = Bool} false true = sym f ∙ h in cc;
+      unfinished = λ h. let x : ◌≡◌ {A = Bool} false true = sym h ∙ d in cc;
       units = so_far ∙ ap sizes_of whole;
       logged = subst (λ l. Logged log log' (map make_event l)) whole logged;
       on_device = on_device ∙ ap (λ (l : List UnitWords). option_map (λ before. before ++ l) told) whole;

@@ -127,10 +127,25 @@ abbrev pub table_on_device : ℕ → List ℕ → Option UnitPart → List UnitW
 table_on_device node ws None = []
 table_on_device node ws (Some u) = record { unit = node; words = ws } ∷ []
 
--- the tables of nodes from a number on, as a device tells them: those of units, ascending
+-- the first list of words, where there is one
+abbrev pub first_words : List (List ℕ) → List ℕ
+first_words [] = []
+first_words (ws ∷ rest) = ws
+
+-- the tables of nodes from a number on that are these units and have these words, as a device tells them: those of
+-- units, ascending
+abbrev pub tables_told : ℕ → List (Option UnitPart) → List (List ℕ) → List UnitWords
+tables_told node [] words = []
+tables_told node (o ∷ units) words =
+    table_on_device node (first_words words) o ++ tables_told (suc node) units (drop 1 words)
+
+-- the tables of nodes of a net from a number on with these words, as a device tells them
+abbrev pub device_tables : ℕ → List NodeDecl → List (List ℕ) → List UnitWords
+device_tables node net words = tables_told node (map (λ n. n.unit) net) words
+
+-- the tables of a set whose first has this number, as a device tells them
 abbrev pub tables_from : ℕ → List NodeTable → List UnitWords
-tables_from node [] = []
-tables_from node (t ∷ ts) = table_on_device node t.words t.unit ++ tables_from (suc node) ts
+tables_from node set = tables_told node (units_of set) (words_of set)
 
 -- the tables of a set, as a device tells them
 abbrev pub tables_of_set : List NodeTable → List UnitWords

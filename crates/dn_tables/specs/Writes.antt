@@ -1,5 +1,5 @@
 -- Writes of words: in which order a record is put and cleared, and what stands after so many of the writes.
-use Rattle.std.specs.Prelude.{◌≡◌, ℕ, suc, ◌+◌, ◌-◌, ◌*◌, ◌<◌, Bool, true, false, List, [], ◌∷◌, ◌++◌, map, length, take, replicate, slice_set, Option}
+use Rattle.std.specs.Prelude.{◌≡◌, ℕ, suc, ◌+◌, ◌-◌, ◌*◌, ◌<◌, ◌⊎◌, Bool, true, false, List, [], ◌∷◌, ◌++◌, map, length, take, replicate, slice_set, Option}
 use Rattle.std.specs.Option.{option_map}
 use Rattle.dn_base.specs.Device.{Logged, UnitSize, size_of, with_word}
 use Rattle.dn_base.specs.declared.device.TableEvent.{TableEvent}
@@ -80,14 +80,16 @@ AreMade unit = AreDone (set_after unit) unit
 abbrev pub make_event : UnitWords → TableEvent
 make_event t = Make t.unit (length t.words)
 
--- units were made in order on a device that had none: all of them; or else a prefix of them, which lacks at least the
--- last one where the device failed
+-- Units were made in order on a device that had none: all of them, or else a prefix of them, which lacks at least the
+-- last one where the device failed. Where the call did not come through, the prefix lacks the last one or is empty: all
+-- memory but that of the device is taken before the first is made.
 pub record AreUnitsMade (tables : List UnitWords) (done failed : Bool)
     (log log' : Option (List TableEvent)) (units' : List UnitSize) (told told' : Option (List UnitWords))
     : Type 0 where
   pub made : ℕ
   pub all : done ≡ true → made ≡ length tables
   pub less : failed ≡ true → made < length tables
+  pub unfinished : done ≡ false → (made < length tables) ⊎ (made ≡ 0)
   pub units : units' ≡ map size_of (take made tables)
   pub logged : Logged log log' (map make_event (take made tables))
   pub on_device : told' ≡ option_map (λ before. before ++ take made tables) told

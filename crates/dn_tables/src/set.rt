@@ -3,17 +3,17 @@
 ghost use Rattle.std.specs.Prelude.{◌≡◌, ◌+◌, ◌-◌, ◌^◌, ◌<◌, ◌≤◌, ◌⊎◌, ◌++◌, [], ◌∷◌, false, length, map, replicate, List, Option, Some, None, IsSome, IfOk, OnOk, OnErr, IsTrue, is_err, is_ok};
 ghost use Rattle.std.specs.List.{All, list_all};
 ghost use Rattle.std.specs.Option.{option_map};
-ghost use Rattle.dn_base.specs.Terms.{IsCounted, Logged, has_unit, is_make_fault, sizes_of};
-ghost use Rattle.dn_kind.specs.Terms.{IsLawful, KeepsUnitShape, Meaning, slot_words};
+ghost use Rattle.dn_base.specs.Terms.{IsCounted, Logged, has_unit, is_device_fault, sizes_of};
+ghost use Rattle.dn_kind.specs.Terms.{AreKinds, IsLawful, IsShaped, Meaning, kinds_of, slot_words};
 ghost use Rattle.dn_tables.specs.Terms.{AreMade, AreUnitsMade, FitsNet, IsEmpty, IsOnDevice, IsPackableIn, IsSet, KeepsFit, clear_writes, fits_kinds, fresh_set, has_slot, is_sized, is_zero, make_event, packed_in, put_writes, record_kept, table_on_device, tables_of_set, unit_in, use_in, width_in, with_slot, with_use, words_in};
 
 use crate::table::{NodeTable, SlotUse};
 use crate::words::SlotWords;
-use dn_base::device::{DeviceFault, MakeFault, Tables};
+use dn_base::device::{DeviceFault, DeviceOrMemory, Tables};
 use dn_base::filled::Filled;
+use dn_kind::kinded::KindedNet;
 use dn_kind::kinds::Kinds;
 use dn_kind::unit_kind::Record;
-use dn_net::net::Net;
 use std::alloc::{AllocError, Global};
 use std::marker::Model;
 
@@ -44,32 +44,28 @@ impl TableSet {
     ///
     /// `Device` only where the device's count of faults rose in this call, or stands at the last
     /// value of its counter: the units that were made are then a prefix of those of the net, which
-    /// lacks at least the last one. `OutOfMemory` for want of memory: those that were made are any
-    /// prefix. Nothing else was done to the device.
+    /// lacks at least the last one. `OutOfMemory` for want of memory: none were made, or a prefix that
+    /// lacks at least the last one. Nothing else was done to the device.
     pub fn make<D: Tables>(
         alloc: Global,
-        net: &Net,
-        kinds: &Kinds,
+        on: KindedNet,
         device: &mut D,
-    ) -> Result<TableSet, MakeFault>
-        requires lawful { All (λ k. IsLawful (meaning (k.vtable, k.value))) kinds.now.list.items }
-        requires shaped { KeepsUnitShape
-            (map (λ k. meaning (k.vtable, k.value)) kinds.now.list.items) net.now }
+    ) -> Result<TableSet, DeviceOrMemory>
+        requires on { IsShaped meaning on }
         requires none { D.units device.old ≡ [] }
         ensures ok { IfOk result (λ set. set
-            ≡ fresh_set (map (λ k. meaning (k.vtable, k.value)) kinds.now.list.items) net.now) }
-        ensures fits { IfOk result (λ set. FitsNet net.now
-            (map (λ k. meaning (k.vtable, k.value)) kinds.now.list.items) set) }
+            ≡ fresh_set (kinds_of meaning on.entry.kinds.now) on.entry.net.now) }
+        ensures fits { IfOk result
+            (λ set. FitsNet on.entry.net.now (kinds_of meaning on.entry.kinds.now) set) }
         ensures on_device { IfOk result (λ set.
             IsOnDevice set (D.units device.new) (D.words device.new)) }
-        ensures made { AreUnitsMade
-            (tables_of_set (fresh_set (map (λ k. meaning (k.vtable, k.value)) kinds.now.list.items) net.now))
-            (is_ok result) (is_make_fault result) (D.log device.old) (D.log device.new)
-            (D.units device.new) (D.words device.old) (D.words device.new) }
+        ensures made { AreUnitsMade (tables_of_set (fresh_set (kinds_of meaning on.entry.kinds.now)
+            on.entry.net.now)) (is_ok result) (is_device_fault result) (D.log device.old)
+            (D.log device.new) (D.units device.new) (D.words device.old) (D.words device.new) }
         ensures counted { IsCounted (D.faults device.old)
-            (D.faults device.new) (is_make_fault result) }
+            (D.faults device.new) (is_device_fault result) }
     {
-        let set = fresh_set(alloc, net, kinds).or(Err(MakeFault::OutOfMemory))?;
+        let set = fresh_set(alloc, on).or(Err(DeviceOrMemory::OutOfMemory))?;
         make_units(set.nodes.as_slice(), device)?;
         Ok(set)
     }
@@ -98,27 +94,21 @@ impl TableSet {
         record: Record,
         device: &mut D,
     ) -> Result<(), DeviceFault>
-        requires lawful { All (λ k. IsLawful (meaning (k.vtable, k.value))) kinds.now.list.items }
-        requires fits { IsTrue (fits_kinds
-            (map (λ k. meaning (k.vtable, k.value)) kinds.now.list.items) self.old) }
+        requires kinds { AreKinds meaning kinds.now }
+        requires fits { IsTrue (fits_kinds (kinds_of meaning kinds.now) self.old) }
         requires on_device { IsOnDevice self.old (D.units device.old) (D.words device.old) }
         requires there { IsTrue (has_slot self.old unit slot) }
         requires empty { IsEmpty self.old unit slot }
-        requires packable { IsPackableIn
-            (map (λ k. meaning (k.vtable, k.value)) kinds.now.list.items)
-            self.old unit «record» }
+        requires packable { IsPackableIn (kinds_of meaning kinds.now) self.old unit «record» }
         ensures ok { OnOk result (self.new ≡ with_slot self.old unit slot
-            (packed_in (map (λ k. meaning (k.vtable, k.value)) kinds.now.list.items) self.old unit «record»)) }
-        ensures recorded { OnOk result (record_kept
-            (map (λ k. meaning (k.vtable, k.value)) kinds.now.list.items)
-            self.new unit slot ≡ Some «record») }
-        ensures made { AreMade unit
-            (put_writes (map (λ k. meaning (k.vtable, k.value)) kinds.now.list.items) self.old unit slot «record»)
-            (is_err result) (D.log device.old) (D.log device.new)
-            (D.words device.old) (D.words device.new) self.old self.new }
-        ensures stopped { OnErr result (record_kept
-            (map (λ k. meaning (k.vtable, k.value)) kinds.now.list.items)
-            self.new unit slot ≡ None) }
+            (packed_in (kinds_of meaning kinds.now) self.old unit «record»)) }
+        ensures recorded { OnOk result (record_kept (kinds_of meaning kinds.now) self.new unit slot
+            ≡ Some «record») }
+        ensures made { AreMade unit (put_writes (kinds_of meaning kinds.now)
+            self.old unit slot «record») (is_err result) (D.log device.old)
+            (D.log device.new) (D.words device.old) (D.words device.new) self.old self.new }
+        ensures stopped { OnErr result (record_kept (kinds_of meaning kinds.now) self.new unit slot
+            ≡ None) }
         ensures fits { KeepsFit self.old self.new }
         ensures on_device { IsOnDevice self.new (D.units device.new) (D.words device.new) }
         ensures counted { IsCounted (D.faults device.old) (D.faults device.new) (is_err result) }
@@ -161,12 +151,10 @@ impl TableSet {
     /// The record that a slot holds. `None` exactly where its words spell none, where the port is
     /// none of the unit's, or where the output is past its reach.
     pub fn record_at(&self, kinds: &Kinds, unit: u16, slot: u32) -> Option<Record>
-        requires lawful { All (λ k. IsLawful (meaning (k.vtable, k.value))) kinds.now.list.items }
-        requires fits { IsTrue (fits_kinds
-            (map (λ k. meaning (k.vtable, k.value)) kinds.now.list.items) self.now) }
+        requires kinds { AreKinds meaning kinds.now }
+        requires fits { IsTrue (fits_kinds (kinds_of meaning kinds.now) self.now) }
         requires there { IsTrue (has_slot self.now unit slot) }
-        ensures { result ≡ record_kept (map (λ k. meaning (k.vtable, k.value)) kinds.now.list.items)
-            self.now unit slot }
+        ensures { result ≡ record_kept (kinds_of meaning kinds.now) self.now unit slot }
     {
         let table = &self.nodes[usize::from(unit)];
         table.record_at(kinds, slot)
@@ -250,31 +238,30 @@ impl TableSet {
 }
 
 /// The set of a net with words 0 and no use.
-fn fresh_set(alloc: Global, net: &Net, kinds: &Kinds) -> Result<TableSet, AllocError>
-    requires lawful { All (λ k. IsLawful (meaning (k.vtable, k.value))) kinds.now.list.items }
-    requires shaped { KeepsUnitShape
-        (map (λ k. meaning (k.vtable, k.value)) kinds.now.list.items) net.now }
+fn fresh_set(alloc: Global, on: KindedNet) -> Result<TableSet, AllocError>
+    requires on { IsShaped meaning on }
     ensures { IfOk result (λ set. set
-        ≡ fresh_set (map (λ k. meaning (k.vtable, k.value)) kinds.now.list.items) net.now) }
+        ≡ fresh_set (kinds_of meaning on.entry.kinds.now) on.entry.net.now) }
 {
-    net.facts();
+    on.net.facts();
     let mut nodes = Vec::new(alloc);
-    for node in 0..net.nodes() {
-        nodes.push(NodeTable::fresh_table(alloc, net.unit(node), kinds)?)?;
+    for node in 0..on.net.nodes() {
+        nodes.push(NodeTable::fresh_table(alloc, on.net.unit(node), on.kinds)?)?;
     }
     Ok(TableSet { nodes })
 }
 
 /// Makes the units of nodes on a device that has none.
-fn make_units<D: Tables>(nodes: &[NodeTable], device: &mut D) -> Result<(), MakeFault>
+fn make_units<D: Tables>(nodes: &[NodeTable], device: &mut D) -> Result<(), DeviceOrMemory>
     requires few { length nodes.now ≤ 1024 }
     requires sized { IsTrue (list_all is_sized nodes.now) }
     requires zero { IsTrue (list_all is_zero nodes.now) }
     requires none { D.units device.old ≡ [] }
     ensures made { AreUnitsMade (tables_of_set nodes.now)
-        (is_ok result) (is_make_fault result) (D.log device.old) (D.log device.new)
+        (is_ok result) (is_device_fault result) (D.log device.old) (D.log device.new)
         (D.units device.new) (D.words device.old) (D.words device.new) }
-    ensures counted { IsCounted (D.faults device.old) (D.faults device.new) (is_make_fault result) }
+    ensures counted { IsCounted (D.faults device.old) (D.faults device.new)
+        (is_device_fault result) }
 {
     for (node, table) in nodes.iter().enumerate() {
         make_unit(table, node as u16, device)?;
@@ -283,7 +270,7 @@ fn make_units<D: Tables>(nodes: &[NodeTable], device: &mut D) -> Result<(), Make
 }
 
 /// Makes the unit of a node, where it is one.
-fn make_unit<D: Tables>(table: &NodeTable, node: u16, device: &mut D) -> Result<(), MakeFault>
+fn make_unit<D: Tables>(table: &NodeTable, node: u16, device: &mut D) -> Result<(), DeviceOrMemory>
     requires few { length table.now.words < 2 ^ 32 }
     requires zero { IsTrue (is_zero table.now) }
     requires new { has_unit (D.units device.old) node ≡ false }
@@ -296,7 +283,8 @@ fn make_unit<D: Tables>(table: &NodeTable, node: u16, device: &mut D) -> Result<
     ensures some { OnErr result (IsSome table.now.unit) }
     ensures same { OnErr result ((D.units device.new ≡ D.units device.old)
         × (D.words device.new ≡ D.words device.old) × (D.log device.new ≡ D.log device.old)) }
-    ensures counted { IsCounted (D.faults device.old) (D.faults device.new) (is_make_fault result) }
+    ensures counted { IsCounted (D.faults device.old) (D.faults device.new)
+        (is_device_fault result) }
 {
     match &table.unit {
         Some(_) => device.make(node, table.words.len() as u32),

@@ -1,11 +1,10 @@
 //! The table of one node: the words of a unit's slots, and who uses each slot.
 
-ghost use Rattle.std.specs.Prelude.{◌≡◌, ◌++◌, ℕ, ◌+◌, ◌*◌, ◌-◌, ◌<◌, ◌≤◌, ◌^◌, [], true, length, map, replicate, slice_get, Option, Some, None, IfOk, IsTrue, is_err};
-ghost use Rattle.std.specs.List.{All};
+ghost use Rattle.std.specs.Prelude.{◌≡◌, ◌++◌, ℕ, ◌+◌, ◌*◌, ◌-◌, ◌<◌, ◌≤◌, ◌^◌, [], true, length, replicate, slice_get, Option, Some, None, IfOk, IsTrue, is_err};
 ghost use Rattle.std.specs.Option.{option_copied};
 ghost use Rattle.dn_base.specs.Terms.{IsCounted, has_word};
 ghost use Rattle.dn_net.specs.declared.node.Unit.{Unit as UnitPart};
-ghost use Rattle.dn_kind.specs.Terms.{IsLawful, IsPackable, Meaning, gate_word, has_shape, is_shaped, record_of_unit, slot_words, unit_shape};
+ghost use Rattle.dn_kind.specs.Terms.{AreKinds, IsPackable, Meaning, gate_word, has_shape, is_shaped, kinds_of, record_of_unit, slot_words, unit_shape};
 ghost use Rattle.dn_tables.specs.Terms.{AreWordsWritten, HasSlot, clears_from, fits_by, fresh_by, packed_for, width_by, with_words, writes_from};
 
 use crate::words::SlotWords;
@@ -49,12 +48,10 @@ impl NodeTable {
         unit: Option<&Unit>,
         kinds: &Kinds,
     ) -> Result<NodeTable, AllocError>
-        requires lawful { All (λ k. IsLawful (meaning (k.vtable, k.value))) kinds.now.list.items }
-        requires shaped { IsTrue (has_shape
-            (map (λ k. meaning (k.vtable, k.value)) kinds.now.list.items)
-            (option_copied unit)) }
+        requires kinds { AreKinds meaning kinds.now }
+        requires shaped { IsTrue (has_shape (kinds_of meaning kinds.now) (option_copied unit)) }
         ensures { IfOk result (λ table. table
-            ≡ fresh_by (map (λ k. meaning (k.vtable, k.value)) kinds.now.list.items) (option_copied unit.entry)) }
+            ≡ fresh_by (kinds_of meaning kinds.now) (option_copied unit.entry)) }
     {
         match unit {
             Some(unit) => fresh_unit(alloc, unit, kinds),
@@ -89,14 +86,11 @@ impl NodeTable {
     /// The record that a slot holds. `None` exactly where its words spell none, where the port is
     /// none of the unit's, or where the output is past its reach.
     pub(crate) fn record_at(&self, kinds: &Kinds, slot: u32) -> Option<Record>
-        requires lawful { All (λ k. IsLawful (meaning (k.vtable, k.value))) kinds.now.list.items }
-        requires fits { IsTrue (fits_by
-            (map (λ k. meaning (k.vtable, k.value)) kinds.now.list.items)
-            self.now.width self.now.unit) }
+        requires kinds { AreKinds meaning kinds.now }
+        requires fits { IsTrue (fits_by (kinds_of meaning kinds.now) self.now.width self.now.unit) }
         requires slot { HasSlot self.now slot }
-        ensures { result ≡ record_of_unit
-            (map (λ k. meaning (k.vtable, k.value)) kinds.now.list.items)
-            self.now.unit (Some self.now.words) slot }
+        ensures { result
+            ≡ record_of_unit (kinds_of meaning kinds.now) self.now.unit (Some self.now.words) slot }
     {
         // Most slots hold none, and this tells it without a look at the kind.
         if self.gate(slot) == 0 {
@@ -125,19 +119,16 @@ impl NodeTable {
         slot: u32,
         record: Record,
     ) -> Result<(), DeviceFault>
-        requires lawful { All (λ k. IsLawful (meaning (k.vtable, k.value))) kinds.now.list.items }
-        requires fits { IsTrue (fits_by
-            (map (λ k. meaning (k.vtable, k.value)) kinds.now.list.items)
-            self.old.width self.old.unit) }
+        requires kinds { AreKinds meaning kinds.now }
+        requires fits { IsTrue (fits_by (kinds_of meaning kinds.now) self.old.width self.old.unit) }
         requires slot { HasSlot self.old slot }
-        requires packable { (u : UnitPart) (kind : Meaning) → self.old.unit ≡ Some u →
-            slice_get (map (λ k. meaning (k.vtable, k.value)) kinds.now.list.items) u.kind ≡ Some kind →
-            IsPackable kind (unit_shape u) «record» }
+        requires packable { (u : UnitPart) (kind : Meaning)
+            → self.old.unit ≡ Some u → slice_get (kinds_of meaning kinds.now) u.kind
+            ≡ Some kind → IsPackable kind (unit_shape u) «record» }
         requires on_device { (word : ℕ) → word < length self.old.words →
             has_word (D.units device.old) unit word ≡ true }
-        ensures written { AreWordsWritten unit
-            (writes_from (slot * self.old.width)
-            (packed_for (map (λ k. meaning (k.vtable, k.value)) kinds.now.list.items) self.old.unit «record»))
+        ensures written { AreWordsWritten unit (writes_from (slot * self.old.width)
+            (packed_for (kinds_of meaning kinds.now) self.old.unit «record»))
             (is_err result) (D.log device.old) (D.log device.new)
             (D.words device.old) (D.words device.new) self.old.words self.new.words }
         ensures same { self.new ≡ with_words self.old self.new.words }
@@ -182,14 +173,12 @@ impl NodeTable {
 
 /// Leaves the words of a record in the first places, and 0 in the others.
 fn pack(kinds: &Kinds, unit: &Unit, record: Record, packed: &mut [u64; 4])
-    requires lawful { All (λ k. IsLawful (meaning (k.vtable, k.value))) kinds.now.list.items }
+    requires kinds { AreKinds meaning kinds.now }
     requires known { unit.now.kind < length kinds.now.list.items }
-    requires packable { (kind : Meaning) →
-        slice_get (map (λ k. meaning (k.vtable, k.value)) kinds.now.list.items) unit.now.kind ≡ Some kind →
-        IsPackable kind (unit_shape unit.now) «record» }
-    ensures { packed.new ≡ packed_for
-        (map (λ k. meaning (k.vtable, k.value)) kinds.now.list.items) (Some unit.now) «record»
-        ++ replicate (4 - width_by (slice_get (map (λ k. meaning (k.vtable, k.value)) kinds.now.list.items) unit.now.kind)) 0 }
+    requires packable { (kind : Meaning) → slice_get (kinds_of meaning kinds.now) unit.now.kind
+        ≡ Some kind → IsPackable kind (unit_shape unit.now) «record» }
+    ensures { packed.new ≡ packed_for (kinds_of meaning kinds.now) (Some unit.now) «record»
+        ++ replicate (4 - width_by (slice_get (kinds_of meaning kinds.now) unit.now.kind)) 0 }
 {
     let kind = kinds.kind(usize::from(unit.kind));
     pack_by(&**kind, unit, record, packed);
@@ -206,11 +195,9 @@ fn pack_by(kind: &dyn UnitKind, unit: &Unit, record: Record, packed: &mut [u64; 
 
 /// The table of a unit with words 0 and no use.
 fn fresh_unit(alloc: Global, unit: &Unit, kinds: &Kinds) -> Result<NodeTable, AllocError>
-    requires lawful { All (λ k. IsLawful (meaning (k.vtable, k.value))) kinds.now.list.items }
-    requires shaped { IsTrue (is_shaped
-        (map (λ k. meaning (k.vtable, k.value)) kinds.now.list.items) unit.now) }
-    ensures { IfOk result (λ table. table
-        ≡ fresh_by (map (λ k. meaning (k.vtable, k.value)) kinds.now.list.items) (Some unit.now)) }
+    requires kinds { AreKinds meaning kinds.now }
+    requires shaped { IsTrue (is_shaped (kinds_of meaning kinds.now) unit.now) }
+    ensures { IfOk result (λ table. table ≡ fresh_by (kinds_of meaning kinds.now) (Some unit.now)) }
 {
     let width = kinds.kind(usize::from(unit.kind)).words();
     let words = Filled::new(alloc, 0, unit.slots as usize * usize::from(width))?;

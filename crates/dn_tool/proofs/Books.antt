@@ -64,7 +64,7 @@ revoke_keeps kinds net s id t legal b (inl g) = along net t _ g.is_turn (without
 revoke_keeps kinds net s id t legal b (inr r) = along net t _ r.is_turn b
 
 -- each turn keeps the book
-turn_keeps : (kinds : List Meaning) (net : List NodeDecl) (s : State) (c : Command) (t : Turn) → IsLegalNet net → IsKeptFaithful net s.book → IsTurn kinds net s c t → IsKeptFaithful net t.next.book
+pub turn_keeps : (kinds : List Meaning) (net : List NodeDecl) (s : State) (c : Command) (t : Turn) → IsLegalNet net → IsKeptFaithful net s.book → IsTurn kinds net s c t → IsKeptFaithful net t.next.book
 turn_keeps kinds net s (Grant id from target base size m) t legal b is = grant_keeps kinds net s id (request_of from target base size m) t legal (rights_there m) b is
 turn_keeps kinds net s (Route id from line target) t legal b is = route_keeps kinds net s id (number_or_none from.node) line (number_or_none target.node) t legal b is
 turn_keeps kinds net s (Revoke id) t legal b is = revoke_keeps kinds net s id t legal b is

@@ -1,6 +1,6 @@
 -- From what grants, routes and revokes say to the turns of a script.
 use Rattle.std.specs.Option.{IfSome, option_map}
-use Rattle.std.proofs.Common.{◌≡◌, ◌≢◌, ◌∙◌, ap, sym, subst, refl, arith, ℕ, ◌<◌, ◌⊎◌, inl, inr, Bool, true, false, List, [], ◌∷◌, take, length, Option, Some, None, Result, Ok, Err, is_ok, IsTrue, OnOk, ◌==◌, ◌||◌, eqb-true}
+use Rattle.std.proofs.Common.{◌≡◌, ◌≢◌, ◌∙◌, ap, sym, subst, refl, arith, ℕ, ◌<◌, ◌⊎◌, inl, inr, Bool, true, false, List, [], ◌∷◌, take, length, Option, Some, None, Result, Ok, Err, is_ok, OnOk, ◌==◌, ◌||◌, eqb-true}
 use Rattle.std.proofs.Math.Seq.{take-length}
 use Rattle.dn_base.specs.declared.device.TableEvent.{TableEvent}
 use Rattle.dn_base.specs.Device.{Logged}
@@ -34,13 +34,13 @@ use Rattle.dn_book.specs.Book.{IsFaithful}
 use Rattle.dn_book.specs.State.{BookState}
 use Rattle.dn_book.specs.Tables.{IsKept}
 use Rattle.dn_flat.specs.Levels.{AreFlats}
-use Rattle.dn_image.specs.Image.{are_filled, image}
+use Rattle.dn_image.specs.Image.{image}
 use Rattle.dn_tables.specs.Set.{words_of}
 use Rattle.dn_module.specs.declared.command.Command.{Command}
 use Rattle.dn_module.specs.declared.command.Command.TheVariants.{Resolve, Lookup, View, Grant as GrantOf, Route, Revoke, Dump, Split, Absorb}
-use Rattle.dn_tool.specs.declared.state.State.{State as Kept}
-use Rattle.dn_tool.specs.declared.halt.Halt.{Halt}
-use Rattle.dn_tool.specs.declared.halt.Halt.TheVariants.{WriteFault, DeviceFault, NoMemory}
+use Rattle.dn_tool.specs.declared.state.Session.{Session as Kept}
+use Rattle.dn_tool.specs.declared.halt.RunHalt.{RunHalt}
+use Rattle.dn_tool.specs.declared.halt.RunHalt.TheVariants.{WriteFault, DeviceFault, NoMemory}
 use Rattle.dn_tool.specs.Changed.{grant_refused_text, granted_text, revoke_refused_text, revoked_text, route_refused_text, routed_text}
 use Rattle.dn_tool.specs.Halt.{ending_status, is_device_halt, is_write_halt}
 use Rattle.dn_tool.specs.Ids.{id_number, with_id}
@@ -56,14 +56,14 @@ added_all events log log' a = subst (λ es. Logged log log' es) (ap (λ n. take 
 -- halts
 
 -- there was no memory before the turn
-pub halted_before : (P : Turn → Type 0) (r : Result (List ℕ) Halt) (next : State) (log log' : Option (List TableEvent)) → r ≡ Err NoMemory → log' ≡ log → CameThroughChange P r next log log'
+pub halted_before : (P : Turn → Type 0) (r : Result (List ℕ) RunHalt) (next : State) (log log' : Option (List TableEvent)) → r ≡ Err NoMemory → log' ≡ log → CameThroughChange P r next log log'
 halted_before P r next log log' e same =
-    subst (λ (q : Result (List ℕ) Halt). CameThroughChange P q next log log') (sym e) (λ told. inl (record { memory = refl; log_is = same; sink_is = refl }))
+    subst (λ (q : Result (List ℕ) RunHalt). CameThroughChange P q next log log') (sym e) (λ told. inl (record { memory = refl; log_is = same; sink_is = refl }))
 
 -- there was none for the reply
-pub halted_after : (P : Turn → Type 0) (r : Result (List ℕ) Halt) (next next' : State) (reply : List ℕ) (log log' : Option (List TableEvent)) → r ≡ Err NoMemory → IsChanged P next' reply log log' → CameThroughChange P r next log log'
+pub halted_after : (P : Turn → Type 0) (r : Result (List ℕ) RunHalt) (next next' : State) (reply : List ℕ) (log log' : Option (List TableEvent)) → r ≡ Err NoMemory → IsChanged P next' reply log log' → CameThroughChange P r next log log'
 halted_after P r next next' reply log log' e c =
-    subst (λ (q : Result (List ℕ) Halt). CameThroughChange P q next log log') (sym e) (λ told. inr (record {
+    subst (λ (q : Result (List ℕ) RunHalt). CameThroughChange P q next log log') (sym e) (λ told. inr (record {
       turn = c.turn;
       is_turn = c.is_turn;
       came = record {
@@ -79,9 +79,9 @@ halted_after P r next next' reply log log' e c =
     }))
 
 -- the device failed among the events of a turn
-stopped_inside : (P : Turn → Type 0) (t : Turn) (r : Result (List ℕ) Halt) (next : State) (log log' : Option (List TableEvent)) → r ≡ Err DeviceFault → P t → AreAdded t.events true log log' → CameThroughChange P r next log log'
+stopped_inside : (P : Turn → Type 0) (t : Turn) (r : Result (List ℕ) RunHalt) (next : State) (log log' : Option (List TableEvent)) → r ≡ Err DeviceFault → P t → AreAdded t.events true log log' → CameThroughChange P r next log log'
 stopped_inside P t r next log log' e is a =
-    subst (λ (q : Result (List ℕ) Halt). CameThroughChange P q next log log') (sym e) (λ told. inr (record {
+    subst (λ (q : Result (List ℕ) RunHalt). CameThroughChange P q next log log') (sym e) (λ told. inr (record {
       turn = t;
       is_turn = is;
       came = record {
@@ -113,7 +113,7 @@ granted_turn kinds net s next id rq v book' log log' made logged left =
     }
 
 -- a grant at which the device failed
-pub grant_stopped : (kinds : List Meaning) (net : List NodeDecl) (s next : State) (id : List ℕ) (rq : Request) (r : Result (List ℕ) Halt) (log log' : Option (List TableEvent)) → r ≡ Err DeviceFault → IsGrantLogged net kinds s.book s.cleared (id_number s.ids id) rq true log log' → CameThroughChange (IsGrantTurn kinds net s id rq) r next log log'
+pub grant_stopped : (kinds : List Meaning) (net : List NodeDecl) (s next : State) (id : List ℕ) (rq : Request) (r : Result (List ℕ) RunHalt) (log log' : Option (List TableEvent)) → r ≡ Err DeviceFault → IsGrantLogged net kinds s.book s.cleared (id_number s.ids id) rq true log log' → CameThroughChange (IsGrantTurn kinds net s id rq) r next log log'
 grant_stopped kinds net s next id rq r log log' e logged =
     stopped_inside (IsGrantTurn kinds net s id rq) (turn_with_grant net kinds s id (grant_of_request (id_number s.ids id) rq logged.place) (granted_text id logged.place.v)) r next log log' e (inl (record { place = logged.place; placed = logged.placed; is_turn = refl })) logged.added
 
@@ -179,7 +179,7 @@ routed_turn kinds net s next id agent line node v book' log log' made logged lef
     }
 
 -- a route at which the device failed
-pub route_stopped : (kinds : List Meaning) (net : List NodeDecl) (s next : State) (id : List ℕ) (agent line node : ℕ) (r : Result (List ℕ) Halt) (log log' : Option (List TableEvent)) → r ≡ Err DeviceFault → IsRouteLogged net kinds s.book s.cleared (id_number s.ids id) agent line node true log log' → CameThroughChange (IsRouteTurn kinds net s id agent line node) r next log log'
+pub route_stopped : (kinds : List Meaning) (net : List NodeDecl) (s next : State) (id : List ℕ) (agent line node : ℕ) (r : Result (List ℕ) RunHalt) (log log' : Option (List TableEvent)) → r ≡ Err DeviceFault → IsRouteLogged net kinds s.book s.cleared (id_number s.ids id) agent line node true log log' → CameThroughChange (IsRouteTurn kinds net s id agent line node) r next log log'
 route_stopped kinds net s next id agent line node r log log' e logged =
     stopped_inside (IsRouteTurn kinds net s id agent line node) (turn_with_grant net kinds s id (grant_of_route (id_number s.ids id) agent node logged.vector logged.place) (routed_text id logged.vector)) r next log log' e (inl (record { vector = logged.vector; place = logged.place; placed = logged.placed; is_turn = refl })) logged.added
 
@@ -232,7 +232,7 @@ revoked_turn kinds net s next id book' log log' has added is left =
     }
 
 -- a revoke at which the device failed
-pub revoke_stopped : (kinds : List Meaning) (net : List NodeDecl) (s next : State) (id : List ℕ) (r : Result (List ℕ) Halt) (log log' : Option (List TableEvent)) → r ≡ Err DeviceFault → has_id (id_number s.ids id) s.book ≡ true → ((g : Grant) → Member g s.book → g.id ≡ id_number s.ids id → AreAdded (revoke_events net kinds s.book g) true log log') → CameThroughChange (IsRevokeTurn kinds net s id) r next log log'
+pub revoke_stopped : (kinds : List Meaning) (net : List NodeDecl) (s next : State) (id : List ℕ) (r : Result (List ℕ) RunHalt) (log log' : Option (List TableEvent)) → r ≡ Err DeviceFault → has_id (id_number s.ids id) s.book ≡ true → ((g : Grant) → Member g s.book → g.id ≡ id_number s.ids id → AreAdded (revoke_events net kinds s.book g) true log log') → CameThroughChange (IsRevokeTurn kinds net s id) r next log log'
 revoke_stopped kinds net s next id r log log' e has added =
     let g = lives (id_number s.ids id) s.book has in
     stopped_inside (IsRevokeTurn kinds net s id) (record { events = revoke_events net kinds s.book g.0; reply = revoked_text id; next = record { book = without_id (id_number s.ids id) s.book; cleared = true; ids = with_id s.ids id } }) r next log log' e (inl (record { grant = g.0; lives = g.1; has = g.2; is_turn = refl })) (added g.0 g.1 g.2)
@@ -250,13 +250,13 @@ not_revoked_turn kinds net s next id log log' none same left = record {
 -- turns
 
 -- a turn of one sort is one of another, by what both are made of
-pub changed_as : {A : Type 0} (P : A → Turn → Type 0) (a b : A) (r : Result (List ℕ) Halt) (next : State) (log log' : Option (List TableEvent)) → a ≡ b → CameThroughChange (P a) r next log log' → CameThroughChange (P b) r next log log'
+pub changed_as : {A : Type 0} (P : A → Turn → Type 0) (a b : A) (r : Result (List ℕ) RunHalt) (next : State) (log log' : Option (List TableEvent)) → a ≡ b → CameThroughChange (P a) r next log log' → CameThroughChange (P b) r next log log'
 changed_as {A} P a b r next log log' e c = subst (λ (x : A). CameThroughChange (P x) r next log log') e c
 
 -- replies
 
 -- the reply was written, or a part of it
-pub replied : (P : Turn → Type 0) (r : Result (Unit {0}) Halt) (next : State) (reply : List ℕ) (a b : Option (List ℕ)) (log log' : Option (List TableEvent)) → IsChanged P next reply log log' → IsWritten a b (is_ok r) (is_write_halt r) reply → is_device_halt r ≡ false → CameThrough P r next a b log log'
+pub replied : (P : Turn → Type 0) (r : Result (Unit {0}) RunHalt) (next : State) (reply : List ℕ) (a b : Option (List ℕ)) (log log' : Option (List TableEvent)) → IsChanged P next reply log log' → IsWritten a b (is_ok r) (is_write_halt r) reply → is_device_halt r ≡ false → CameThrough P r next a b log log'
 replied P (Ok u) next reply a b log log' c w none = record {
   turn = c.turn;
   is_turn = c.is_turn;
@@ -278,7 +278,7 @@ replied P (Err h) next reply a b log log' c w none = inr (record { turn = c.turn
       between = λ _. refl;
     }
 
-    by : (k : Halt) → IsWritten a b false (is_write_halt {A = Unit {0}} (Err k)) reply → is_device_halt {A = Unit {0}} (Err k) ≡ false → CameIn c.turn (ending_status (Err k)) a b log log'
+    by : (k : RunHalt) → IsWritten a b false (is_write_halt {A = Unit {0}} (Err k)) reply → is_device_halt {A = Unit {0}} (Err k) ≡ false → CameIn c.turn (ending_status (Err k)) a b log log'
     by WriteFault v n = let less = v.less refl in came 3 less.0 (λ e. absurd (omega (arith, e))) (λ _. less.1) less.2
     by DeviceFault v n = absurd (cc)
     by NoMemory v n = came 7 v.front.0 (λ e. absurd (omega (arith, e))) (λ e. absurd (omega (arith, e))) v.front.1
@@ -303,10 +303,9 @@ state_named k s id book b g e i =
 -- what is kept of a state where the book and the image are as they were
 pub state_same : (kinds : List Meaning) (net : List NodeDecl) (k k' : Kept) → IsState kinds net k → k'.book ≡ k.book → k'.image ≡ k.image → IfSome k'.first (IsFirstView net) → IfSome k'.flats (AreFlats net) → AreUnmade net k'.unmade → IsState kinds net k'
 state_same kinds net k k' s b i v f u = record {
-  sound = subst (λ (x : BookState). x.sound ≡ true) (sym b) s.sound;
+  unfailed = subst (λ (x : BookState). x.unfailed ≡ true) (sym b) s.unfailed;
   faithful = subst (λ (x : BookState). IsFaithful net x.grants) (sym b) s.faithful;
   kept = subst (λ (x : BookState). IsKept net kinds x.grants x.set) (sym b) s.kept;
-  filled = subst (λ (x : BookState). IsTrue (are_filled kinds net (words_of x.set))) (sym b) s.filled;
   bytes = subst (λ (o : Option (List ℕ)). IfSome o (λ bytes. bytes ≡ image net kinds (words_of k'.book.set))) (sym i) (subst (λ (x : BookState). IfSome k.image (λ bytes. bytes ≡ image net kinds (words_of x.set))) (sym b) s.bytes);
   first = v;
   flat = f;
@@ -328,7 +327,7 @@ still_turn kinds net s (Route id from line target) e = cc
 still_turn kinds net s (Revoke id) e = cc
 
 -- its reply was written, or a part of it, and the state stays
-pub still_through : (kinds : List Meaning) (net : List NodeDecl) (s next : State) (c : Command) (r : Result (Unit {0}) Halt) (a b : Option (List ℕ)) (log : Option (List TableEvent)) → is_change c ≡ false → s ≡ next → IsWritten a b (is_ok r) (is_write_halt r) (reply kinds net s.book c) → is_device_halt r ≡ false → CameThrough (IsTurn kinds net s c) r next a b log log
+pub still_through : (kinds : List Meaning) (net : List NodeDecl) (s next : State) (c : Command) (r : Result (Unit {0}) RunHalt) (a b : Option (List ℕ)) (log : Option (List TableEvent)) → is_change c ≡ false → s ≡ next → IsWritten a b (is_ok r) (is_write_halt r) (reply kinds net s.book c) → is_device_halt r ≡ false → CameThrough (IsTurn kinds net s c) r next a b log log
 still_through kinds net s next c r a b log e same w none =
     replied (IsTurn kinds net s c) r next (reply kinds net s.book c) a b log log (record {
       turn = reply_turn (reply kinds net s.book c) s;
@@ -338,14 +337,14 @@ still_through kinds net s next c r a b log e same w none =
       left = same;
     }) w none
 
-pub still_said : (kinds : List Meaning) (net : List NodeDecl) (s next : State) (c said : Command) (r : Result (Unit {0}) Halt) (a b : Option (List ℕ)) (log : Option (List TableEvent)) → c ≡ said → is_change said ≡ false → s ≡ next → IsWritten a b (is_ok r) (is_write_halt r) (reply kinds net s.book said) → is_device_halt r ≡ false → CameThrough (IsTurn kinds net s c) r next a b log log
+pub still_said : (kinds : List Meaning) (net : List NodeDecl) (s next : State) (c said : Command) (r : Result (Unit {0}) RunHalt) (a b : Option (List ℕ)) (log : Option (List TableEvent)) → c ≡ said → is_change said ≡ false → s ≡ next → IsWritten a b (is_ok r) (is_write_halt r) (reply kinds net s.book said) → is_device_halt r ≡ false → CameThrough (IsTurn kinds net s c) r next a b log log
 still_said kinds net s next c said r a b log is e same w none = subst (λ (d : Command). CameThrough (IsTurn kinds net s d) r next a b log log) (sym is) (still_through kinds net s next said r a b log e same w none)
 
 -- a change that halted wrote nothing
-pub change_halted : (P : Turn → Type 0) (r : Result (List ℕ) Halt) (h : Halt) (r' : Result (Unit {0}) Halt) (next : State) (told : Option (List ℕ)) (log log' : Option (List TableEvent)) → r ≡ Err h → r' ≡ Err h → CameThroughChange P r next log log' → CameThrough P r' next told told log log'
+pub change_halted : (P : Turn → Type 0) (r : Result (List ℕ) RunHalt) (h : RunHalt) (r' : Result (Unit {0}) RunHalt) (next : State) (told : Option (List ℕ)) (log log' : Option (List TableEvent)) → r ≡ Err h → r' ≡ Err h → CameThroughChange P r next log log' → CameThrough P r' next told told log log'
 change_halted P r h r' next told log log' e f c =
-    let halted : (told : Option (List ℕ)) → IsHalted P h told told log log' = subst (λ (q : Result (List ℕ) Halt). CameThroughChange P q next log log') e c in
-    subst (λ (q : Result (Unit {0}) Halt). CameThrough P q next told told log log') (sym f) (halted told)
+    let halted : (told : Option (List ℕ)) → IsHalted P h told told log log' = subst (λ (q : Result (List ℕ) RunHalt). CameThroughChange P q next log log') e c in
+    subst (λ (q : Result (Unit {0}) RunHalt). CameThrough P q next told told log log') (sym f) (halted told)
 
 -- a state of which the book and the ids are as they were
 pub state_kept : (k k' : Kept) → k'.book ≡ k.book → k'.ids ≡ k.ids → state_view k ≡ state_view k'

@@ -5,9 +5,9 @@ use Rattle.std.proofs.lemmas.List.{take_more}
 use Rattle.std.proofs.Math.Seq.{take-length}
 use Rattle.dn_base.specs.declared.device.TableEvent.{TableEvent}
 use Rattle.dn_base.specs.declared.device.UnitWords.{UnitWords}
-use Rattle.dn_base.specs.declared.device.MakeFault.{MakeFault}
-use Rattle.dn_base.specs.declared.device.MakeFault.TheVariants.{Device, OutOfMemory}
-use Rattle.dn_base.specs.Device.{Logged, UnitSize, is_make_fault}
+use Rattle.dn_base.specs.declared.device.DeviceOrMemory.{DeviceOrMemory}
+use Rattle.dn_base.specs.declared.device.DeviceOrMemory.TheVariants.{Device, OutOfMemory}
+use Rattle.dn_base.specs.Device.{Logged, UnitSize, is_device_fault}
 use Rattle.dn_base.specs.Outside.{IsWritten}
 use Rattle.dn_base.proofs.Logs.{Logged-none}
 use Rattle.dn_base.proofs.Told.{if_some_then}
@@ -17,21 +17,22 @@ use Rattle.dn_net.proofs.Tally.{count_below-suc}
 use Rattle.dn_kind.specs.Kind.{Meaning}
 use Rattle.dn_module.specs.declared.command.Command.{Command}
 use Rattle.dn_tables.specs.declared.table.NodeTable.{NodeTable}
-use Rattle.dn_tables.specs.Set.{IsOnDevice, fresh_set, tables_of_set}
+use Rattle.dn_tables.specs.Set.{IsOnDevice, device_tables, fresh_set, tables_of_set}
+use Rattle.dn_tables.proofs.Devices.{device_told}
 use Rattle.dn_tables.specs.Writes.{AreUnitsMade}
 use Rattle.dn_book.specs.declared.grant.Grant.{Grant as GrantPart}
 use Rattle.dn_book.specs.Tables.{IsKept, tables_of}
 use Rattle.dn_demo.specs.declared.summary.Summary.{Summary}
 use Rattle.dn_demo.specs.Summary.{summary_text}
-use Rattle.dn_tool.specs.declared.halt.Halt.{Halt}
-use Rattle.dn_tool.specs.declared.halt.Halt.TheVariants.{WriteFault, DeviceFault, NoMemory}
+use Rattle.dn_tool.specs.declared.halt.RunHalt.{RunHalt}
+use Rattle.dn_tool.specs.declared.halt.RunHalt.TheVariants.{WriteFault, DeviceFault, NoMemory}
 use Rattle.dn_tool.specs.Books.{GivesOwed}
 use Rattle.dn_tool.specs.Demo.{IsShown, IsSummedUp, has_granted, has_revoked, passing_turns, sum_below, summary_of, summary_with}
 use Rattle.dn_tool.specs.Halt.{ending_status, is_device_halt, is_write_halt, make_halt}
-use Rattle.dn_tool.specs.Played.{IsPlayed, device_tables, make_turn}
+use Rattle.dn_tool.specs.Played.{IsPlayed, make_turn}
 use Rattle.dn_tool.specs.State.{CameThrough, IsChanged, IsTurned}
 use Rattle.dn_tool.specs.Turn.{IsTurn, State, Turn, is_change, reply, reply_turn, start, state_after}
-use Rattle.dn_tool.proofs.Played.{IsGone, device_told, gone_more, gone_start, halted_by, halted_unmade, more_turns, played_whole, turns_count, unmade_by, whole_turns}
+use Rattle.dn_tool.proofs.Played.{IsGone, gone_more, gone_start, halted_by, halted_unmade, more_turns, played_whole, turns_count, unmade_by, whole_turns}
 use Rattle.dn_tool.proofs.Changes.{still_turn}
 
 -- a test that passes counts one at most
@@ -176,32 +177,32 @@ summed_up kinds net agents commands i status s before after log log' told' grant
 -- by what ended it
 
 -- the units were not made
-pub shown_unmade : {X : Type 0} (kinds : List Meaning) (net : List NodeDecl) (agents : ℕ) (commands : List Command) (r : Result X MakeFault) (fault : MakeFault) (ended : Result ℕ Halt) (before : Option (List ℕ)) (log log' : Option (List TableEvent)) (sizes : List UnitSize) (told told' : Option (List UnitWords)) → r ≡ Err fault → ended ≡ Err (make_halt fault) → AreUnitsMade (tables_of_set (fresh_set kinds net)) (is_ok r) (is_make_fault r) log log' sizes told told' → IsShown kinds net agents commands (ending_status ended) before before log log' told'
+pub shown_unmade : {X : Type 0} (kinds : List Meaning) (net : List NodeDecl) (agents : ℕ) (commands : List Command) (r : Result X DeviceOrMemory) (fault : DeviceOrMemory) (ended : Result ℕ RunHalt) (before : Option (List ℕ)) (log log' : Option (List TableEvent)) (sizes : List UnitSize) (told told' : Option (List UnitWords)) → r ≡ Err fault → ended ≡ Err (make_halt fault) → AreUnitsMade (tables_of_set (fresh_set kinds net)) (is_ok r) (is_device_fault r) log log' sizes told told' → IsShown kinds net agents commands (ending_status ended) before before log log' told'
 shown_unmade kinds net agents commands r fault ended before log log' sizes told told' is by made = inr (record {
   played = unmade_by kinds net commands r fault ended None None log log' sizes told told' is by refl made;
-  why = subst (λ (e : Result ℕ Halt). (ending_status e ≡ 6) ⊎ (ending_status e ≡ 7)) (sym by) (either fault);
+  why = subst (λ (e : Result ℕ RunHalt). (ending_status e ≡ 6) ⊎ (ending_status e ≡ 7)) (sym by) (either fault);
   unwritten = refl;
 })
   where
-    either : (f : MakeFault) → (ending_status (Err (make_halt f)) ≡ 6) ⊎ (ending_status (Err (make_halt f)) ≡ 7)
+    either : (f : DeviceOrMemory) → (ending_status (Err (make_halt f)) ≡ 6) ⊎ (ending_status (Err (make_halt f)) ≡ 7)
     either Device = inl refl
     either OutOfMemory = inr refl
 
 -- a command was left inside its turn, or before it
-pub shown_halted : (kinds : List Meaning) (net : List NodeDecl) (agents : ℕ) (commands : List Command) (i : ℕ) (c : Command) (s next : State) (r : Result (Unit {0}) Halt) (halt : Halt) (ended : Result ℕ Halt) (before : Option (List ℕ)) (log log' log'' : Option (List TableEvent)) (told' : Option (List UnitWords)) (granted revoked : ℕ) → r ≡ Err halt → ended ≡ Err halt → is_write_halt r ≡ false → i < length commands → c ≡ get_or commands i c → IsTallied kinds net commands i s log log' granted revoked → CameThrough (IsTurn kinds net s c) r next None None log' log'' → IsShown kinds net agents commands (ending_status ended) before before log log'' told'
+pub shown_halted : (kinds : List Meaning) (net : List NodeDecl) (agents : ℕ) (commands : List Command) (i : ℕ) (c : Command) (s next : State) (r : Result (Unit {0}) RunHalt) (halt : RunHalt) (ended : Result ℕ RunHalt) (before : Option (List ℕ)) (log log' log'' : Option (List TableEvent)) (told' : Option (List UnitWords)) (granted revoked : ℕ) → r ≡ Err halt → ended ≡ Err halt → is_write_halt r ≡ false → i < length commands → c ≡ get_or commands i c → IsTallied kinds net commands i s log log' granted revoked → CameThrough (IsTurn kinds net s c) r next None None log' log'' → IsShown kinds net agents commands (ending_status ended) before before log log'' told'
 shown_halted kinds net agents commands i c s next r halt ended before log log' log'' told' granted revoked is by no_write within at f came = inr (record {
   played = halted_by kinds net commands i c s next r halt ended None None None log log' log'' told' is by within at f.gone came;
-  why = subst (λ (e : Result ℕ Halt). (ending_status e ≡ 6) ⊎ (ending_status e ≡ 7)) (sym by) (either halt (subst (λ (q : Result (Unit {0}) Halt). is_write_halt q ≡ false) is no_write));
+  why = subst (λ (e : Result ℕ RunHalt). (ending_status e ≡ 6) ⊎ (ending_status e ≡ 7)) (sym by) (either halt (subst (λ (q : Result (Unit {0}) RunHalt). is_write_halt q ≡ false) is no_write));
   unwritten = refl;
 })
   where
-    either : (h : Halt) → is_write_halt {A = Unit {0}} (Err h) ≡ false → (ending_status (Err h) ≡ 6) ⊎ (ending_status (Err h) ≡ 7)
+    either : (h : RunHalt) → is_write_halt {A = Unit {0}} (Err h) ≡ false → (ending_status (Err h) ≡ 6) ⊎ (ending_status (Err h) ≡ 7)
     either WriteFault e = cc
     either DeviceFault e = inl refl
     either NoMemory e = inr refl
 
 -- there was no memory to make a command
-pub shown_unread : (kinds : List Meaning) (net : List NodeDecl) (agents : ℕ) (commands : List Command) (i : ℕ) (s : State) (ended : Result ℕ Halt) (before : Option (List ℕ)) (log log' : Option (List TableEvent)) (told' : Option (List UnitWords)) (granted revoked : ℕ) → ended ≡ Err NoMemory → i ≤ length commands → IsTallied kinds net commands i s log log' granted revoked → IsShown kinds net agents commands (ending_status ended) before before log log' told'
+pub shown_unread : (kinds : List Meaning) (net : List NodeDecl) (agents : ℕ) (commands : List Command) (i : ℕ) (s : State) (ended : Result ℕ RunHalt) (before : Option (List ℕ)) (log log' : Option (List TableEvent)) (told' : Option (List UnitWords)) (granted revoked : ℕ) → ended ≡ Err NoMemory → i ≤ length commands → IsTallied kinds net commands i s log log' granted revoked → IsShown kinds net agents commands (ending_status ended) before before log log' told'
 shown_unread kinds net agents commands i s ended before log log' told' granted revoked by within f = inr (record {
   played = halted_unmade kinds net commands i s ended None None log log' told' by within f.gone;
   why = inr (ap ending_status by);
@@ -209,30 +210,30 @@ shown_unread kinds net agents commands i s ended before log log' told' granted r
 })
 
 -- how a run ends that wrote its line
-abbrev pub line_status : Result (Unit {0}) Halt → ℕ
+abbrev pub line_status : Result (Unit {0}) RunHalt → ℕ
 line_status (Ok a) = 0
 line_status (Err h) = ending_status (Err h)
 
 -- all commands were gone through, and the line was written as far as it was
-pub shown_written : (kinds : List Meaning) (net : List NodeDecl) (agents : ℕ) (commands : List Command) (i status : ℕ) (s : State) (r : Result (Unit {0}) Halt) (before after : Option (List ℕ)) (log log' : Option (List TableEvent)) (told' : Option (List UnitWords)) (granted revoked : ℕ) (set : List NodeTable) (sizes : List UnitSize) → length commands ≤ i → i ≤ length commands → IsKept net kinds s.book set → IsOnDevice set sizes told' → IsTallied kinds net commands i s log log' granted revoked → status ≡ line_status r → is_device_halt r ≡ false
+pub shown_written : (kinds : List Meaning) (net : List NodeDecl) (agents : ℕ) (commands : List Command) (i status : ℕ) (s : State) (r : Result (Unit {0}) RunHalt) (before after : Option (List ℕ)) (log log' : Option (List TableEvent)) (told' : Option (List UnitWords)) (granted revoked : ℕ) (set : List NodeTable) (sizes : List UnitSize) → length commands ≤ i → i ≤ length commands → IsKept net kinds s.book set → IsOnDevice set sizes told' → IsTallied kinds net commands i s log log' granted revoked → status ≡ line_status r → is_device_halt r ≡ false
     → IsWritten before after (is_ok r) (is_write_halt r) (summary_text (summary_with kinds net agents granted revoked s.book))
     → IsShown kinds net agents commands status before after log log' told'
 shown_written kinds net agents commands i status s r before after log log' told' granted revoked set sizes over few kept on f is no_device w =
     inl (summed_up kinds net agents commands i status s before after log log' told' granted revoked (is_ok r) (is_write_halt r) (omega (arith, over, few)) (words_told kinds net s.book set sizes told' kept on) f (zero_by r no_device is) (three_by r no_device is) (ended_by r no_device is) w)
   where
-    zero_by : (q : Result (Unit {0}) Halt) → is_device_halt q ≡ false → status ≡ line_status q → (status == 0) ≡ is_ok q
+    zero_by : (q : Result (Unit {0}) RunHalt) → is_device_halt q ≡ false → status ≡ line_status q → (status == 0) ≡ is_ok q
     zero_by (Ok a) d e = ap (λ n. n == 0) e
     zero_by (Err WriteFault) d e = ap (λ n. n == 0) e
     zero_by (Err DeviceFault) d e = ap (λ n. n == 0) e
     zero_by (Err NoMemory) d e = ap (λ n. n == 0) e
 
-    three_by : (q : Result (Unit {0}) Halt) → is_device_halt q ≡ false → status ≡ line_status q → (status == 3) ≡ is_write_halt q
+    three_by : (q : Result (Unit {0}) RunHalt) → is_device_halt q ≡ false → status ≡ line_status q → (status == 3) ≡ is_write_halt q
     three_by (Ok a) d e = ap (λ n. n == 3) e
     three_by (Err WriteFault) d e = ap (λ n. n == 3) e
     three_by (Err DeviceFault) d e = ap (λ n. n == 3) e
     three_by (Err NoMemory) d e = ap (λ n. n == 3) e
 
-    ended_by : (q : Result (Unit {0}) Halt) → is_device_halt q ≡ false → status ≡ line_status q → (status ≡ 0) ⊎ ((status ≡ 3) ⊎ (status ≡ 7))
+    ended_by : (q : Result (Unit {0}) RunHalt) → is_device_halt q ≡ false → status ≡ line_status q → (status ≡ 0) ⊎ ((status ≡ 3) ⊎ (status ≡ 7))
     ended_by (Ok a) d e = inl e
     ended_by (Err WriteFault) d e = inr (inl e)
     ended_by (Err DeviceFault) d e = absurd (cc)

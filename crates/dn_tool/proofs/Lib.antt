@@ -19,5 +19,6 @@ pub mod Books
 pub mod Changes
 pub mod Filled
 pub mod Numbers
+pub mod OneTurn
 pub mod Seen
 pub mod Kept

@@ -12,11 +12,13 @@ use Rattle.dn_book.specs.Tables.{tables_of}
 use Rattle.dn_book.proofs.Begun.{tables_hold_records}
 use Rattle.dn_book.proofs.Owed.{owed_names_are_resolved}
 use Rattle.dn_tool.specs.Books.{FaithfulImageGivesOwed}
+use Rattle.dn_tool.proofs.Filled.{tables_filled}
 use Rattle.dn_tool.proofs.Seen.{held_same}
 
 -- what is found in the image is what is owed
 pub faithful_image_gives_owed : FaithfulImageGivesOwed
-faithful_image_gives_owed kinds net book lawful legal kept filled access x agent =
+faithful_image_gives_owed kinds net book lawful legal kept access x agent =
+    let filled = tables_filled kinds net book lawful legal kept.sound in
     let bytes : List ℕ = image net kinds (tables_of net kinds book) in
     let i : ImageWords = record { version = 2; words = tables_of net kinds book } in
     let read : image_reading net kinds bytes ≡ Ok i = image_is_read net kinds bytes i (record { version = refl; filled = filled; bytes = refl }) in

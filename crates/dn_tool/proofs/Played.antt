@@ -6,46 +6,30 @@ use Rattle.std.proofs.lemmas.Grind.{flat_map-append}
 use Rattle.std.proofs.Math.Seq.{take-length}
 use Rattle.dn_base.specs.declared.device.TableEvent.{TableEvent}
 use Rattle.dn_base.specs.declared.device.UnitWords.{UnitWords}
-use Rattle.dn_base.specs.declared.device.MakeFault.{MakeFault}
-use Rattle.dn_base.specs.declared.device.MakeFault.TheVariants.{Device, OutOfMemory}
-use Rattle.dn_base.specs.Device.{Logged, UnitSize, is_make_fault}
+use Rattle.dn_base.specs.declared.device.DeviceOrMemory.{DeviceOrMemory}
+use Rattle.dn_base.specs.declared.device.DeviceOrMemory.TheVariants.{Device, OutOfMemory}
+use Rattle.dn_base.specs.Device.{Logged, UnitSize, is_device_fault}
 use Rattle.dn_base.specs.Outside.{Added}
 use Rattle.dn_base.proofs.Lists.{take_past}
 use Rattle.dn_base.proofs.Logs.{Logged-then}
 use Rattle.dn_base.proofs.Orders.{cases_lt}
 use Rattle.dn_base.proofs.Told.{Added-none, Added-then}
 use Rattle.dn_net.specs.declared.node.NodeDecl.{NodeDecl}
-use Rattle.dn_net.specs.declared.node.Unit.{Unit as UnitPart}
 use Rattle.dn_kind.specs.Kind.{Meaning}
-use Rattle.dn_tables.specs.declared.table.NodeTable.{NodeTable}
-use Rattle.dn_tables.specs.Set.{fresh_set, table_on_device, tables_from, tables_of_set, units_of, words_of}
+use Rattle.dn_tables.specs.Set.{device_tables, fresh_set, tables_of_set}
 use Rattle.dn_tables.specs.Writes.{AreUnitsMade, make_event}
+use Rattle.dn_tables.proofs.Devices.{device_told}
 use Rattle.dn_tables.proofs.Fresh.{fresh_units}
 use Rattle.dn_book.specs.Tables.{tables_of}
 use Rattle.dn_module.specs.declared.command.Command.{Command}
-use Rattle.dn_tool.specs.declared.halt.Halt.{Halt}
-use Rattle.dn_tool.specs.declared.halt.Halt.TheVariants.{WriteFault, DeviceFault, NoMemory}
+use Rattle.dn_tool.specs.declared.halt.RunHalt.{RunHalt}
+use Rattle.dn_tool.specs.declared.halt.RunHalt.TheVariants.{WriteFault, DeviceFault, NoMemory}
 use Rattle.dn_tool.specs.Books.{GivesOwed}
 use Rattle.dn_tool.specs.Halt.{ending_status, is_free_status, make_halt}
-use Rattle.dn_tool.specs.Played.{CameIn, CameTo, IsPlayed, device_tables, make_turn, turn_at}
+use Rattle.dn_tool.specs.Played.{CameIn, CameTo, IsPlayed, make_turn, turn_at}
 use Rattle.dn_tool.specs.State.{CameThrough, IsHalted, IsTurned}
 use Rattle.dn_tool.specs.Turn.{AreTurns, IsTurn, State, Turn, events_of, replies_of, reply_turn, start, state_after}
 use Rattle.dn_tool.proofs.Empty.{fresh_tables}
-
--- the tables of a set, as a device tells them
-device_from : (node : ℕ) (set : List NodeTable) (net : List NodeDecl) (words : List (List ℕ)) → units_of set ≡ map (λ n. n.unit) net → words_of set ≡ words → tables_from node set ≡ device_tables node net words
-device_from node [] [] words e f = refl
-device_from node [] (n ∷ ns) words e f = cc
-device_from node (t ∷ ts) [] words e f = cc
-device_from node (t ∷ ts) (n ∷ ns) words e f =
-    let unit : t.unit ≡ n.unit = cc in
-    let rest : units_of ts ≡ map (λ n. n.unit) ns = cc in
-    ap (λ (o : Option UnitPart). table_on_device node t.words o ++ tables_from (suc node) ts) unit
-    ∙ ap (λ l. table_on_device node t.words n.unit ++ l) (device_from (suc node) ts ns (words_of ts) rest refl)
-    ∙ ap (λ ws. device_tables node (n ∷ ns) ws) f
-
-pub device_told : (set : List NodeTable) (net : List NodeDecl) (words : List (List ℕ)) → units_of set ≡ map (λ n. n.unit) net → words_of set ≡ words → tables_of_set set ≡ device_tables 0 net words
-device_told set net words e f = device_from 0 set net words e f
 
 -- the events of the making
 making_events : (kinds : List Meaning) (net : List NodeDecl) → map make_event (tables_of_set (fresh_set kinds net)) ≡ (make_turn kinds net).events
@@ -306,27 +290,27 @@ played_in kinds net commands i status s c t a b d log log' log'' told' within at
 -- by what stopped it
 
 -- the units were not made
-pub unmade_by : {X : Type 0} (kinds : List Meaning) (net : List NodeDecl) (commands : List Command) (r : Result X MakeFault) (fault : MakeFault) (ended : Result ℕ Halt) (a b : Option (List ℕ)) (log log' : Option (List TableEvent)) (sizes : List UnitSize) (told told' : Option (List UnitWords)) → r ≡ Err fault → ended ≡ Err (make_halt fault) → b ≡ a → AreUnitsMade (tables_of_set (fresh_set kinds net)) (is_ok r) (is_make_fault r) log log' sizes told told' → IsPlayed kinds net commands (ending_status ended) a b log log' told'
+pub unmade_by : {X : Type 0} (kinds : List Meaning) (net : List NodeDecl) (commands : List Command) (r : Result X DeviceOrMemory) (fault : DeviceOrMemory) (ended : Result ℕ RunHalt) (a b : Option (List ℕ)) (log log' : Option (List TableEvent)) (sizes : List UnitSize) (told told' : Option (List UnitWords)) → r ≡ Err fault → ended ≡ Err (make_halt fault) → b ≡ a → AreUnitsMade (tables_of_set (fresh_set kinds net)) (is_ok r) (is_device_fault r) log log' sizes told told' → IsPlayed kinds net commands (ending_status ended) a b log log' told'
 unmade_by {X} kinds net commands r fault ended a b log log' sizes told told' is by same made =
-    let given : AreUnitsMade (tables_of_set (fresh_set kinds net)) false (is_make_fault {A = X} (Err fault)) log log' sizes told told' = subst (λ (q : Result X MakeFault). AreUnitsMade (tables_of_set (fresh_set kinds net)) (is_ok q) (is_make_fault q) log log' sizes told told') is made in
-    subst (λ (e : Result ℕ Halt). IsPlayed kinds net commands (ending_status e) a b log log' told') (sym by) (go fault given)
+    let given : AreUnitsMade (tables_of_set (fresh_set kinds net)) false (is_device_fault {A = X} (Err fault)) log log' sizes told told' = subst (λ (q : Result X DeviceOrMemory). AreUnitsMade (tables_of_set (fresh_set kinds net)) (is_ok q) (is_device_fault q) log log' sizes told told') is made in
+    subst (λ (e : Result ℕ RunHalt). IsPlayed kinds net commands (ending_status e) a b log log' told') (sym by) (go fault given)
   where
-    go : (f : MakeFault) → AreUnitsMade (tables_of_set (fresh_set kinds net)) false (is_make_fault {A = X} (Err f)) log log' sizes told told' → IsPlayed kinds net commands (ending_status (Err (make_halt f))) a b log log' told'
+    go : (f : DeviceOrMemory) → AreUnitsMade (tables_of_set (fresh_set kinds net)) false (is_device_fault {A = X} (Err f)) log log' sizes told told' → IsPlayed kinds net commands (ending_status (Err (make_halt f))) a b log log' told'
     go Device m = played_unmade kinds net commands 6 true a b log log' sizes told told' refl (λ e. absurd (omega (arith, e))) (λ e. absurd (omega (arith, e))) (λ e. refl) same m
     go OutOfMemory m = played_unmade kinds net commands 7 false a b log log' sizes told told' refl (λ e. absurd (omega (arith, e))) (λ e. absurd (omega (arith, e))) (λ e. absurd (omega (arith, e))) same m
 
 -- a command was left inside its turn, or before it
-pub halted_by : {X : Type 0} (kinds : List Meaning) (net : List NodeDecl) (commands : List Command) (i : ℕ) (c : Command) (s next : State) (r : Result X Halt) (halt : Halt) (ended : Result ℕ Halt) (a b d : Option (List ℕ)) (log log' log'' : Option (List TableEvent)) (told' : Option (List UnitWords)) → r ≡ Err halt → ended ≡ Err halt → i < length commands → c ≡ get_or commands i c → IsGone kinds net commands i s a b log log' → CameThrough (IsTurn kinds net s c) r next b d log' log'' → IsPlayed kinds net commands (ending_status ended) a d log log'' told'
+pub halted_by : {X : Type 0} (kinds : List Meaning) (net : List NodeDecl) (commands : List Command) (i : ℕ) (c : Command) (s next : State) (r : Result X RunHalt) (halt : RunHalt) (ended : Result ℕ RunHalt) (a b d : Option (List ℕ)) (log log' log'' : Option (List TableEvent)) (told' : Option (List UnitWords)) → r ≡ Err halt → ended ≡ Err halt → i < length commands → c ≡ get_or commands i c → IsGone kinds net commands i s a b log log' → CameThrough (IsTurn kinds net s c) r next b d log' log'' → IsPlayed kinds net commands (ending_status ended) a d log log'' told'
 halted_by {X} kinds net commands i c s next r halt ended a b d log log' log'' told' is by within at g came =
-    let given : IsHalted (IsTurn kinds net s c) halt b d log' log'' = subst (λ (q : Result X Halt). CameThrough (IsTurn kinds net s c) q next b d log' log'') is came in
-    subst (λ (e : Result ℕ Halt). IsPlayed kinds net commands (ending_status e) a d log log'' told') (sym by) (go given)
+    let given : IsHalted (IsTurn kinds net s c) halt b d log' log'' = subst (λ (q : Result X RunHalt). CameThrough (IsTurn kinds net s c) q next b d log' log'') is came in
+    subst (λ (e : Result ℕ RunHalt). IsPlayed kinds net commands (ending_status e) a d log log'' told') (sym by) (go given)
   where
-    going : (h : Halt) → ending_status (Err h) ≢ 0
+    going : (h : RunHalt) → ending_status (Err h) ≢ 0
     going WriteFault e = absurd (omega (arith, e))
     going DeviceFault e = absurd (omega (arith, e))
     going NoMemory e = absurd (omega (arith, e))
 
-    free : (h : Halt) → is_free_status (ending_status (Err h)) ≡ true
+    free : (h : RunHalt) → is_free_status (ending_status (Err h)) ≡ true
     free WriteFault = refl
     free DeviceFault = refl
     free NoMemory = refl
@@ -341,13 +325,13 @@ halted_by {X} kinds net commands i c s next r halt ended a b d log log' log'' to
           written = subst (λ x. Added a x (replies_of (make_turn kinds net ∷ g.turns))) (sym z.sink_is) g.written;
           logged = subst (λ x. Logged log x (events_of (make_turn kinds net ∷ g.turns))) (sym z.log_is) g.logged;
         } in
-        played_before kinds net commands i (ending_status (Err halt)) s a d log log'' told' (omega (arith, within)) (ap (λ (h : Halt). ending_status (Err h)) z.memory) here
+        played_before kinds net commands i (ending_status (Err halt)) s a d log log'' told' (omega (arith, within)) (ap (λ (h : RunHalt). ending_status (Err h)) z.memory) here
     go (inr z) = played_in kinds net commands i (ending_status (Err halt)) s c z.turn a b d log log' log'' told' within at (free halt) (going halt) g z.is_turn z.came
 
 -- it stopped for want of memory, before a command was made
-pub halted_unmade : (kinds : List Meaning) (net : List NodeDecl) (commands : List Command) (i : ℕ) (s : State) (ended : Result ℕ Halt) (a b : Option (List ℕ)) (log log' : Option (List TableEvent)) (told' : Option (List UnitWords)) → ended ≡ Err NoMemory → i ≤ length commands → IsGone kinds net commands i s a b log log' → IsPlayed kinds net commands (ending_status ended) a b log log' told'
+pub halted_unmade : (kinds : List Meaning) (net : List NodeDecl) (commands : List Command) (i : ℕ) (s : State) (ended : Result ℕ RunHalt) (a b : Option (List ℕ)) (log log' : Option (List TableEvent)) (told' : Option (List UnitWords)) → ended ≡ Err NoMemory → i ≤ length commands → IsGone kinds net commands i s a b log log' → IsPlayed kinds net commands (ending_status ended) a b log log' told'
 halted_unmade kinds net commands i s ended a b log log' told' by within g =
-    subst (λ (e : Result ℕ Halt). IsPlayed kinds net commands (ending_status e) a b log log' told') (sym by) (played_before kinds net commands i 7 s a b log log' told' within refl g)
+    subst (λ (e : Result ℕ RunHalt). IsPlayed kinds net commands (ending_status e) a b log log' told') (sym by) (played_before kinds net commands i 7 s a b log log' told' within refl g)
 
 -- the turns of what was gone through
 

@@ -20,7 +20,7 @@ use Rattle.dn_net.specs.Legal.{IsLegalNet, node_limit}
 use Rattle.dn_net.specs.Rules.{block_in_range, dest_in_range, entry_in_range, KeepsRules}
 use Rattle.dn_net.specs.Rules.{BrokenNode, node_fault}
 use Rattle.dn_net.specs.WalkRules.{Broken, walk_fault}
-use Rattle.dn_net.proofs.Legal.{legal_breaks_no_rule}
+use Rattle.dn_walk.proofs.Legal.{legal_breaks_no_rule}
 use Rattle.dn_kind.specs.Kind.{Meaning}
 use Rattle.dn_kind.specs.Units.{shape_fault}
 use Rattle.dn_kind.proofs.Shapes.{shaped_plain}

@@ -21,7 +21,7 @@ use Rattle.dn_book.specs.Book.{IsFaithful, owed_names, records_of}
 use Rattle.dn_book.proofs.Owed.{owed_names_are_resolved}
 use Rattle.dn_walk.proofs.Ends.{end_in, ends_ascend}
 use Rattle.dn_walk.specs.Ends.{end_of, name_of_end}
-use Rattle.dn_tool.specs.declared.state.State.{State as Kept}
+use Rattle.dn_tool.specs.declared.state.Session.{Session as Kept}
 use Rattle.dn_tool.specs.State.{IsState}
 use Rattle.dn_tool.specs.Viewed.{OwedRowsAreNormal, owed_rows}
 

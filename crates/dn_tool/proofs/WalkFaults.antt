@@ -10,7 +10,7 @@ use Rattle.dn_net.specs.Decode.{top, steps, step_limit, is_closed}
 use Rattle.dn_net.specs.Names.{sorted_names, stop_names}
 use Rattle.dn_net.specs.WalkRules.{Broken, is_wide, has_loop, is_deep, has_chain, or_else, first_below, least_below, least_name, goes_on, comes_to, comes_back, shortest_cycle, first_of, names_behind, way_by, cycle_from, cycle_names, path_from, path_names, cycle_or_path, fork_broken, endless_fault, unit_fault, walk_fault}
 use Rattle.dn_net.specs.UnitRules.{Fork, is_fork, fork_at, least_fork, unit_leads, units_from, unit_numbers, next_units, unit_rows_from, unit_rows, is_large, first_row, large_row, first_chain}
-use Rattle.dn_net.proofs.Endless.{is_wide_net, endless_fault_is}
+use Rattle.dn_walk.proofs.Endless.{is_wide_net, endless_fault_is}
 use Rattle.dn_net.proofs.Stops.{IsFirstStopOr, first_stop_is, listed_stop, stop_there}
 use Rattle.dn_kind.specs.Levels.{are_there}
 use Rattle.dn_kind.proofs.Nodes.{steps_there, sorted_there}

@@ -7,7 +7,7 @@ use Rattle.dn_base.proofs.Lists.{drop_at, item_there}
 use Rattle.dn_base.specs.Outside.{Added, Faults, IsCounted, IsWritten}
 use Rattle.dn_base.proofs.Counts.{counted_then}
 use Rattle.dn_base.proofs.Told.{Added-none, Added-then, less_then, prefix_by, prefix_then, written_all}
-use Rattle.dn_tool.specs.declared.halt.Halt.{Halt}
+use Rattle.dn_tool.specs.declared.halt.RunHalt.{RunHalt}
 use Rattle.dn_tool.specs.Halt.{HaltsBySink, Writes, is_device_halt, is_write_halt}
 
 -- a part of an output was written, and the rest was not
@@ -43,11 +43,11 @@ stopped_in a b c failed x rest later all s e w =
     }
 
 -- what is told of a call that stopped before a piece, and of one that stopped where it wrote one
-pub stopped_here : {A : Type 0} (r : Result A Halt) (a b : Option (List ℕ)) (rest all : List ℕ) (old new : Faults) → is_ok r ≡ false → is_write_halt r ≡ false → is_device_halt r ≡ false →
+pub stopped_here : {A : Type 0} (r : Result A RunHalt) (a b : Option (List ℕ)) (rest all : List ℕ) (old new : Faults) → is_ok r ≡ false → is_write_halt r ≡ false → is_device_halt r ≡ false →
     IsSoFar a b rest all → IsCounted old new false → Writes r a b all × HaltsBySink r old new
 stopped_here r a b rest all old new done failed no_device s n = (rw (done, failed) (stopped_before a b rest all s), record { no_device = no_device; counted = rw failed n })
 
-pub stopped_there : {A B : Type 0} (r : Result A Halt) (w : Result B Halt) (a b c : Option (List ℕ)) (x rest later all : List ℕ) (old mid new : Faults) → is_ok r ≡ false → is_write_halt r ≡ is_write_halt w → is_device_halt r ≡ false → is_ok w ≡ false →
+pub stopped_there : {A B : Type 0} (r : Result A RunHalt) (w : Result B RunHalt) (a b c : Option (List ℕ)) (x rest later all : List ℕ) (old mid new : Faults) → is_ok r ≡ false → is_write_halt r ≡ is_write_halt w → is_device_halt r ≡ false → is_ok w ≡ false →
     IsSoFar a b rest all → rest ≡ x ++ later → Writes w b c x → IsCounted old mid false → IsCounted mid new (is_write_halt w) → Writes r a c all × HaltsBySink r old new
 stopped_there r w a b c x rest later all old mid new done failed no_device stop s e written n m = (
   rw (done, failed) (stopped_in a b c (is_write_halt w) x rest later all s e (rw stop at written)),

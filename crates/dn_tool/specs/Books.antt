@@ -8,7 +8,7 @@ use Rattle.dn_net.specs.Legal.{IsLegalNet}
 use Rattle.dn_kind.specs.declared.rights.Access.{Access}
 use Rattle.dn_kind.specs.Kind.{IsLawful, Meaning}
 use Rattle.dn_kind.specs.Units.{IsLegalWith}
-use Rattle.dn_image.specs.Image.{are_filled, image}
+use Rattle.dn_image.specs.Image.{image}
 use Rattle.dn_lookup.specs.Lookup.{lookup_of}
 use Rattle.dn_book.specs.declared.grant.Grant.{Grant}
 use Rattle.dn_book.specs.Book.{IsFaithful, IsSound, owed_names}
@@ -41,9 +41,8 @@ BooksStayFaithful = (kinds : List Meaning) (net : List NodeDecl) (commands : Lis
     (turns : List Turn) → IsLegalNet net → AreTurns kinds net start commands turns → (count : ℕ) →
     IsKeptFaithful net (state_after start (take count turns)).book
 
--- The image of the tables of a sound and faithful book gives what the book owes, where its words have
--- 64 bits.
+-- The image of the tables of a sound and faithful book gives what the book owes.
 abbrev pub FaithfulImageGivesOwed : Type 0
 FaithfulImageGivesOwed = (kinds : List Meaning) (net : List NodeDecl) (book : List Grant) →
     All IsLawful kinds → IsLegalWith kinds net → IsKeptFaithful net book →
-    IsTrue (are_filled kinds net (tables_of net kinds book)) → ImageGivesOwed kinds net book
+    ImageGivesOwed kinds net book

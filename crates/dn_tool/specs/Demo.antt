@@ -25,7 +25,7 @@ use Rattle.dn_tool.specs.Viewed.{owed_rows}
 
 -- the command is `grant`
 abbrev pub is_grant : Command → Bool
-is_grant (Grant id from target base size m) = true
+is_grant (Grant id agent node base size m) = true
 is_grant _ = false
 
 -- the command is `revoke`

@@ -1,5 +1,5 @@
 -- How far a run comes over a script: what of it is done to the device, and what is written.
-use Rattle.std.specs.Prelude.{◌≡◌, ◌≢◌, ℕ, false, suc, ◌<◌, ◌≤◌, List, [], ◌∷◌, ◌++◌, map, take, drop, length, get_or, Option}
+use Rattle.std.specs.Prelude.{◌≡◌, ◌≢◌, ℕ, false, suc, ◌<◌, ◌≤◌, List, [], ◌∷◌, ◌++◌, map, take, length, get_or, Option}
 use Rattle.std.specs.Option.{IfSome}
 use Rattle.dn_base.specs.declared.device.TableEvent.{TableEvent}
 use Rattle.dn_base.specs.declared.device.UnitWords.{UnitWords}
@@ -7,20 +7,13 @@ use Rattle.dn_base.specs.Device.{Logged}
 use Rattle.dn_base.specs.Outside.{Added}
 use Rattle.dn_net.specs.declared.node.NodeDecl.{NodeDecl}
 use Rattle.dn_kind.specs.Kind.{Meaning}
-use Rattle.dn_tables.specs.Set.{table_on_device}
+use Rattle.dn_tables.specs.Set.{device_tables}
 use Rattle.dn_tables.specs.Writes.{make_event}
-use Rattle.dn_image.specs.Image.{first_words}
 use Rattle.dn_book.specs.Tables.{tables_of}
 use Rattle.dn_module.specs.declared.command.Command.{Command}
 use Rattle.dn_tool.specs.Books.{GivesOwed}
 use Rattle.dn_tool.specs.Halt.{is_free_status}
 use Rattle.dn_tool.specs.Turn.{AreTurns, Turn, events_of, replies_of, reply_turn, start, state_after}
-
--- the tables of nodes from a number on, as a device tells them: those of units, ascending
-abbrev pub device_tables : ℕ → List NodeDecl → List (List ℕ) → List UnitWords
-device_tables node [] words = []
-device_tables node (n ∷ ns) words =
-    table_on_device node (first_words words) n.unit ++ device_tables (suc node) ns (drop 1 words)
 
 -- before the first command each unit is made, with words 0
 abbrev pub make_turn : List Meaning → List NodeDecl → Turn

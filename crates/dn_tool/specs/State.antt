@@ -1,5 +1,5 @@
 -- What the code keeps of a script: the book with its tables, the ids, and what is made of them once.
-use Rattle.std.specs.Prelude.{◌≡◌, ◌<◌, ◌⊎◌, ℕ, true, List, length, Option, Result, Ok, Err, IsTrue}
+use Rattle.std.specs.Prelude.{◌≡◌, ◌<◌, ◌⊎◌, ℕ, true, List, length, Option, Result, Ok, Err}
 use Rattle.std.specs.Option.{IfSome}
 use Rattle.dn_base.specs.declared.device.TableEvent.{TableEvent}
 use Rattle.dn_base.specs.declared.device.UnitWords.{UnitWords}
@@ -7,19 +7,20 @@ use Rattle.dn_base.specs.Device.{Logged, UnitSize}
 use Rattle.dn_base.specs.Outside.{Added}
 use Rattle.dn_net.specs.declared.node.NodeDecl.{NodeDecl}
 use Rattle.dn_kind.specs.Kind.{Meaning}
+use Rattle.dn_kind.specs.Kinded.{kinds_of}
 use Rattle.dn_flat.specs.Levels.{AreFlats}
 use Rattle.dn_flat.specs.Stages.{IsFlat}
 use Rattle.dn_tables.specs.Set.{IsOnDevice, words_of}
-use Rattle.dn_image.specs.Image.{are_filled, image}
+use Rattle.dn_image.specs.Image.{image}
 use Rattle.dn_book.specs.Book.{IsFaithful}
 use Rattle.dn_book.specs.Tables.{IsKept}
-use Rattle.dn_tool.specs.declared.halt.Halt.{Halt}
-use Rattle.dn_tool.specs.declared.halt.Halt.TheVariants.{NoMemory}
+use Rattle.dn_tool.specs.declared.halt.RunHalt.{RunHalt}
+use Rattle.dn_tool.specs.declared.halt.RunHalt.TheVariants.{NoMemory}
 use Rattle.dn_tool.specs.declared.machine.Machine.{Machine}
 use Rattle.dn_tool.specs.declared.state.FirstView.{FirstView}
-use Rattle.dn_tool.specs.declared.state.State.{State as Kept}
+use Rattle.dn_tool.specs.declared.state.Session.{Session as Kept}
 use Rattle.dn_tool.specs.Halt.{ending_status}
-use Rattle.dn_tool.specs.Machine.{IsMachine, kinds_of}
+use Rattle.dn_tool.specs.Machine.{IsMachine}
 use Rattle.dn_tool.specs.Played.{CameIn}
 use Rattle.dn_tool.specs.Turn.{State, Turn}
 use Rattle.dn_tool.specs.Unmade.{AreUnmade}
@@ -33,14 +34,13 @@ pub record IsFirstView (net : List NodeDecl) (first : FirstView) : Type 0 where
   pub there : first.agent < length net
   pub flat : IsFlat net first.agent first.flat
 
--- no call of the device failed, the book is faithful and the tables keep it in words of 64 bits, the
--- bytes are the image of the tables, the views are those of the net, where they were made, and the nets that were not
--- made are such
+-- no call of the device failed, the book is faithful and the tables keep it, the bytes are the image of
+-- the tables, the views are those of the net, where they were made, and the nets that were not made are
+-- such
 pub record IsState (kinds : List Meaning) (net : List NodeDecl) (k : Kept) : Type 0 where
-  pub sound : k.book.sound ≡ true
+  pub unfailed : k.book.unfailed ≡ true
   pub faithful : IsFaithful net k.book.grants
   pub kept : IsKept net kinds k.book.grants k.book.set
-  pub filled : IsTrue (are_filled kinds net (words_of k.book.set))
   pub bytes : IfSome k.image (λ bytes. bytes ≡ image net kinds (words_of k.book.set))
   pub first : IfSome k.first (IsFirstView net)
   pub flat : IfSome k.flats (AreFlats net)
@@ -50,20 +50,20 @@ pub record IsState (kinds : List Meaning) (net : List NodeDecl) (k : Kept) : Typ
 pub record IsReady {K : Type 0} {V : K → Type 0} (means : (k : K) × V k → Meaning)
     (m : Machine K V) (k : Kept) : Type 0 where
   pub machine : IsMachine means m
-  pub state : IsState (kinds_of means m) m.net.now k
+  pub state : IsState (kinds_of means m.on.kinds.now) m.on.net.now k
 
 -- the same where a device has the tables, with these units and words
 pub record IsReadyOn {K : Type 0} {V : K → Type 0} (means : (k : K) × V k → Meaning)
     (m : Machine K V) (k : Kept) (units : List UnitSize) (words : Option (List UnitWords))
     : Type 0 where
   pub machine : IsMachine means m
-  pub state : IsState (kinds_of means m) m.net.now k
+  pub state : IsState (kinds_of means m.on.kinds.now) m.on.net.now k
   pub on_device : IsOnDevice k.book.set units words
 
 -- the state behind a command that changes nothing: no more than what is kept of it may be new
 pub record IsStill {K : Type 0} {V : K → Type 0} (means : (k : K) × V k → Meaning)
     (m : Machine K V) (k k' : Kept) : Type 0 where
-  pub state : IsState (kinds_of means m) m.net.now k'
+  pub state : IsState (kinds_of means m.on.kinds.now) m.on.net.now k'
   pub book : k'.book ≡ k.book
   pub ids : k'.ids ≡ k.ids
 
@@ -84,20 +84,20 @@ pub record IsInside (P : Turn → Type 0) (status : ℕ) (before after : Option 
   pub came : CameIn turn status before after log log'
 
 -- for want of memory nothing was done and nothing written
-pub record IsBefore (halt : Halt) (before after : Option (List ℕ)) (log log' : Option (List TableEvent))
+pub record IsBefore (halt : RunHalt) (before after : Option (List ℕ)) (log log' : Option (List TableEvent))
     : Type 0 where
   pub memory : halt ≡ NoMemory
   pub log_is : log' ≡ log
   pub sink_is : after ≡ before
 
 -- a halt came inside a turn of this sort, or before it
-abbrev pub IsHalted : (Turn → Type 0) → Halt → Option (List ℕ) → Option (List ℕ) →
+abbrev pub IsHalted : (Turn → Type 0) → RunHalt → Option (List ℕ) → Option (List ℕ) →
     Option (List TableEvent) → Option (List TableEvent) → Type 0
 IsHalted P h before after log log' =
     IsBefore h before after log log' ⊎ IsInside P (ending_status (Err h)) before after log log'
 
 -- how far a command came whose turns are of this sort
-abbrev pub CameThrough : {A : Type 0} → (Turn → Type 0) → Result A Halt → State → Option (List ℕ) →
+abbrev pub CameThrough : {A : Type 0} → (Turn → Type 0) → Result A RunHalt → State → Option (List ℕ) →
     Option (List ℕ) → Option (List TableEvent) → Option (List TableEvent) → Type 0
 CameThrough P (Ok a) next before after log log' = IsTurned P next before after log log'
 CameThrough P (Err h) next before after log log' = IsHalted P h before after log log'
@@ -112,7 +112,7 @@ pub record IsChanged (P : Turn → Type 0) (next : State) (reply : List ℕ)
   pub left : turn.next ≡ next
 
 -- how far a change came whose turns are of this sort, whatever was written before
-abbrev pub CameThroughChange : (Turn → Type 0) → Result (List ℕ) Halt → State →
+abbrev pub CameThroughChange : (Turn → Type 0) → Result (List ℕ) RunHalt → State →
     Option (List TableEvent) → Option (List TableEvent) → Type 0
 CameThroughChange P (Ok reply) next log log' = IsChanged P next reply log log'
 CameThroughChange P (Err h) next log log' =

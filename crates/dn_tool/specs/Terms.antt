@@ -7,13 +7,13 @@ pub use Rattle.dn_tool.specs.Demo.{IsShown, IsShownOn, agent_rows, has_granted, 
 pub use Rattle.dn_tool.specs.Found.{access_of, access_text, asked_text, lookup_text, names_under, resolve_text}
 pub use Rattle.dn_tool.specs.Halt.{HaltsByDevice, HaltsByEither, HaltsBySink, Writes, ending_status, is_free_status, make_halt}
 pub use Rattle.dn_tool.specs.Ids.{id_number, with_id}
-pub use Rattle.dn_tool.specs.Machine.{IsMachine, kinds_of}
+pub use Rattle.dn_tool.specs.Machine.{IsMachine}
 pub use Rattle.dn_tool.specs.Platform.{IsPlatform}
 pub use Rattle.dn_tool.specs.Played.{IsPlayed, IsPlayedOn}
 pub use Rattle.dn_tool.specs.Refused.{AreNodesWithin, IsNodeWithin, Refused, by_limit, by_line, by_shown, by_text, chain_text, expand_refusal, fork_text, node_refusal, refusal_of, rule_name, text_refusal, unit_refusal, units_text, walk_refusal}
 pub use Rattle.dn_tool.specs.Reread.{AbsorbIsReadBack, CompiledIsReadBack, SplitIsReadBack}
 pub use Rattle.dn_tool.specs.Reshape.{absorb_text, absorbed_text, limit_text, made_text, no_node_text, reason_text, refusal_text, split_text, unfit_text}
 pub use Rattle.dn_tool.specs.State.{CameThrough, CameThroughChange, IsFirstView, IsReady, IsReadyOn, IsStill, state_view}
-pub use Rattle.dn_tool.specs.Turn.{IsGrantTurn, IsRevokeTurn, IsRouteTurn, IsTurn, is_change, is_dump, is_view, number_or_none, reply, request_of, rights_of, start}
+pub use Rattle.dn_tool.specs.Turn.{IsGrantTurn, IsRevokeTurn, IsRouteTurn, IsTurn, TurnIsOne, TurnsAreOne, is_change, is_dump, is_view, number_or_none, reply, request_of, rights_of, start}
 pub use Rattle.dn_tool.specs.Unmade.{AreUnmade, IsPassed, IsUnfit, IsUnfitFor}
 pub use Rattle.dn_tool.specs.Viewed.{OwedRowsAreNormal, no_agent_text, owed_rows, view_heading, view_text, viewed_text}

@@ -5,6 +5,7 @@ use Rattle.std.specs.List.{flat_map}
 use Rattle.dn_base.specs.declared.device.TableEvent.{TableEvent}
 use Rattle.dn_net.specs.declared.node.NodeDecl.{NodeDecl}
 use Rattle.dn_net.specs.Chain.{Member}
+use Rattle.dn_net.specs.Legal.{IsLegalNet}
 use Rattle.dn_parse.specs.declared.syntax.Mode.{Mode}
 use Rattle.dn_parse.specs.declared.syntax.Mode.TheVariants.{Unsaid, Read, Write}
 use Rattle.dn_kind.specs.declared.rights.Rights.{Rights}
@@ -17,7 +18,7 @@ use Rattle.dn_module.specs.declared.command.Command.TheVariants.{Resolve, Lookup
 use Rattle.dn_module.specs.declared.command.Target.{Target}
 use Rattle.dn_placement.specs.declared.request.Request.{Request}
 use Rattle.dn_book.specs.declared.grant.Grant.{Grant as GrantPart}
-use Rattle.dn_book.specs.Book.{has_id, without_id}
+use Rattle.dn_book.specs.Book.{IsSound, has_id, without_id}
 use Rattle.dn_book.specs.Tables.{tables_of}
 use Rattle.dn_book.specs.Writes.{grant_events, revoke_events}
 use Rattle.dn_grant.specs.Grant.{IsGrantRefused, IsPlaced, grant_of_request}
@@ -69,9 +70,9 @@ rights_of Write = record { 0 = 2 }
 
 -- what a grant asks for
 abbrev pub request_of : Target → Target → ℕ → ℕ → Mode → Request
-request_of from target base size m = record {
-  agent = number_or_none from.node;
-  node = number_or_none target.node;
+request_of agent node base size m = record {
+  agent = number_or_none agent.node;
+  node = number_or_none node.node;
   base = base;
   size = size;
   rights = rights_of m;
@@ -158,10 +159,15 @@ is_view _ = false
 
 -- the command may change the book
 abbrev pub is_change : Command → Bool
-is_change (Grant id from target base size m) = true
-is_change (Route id from line target) = true
+is_change (Resolve target a m) = false
+is_change (Lookup target a m) = false
+is_change (View target m) = false
+is_change (Grant id agent node base size m) = true
+is_change (Route id agent line node) = true
 is_change (Revoke id) = true
-is_change _ = false
+is_change Dump = false
+is_change Split = false
+is_change (Absorb target) = false
 
 -- the reply to a command that changes nothing; the others have none here
 abbrev pub reply : List Meaning → List NodeDecl → List GrantPart → Command → List ℕ
@@ -171,18 +177,27 @@ reply kinds net book (View target m) = view_text net book target m
 reply kinds net book Dump = dump_text (image net kinds (tables_of net kinds book))
 reply kinds net book Split = split_text kinds net
 reply kinds net book (Absorb target) = absorb_text kinds net target
-reply kinds net book (Grant id from target base size m) = []
-reply kinds net book (Route id from line target) = []
+reply kinds net book (Grant id agent node base size m) = []
+reply kinds net book (Route id agent line node) = []
 reply kinds net book (Revoke id) = []
+
+-- the turn of a command that changes nothing
+abbrev pub IsReplyTurn : List Meaning → List NodeDecl → State → Command → Turn → Type 0
+IsReplyTurn kinds net s c t = t ≡ reply_turn (reply kinds net s.book c) s
 
 -- the turn of a command in a state
 abbrev pub IsTurn : List Meaning → List NodeDecl → State → Command → Turn → Type 0
-IsTurn kinds net s (Grant id from target base size m) t =
-    IsGrantTurn kinds net s id (request_of from target base size m) t
-IsTurn kinds net s (Route id from line target) t =
-    IsRouteTurn kinds net s id (number_or_none from.node) line (number_or_none target.node) t
+IsTurn kinds net s (Resolve target a m) t = IsReplyTurn kinds net s (Resolve target a m) t
+IsTurn kinds net s (Lookup target a m) t = IsReplyTurn kinds net s (Lookup target a m) t
+IsTurn kinds net s (View target m) t = IsReplyTurn kinds net s (View target m) t
+IsTurn kinds net s (Grant id agent node base size m) t =
+    IsGrantTurn kinds net s id (request_of agent node base size m) t
+IsTurn kinds net s (Route id agent line node) t =
+    IsRouteTurn kinds net s id (number_or_none agent.node) line (number_or_none node.node) t
 IsTurn kinds net s (Revoke id) t = IsRevokeTurn kinds net s id t
-IsTurn kinds net s c t = t ≡ reply_turn (reply kinds net s.book c) s
+IsTurn kinds net s Dump t = IsReplyTurn kinds net s Dump t
+IsTurn kinds net s Split t = IsReplyTurn kinds net s Split t
+IsTurn kinds net s (Absorb target) t = IsReplyTurn kinds net s (Absorb target) t
 
 -- the turns of commands in order, each in the state that those before it left
 abbrev pub AreTurns : List Meaning → List NodeDecl → State → List Command → List Turn → Type 0
@@ -203,3 +218,14 @@ replies_of turns = flat_map (λ t. t.reply) turns
 -- the events of turns, one after the other
 abbrev pub events_of : List Turn → List TableEvent
 events_of turns = flat_map (λ t. t.events) turns
+
+-- A command that meets a sound book has one turn at most.
+abbrev pub TurnIsOne : Type 0
+TurnIsOne = (kinds : List Meaning) (net : List NodeDecl) (s : State) (c : Command) (t u : Turn) →
+    IsLegalNet net → IsSound net s.book → IsTurn kinds net s c t → IsTurn kinds net s c u → t ≡ u
+
+-- A script over a legal net has one list of turns at most.
+abbrev pub TurnsAreOne : Type 0
+TurnsAreOne = (kinds : List Meaning) (net : List NodeDecl) (commands : List Command)
+    (turns others : List Turn) → IsLegalNet net → AreTurns kinds net start commands turns →
+    AreTurns kinds net start commands others → turns ≡ others

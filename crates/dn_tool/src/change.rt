@@ -1,14 +1,15 @@
 //! The commands that change the book: grants, routes and revokes.
 
 ghost use Rattle.std.specs.Prelude.{◌≡◌, true, IfOk, IfSome, IsSome, IsTrue, OnOk};
-ghost use Rattle.dn_kind.specs.Terms.{are_rights};
+ghost use Rattle.dn_kind.specs.Terms.{are_rights, kinds_of};
 ghost use Rattle.dn_grant.specs.Terms.{grant_fault_view, not_accepted};
 ghost use Rattle.dn_vector.specs.Terms.{route_fault_view};
-ghost use Rattle.dn_tool.specs.Terms.{CameThroughChange, HaltsByDevice, IsGrantTurn, IsReadyOn, IsRevokeTurn, IsRouteTurn, IsTurn, grant_refused_text, granted_text, is_change, kinds_of, number_or_none, refused_text, request_of, revoked_text, rights_of, route_refused_text, routed_text, state_view};
+ghost use Rattle.dn_tool.specs.Terms.{CameThroughChange, HaltsByDevice, IsGrantTurn, IsReadyOn, IsRevokeTurn, IsRouteTurn, IsTurn, grant_refused_text, granted_text, is_change, number_or_none, refused_text, request_of, revoked_text, rights_of, route_refused_text, routed_text, state_view};
 
-use crate::halt::Halt;
+use crate::OutOfMemory;
+use crate::halt::RunHalt;
 use crate::machine::Machine;
-use crate::state::{State, keep_flats, renew};
+use crate::state::{Session, keep_flats, kept_flats, renew};
 use dn_base::device::Tables;
 use dn_base::items::Items;
 use dn_book::book::RevokeFault;
@@ -21,34 +22,45 @@ use dn_placement::request::Request;
 use dn_vector::fault::RouteFault;
 use dn_vector::route::route;
 use dn_view::system::System;
-use std::alloc::{AllocError, Global};
+use std::alloc::Global;
 
 /// Does a command that changes the book, and answers its reply. All memory of the change is taken before
 /// the first call of the device.
 pub(crate) fn change<D: Tables>(
     alloc: Global,
     machine: Machine,
-    state: &mut State,
+    state: &mut Session,
     command: &Command,
     device: &mut D,
-) -> Result<Items<u8>, Halt>
+) -> Result<Items<u8>, RunHalt>
     requires ready { IsReadyOn meaning machine state.old (D.units device.old) (D.words device.old) }
     requires change { is_change command.now ≡ true }
-    ensures changed { CameThroughChange
-        (IsTurn (kinds_of meaning machine.entry) machine.entry.net.now
-        (state_view state.old) command.now)
-        result (state_view state.new) (D.log device.old) (D.log device.new) }
+    ensures changed { CameThroughChange (IsTurn (kinds_of meaning machine.entry.on.kinds.now)
+        machine.entry.on.net.now (state_view state.old) command.now) result
+        (state_view state.new) (D.log device.old) (D.log device.new) }
     ensures ready { OnOk result
         (IsReadyOn meaning machine.entry state.new (D.units device.new) (D.words device.new)) }
     ensures halted { HaltsByDevice result (D.faults device.old) (D.faults device.new) }
 {
     match command {
-        Command::Grant(id, from, target, base, size, mode) => {
+        Command::Grant {
+            id,
+            agent: from,
+            node: target,
+            base,
+            size,
+            mode,
+        } => {
             let request = request_of(from, target, *base, *size, *mode);
             let id = id.as_str();
             grant_change(alloc, machine, state, id, &request, device)
         }
-        Command::Route(id, from, line, target) => {
+        Command::Route {
+            id,
+            agent: from,
+            line,
+            node: target,
+        } => {
             let agent = number_or_none(from.node);
             let node = number_or_none(target.node);
             let id = id.as_str();
@@ -96,35 +108,34 @@ fn request_of(from: &Target, target: &Target, base: u64, size: u64, mode: Mode) 
 fn grant_change<D: Tables>(
     alloc: Global,
     machine: Machine,
-    state: &mut State,
+    state: &mut Session,
     id: &str,
     request: &Request,
     device: &mut D,
-) -> Result<Items<u8>, Halt>
+) -> Result<Items<u8>, RunHalt>
     requires ready { IsReadyOn meaning machine state.old (D.units device.old) (D.words device.old) }
     requires rights { IsTrue (are_rights request.now.rights) }
-    ensures changed { CameThroughChange
-        (IsGrantTurn (kinds_of meaning machine.entry) machine.entry.net.now
-        (state_view state.old) id.now request.now)
-        result (state_view state.new) (D.log device.old) (D.log device.new) }
+    ensures changed { CameThroughChange (IsGrantTurn (kinds_of meaning machine.entry.on.kinds.now)
+        machine.entry.on.net.now (state_view state.old) id.now request.now) result
+        (state_view state.new) (D.log device.old) (D.log device.new) }
     ensures ready { OnOk result
         (IsReadyOn meaning machine.entry state.new (D.units device.new) (D.words device.new)) }
     ensures halted { HaltsByDevice result (D.faults device.old) (D.faults device.new) }
 {
     let number = state.ids.number(alloc, id)?;
     keep_flats(alloc, machine, &mut state.flats)?;
-    let Some(flats) = &state.flats else {
-        unreachable!()
+    let flats = kept_flats(&state.flats);
+    let system = System {
+        on: machine.on,
+        flats,
     };
-    let Machine { net, kinds, .. } = machine;
-    let system = System { net, flats, kinds };
     match grant(alloc, &mut state.book, system, number, request, device) {
         Ok(v) => {
             renew(machine, state);
             Ok(granted_reply(alloc, id, v)?)
         }
-        Err(GrantFault::Device) => Err(Halt::DeviceFault),
-        Err(GrantFault::OutOfMemory) => Err(Halt::NoMemory),
+        Err(GrantFault::Device) => Err(RunHalt::DeviceFault),
+        Err(GrantFault::OutOfMemory) => Err(RunHalt::NoMemory),
         Err(why) => Ok(grant_refused(alloc, id, why)?),
     }
 }
@@ -133,29 +144,28 @@ fn grant_change<D: Tables>(
 fn route_change<D: Tables>(
     alloc: Global,
     machine: Machine,
-    state: &mut State,
+    state: &mut Session,
     id: &str,
     agent: u16,
     line: u64,
     node: u16,
     device: &mut D,
-) -> Result<Items<u8>, Halt>
+) -> Result<Items<u8>, RunHalt>
     requires ready { IsReadyOn meaning machine state.old (D.units device.old) (D.words device.old) }
-    ensures changed { CameThroughChange
-        (IsRouteTurn (kinds_of meaning machine.entry) machine.entry.net.now
-        (state_view state.old) id.now agent line node)
-        result (state_view state.new) (D.log device.old) (D.log device.new) }
+    ensures changed { CameThroughChange (IsRouteTurn (kinds_of meaning machine.entry.on.kinds.now)
+        machine.entry.on.net.now (state_view state.old) id.now agent line node) result
+        (state_view state.new) (D.log device.old) (D.log device.new) }
     ensures ready { OnOk result
         (IsReadyOn meaning machine.entry state.new (D.units device.new) (D.words device.new)) }
     ensures halted { HaltsByDevice result (D.faults device.old) (D.faults device.new) }
 {
     let number = state.ids.number(alloc, id)?;
     keep_flats(alloc, machine, &mut state.flats)?;
-    let Some(flats) = &state.flats else {
-        unreachable!()
+    let flats = kept_flats(&state.flats);
+    let system = System {
+        on: machine.on,
+        flats,
     };
-    let Machine { net, kinds, .. } = machine;
-    let system = System { net, flats, kinds };
     match route(
         alloc,
         &mut state.book,
@@ -170,8 +180,8 @@ fn route_change<D: Tables>(
             renew(machine, state);
             Ok(routed_reply(alloc, id, vector)?)
         }
-        Err(RouteFault::Device) => Err(Halt::DeviceFault),
-        Err(RouteFault::OutOfMemory) => Err(Halt::NoMemory),
+        Err(RouteFault::Device) => Err(RunHalt::DeviceFault),
+        Err(RouteFault::OutOfMemory) => Err(RunHalt::NoMemory),
         Err(why) => Ok(route_refused(alloc, id, why)?),
     }
 }
@@ -180,33 +190,31 @@ fn route_change<D: Tables>(
 fn revoke_change<D: Tables>(
     alloc: Global,
     machine: Machine,
-    state: &mut State,
+    state: &mut Session,
     id: &str,
     device: &mut D,
-) -> Result<Items<u8>, Halt>
+) -> Result<Items<u8>, RunHalt>
     requires ready { IsReadyOn meaning machine state.old (D.units device.old) (D.words device.old) }
-    ensures changed { CameThroughChange
-        (IsRevokeTurn (kinds_of meaning machine.entry) machine.entry.net.now
-        (state_view state.old) id.now)
-        result (state_view state.new) (D.log device.old) (D.log device.new) }
+    ensures changed { CameThroughChange (IsRevokeTurn (kinds_of meaning machine.entry.on.kinds.now)
+        machine.entry.on.net.now (state_view state.old) id.now) result
+        (state_view state.new) (D.log device.old) (D.log device.new) }
     ensures ready { OnOk result
         (IsReadyOn meaning machine.entry state.new (D.units device.new) (D.words device.new)) }
     ensures halted { HaltsByDevice result (D.faults device.old) (D.faults device.new) }
 {
     let number = state.ids.number(alloc, id)?;
-    let Machine { net, kinds, .. } = machine;
-    match state.book.revoke(net, kinds, number, device) {
+    match state.book.revoke(machine.on, number, device) {
         Ok(()) => {
             renew(machine, state);
             Ok(revoked_reply(alloc, id)?)
         }
         Err(RevokeFault::NoGrant) => Ok(refused_reply(alloc, id, "NoGrant")?),
-        Err(RevokeFault::Device) => Err(Halt::DeviceFault),
+        Err(RevokeFault::Device) => Err(RunHalt::DeviceFault),
     }
 }
 
 /// The reply to a grant.
-fn granted_reply(alloc: Global, id: &str, v: u64) -> Result<Items<u8>, AllocError>
+fn granted_reply(alloc: Global, id: &str, v: u64) -> Result<Items<u8>, OutOfMemory>
     ensures { IfOk result (λ text. text ≡ granted_text id.now v) }
 {
     let text = format!(in alloc; "{id} at 0x{v:x}\n")?;
@@ -214,7 +222,7 @@ fn granted_reply(alloc: Global, id: &str, v: u64) -> Result<Items<u8>, AllocErro
 }
 
 /// The reply to a route.
-fn routed_reply(alloc: Global, id: &str, vector: u64) -> Result<Items<u8>, AllocError>
+fn routed_reply(alloc: Global, id: &str, vector: u64) -> Result<Items<u8>, OutOfMemory>
     ensures { IfOk result (λ text. text ≡ routed_text id.now vector) }
 {
     let text = format!(in alloc; "{id} vector 0x{vector:x}\n")?;
@@ -222,7 +230,7 @@ fn routed_reply(alloc: Global, id: &str, vector: u64) -> Result<Items<u8>, Alloc
 }
 
 /// The reply to a revoke.
-fn revoked_reply(alloc: Global, id: &str) -> Result<Items<u8>, AllocError>
+fn revoked_reply(alloc: Global, id: &str) -> Result<Items<u8>, OutOfMemory>
     ensures { IfOk result (λ text. text ≡ revoked_text id.now) }
 {
     let text = format!(in alloc; "{id} revoked\n")?;
@@ -230,7 +238,7 @@ fn revoked_reply(alloc: Global, id: &str) -> Result<Items<u8>, AllocError>
 }
 
 /// The reply that names an id and a refusal.
-fn refused_reply(alloc: Global, id: &str, refusal: &str) -> Result<Items<u8>, AllocError>
+fn refused_reply(alloc: Global, id: &str, refusal: &str) -> Result<Items<u8>, OutOfMemory>
     ensures { IfOk result (λ text. text ≡ refused_text id.now refusal.now) }
 {
     let text = format!(in alloc; "{id} refused: {refusal}\n")?;
@@ -238,7 +246,7 @@ fn refused_reply(alloc: Global, id: &str, refusal: &str) -> Result<Items<u8>, Al
 }
 
 /// The reply to a grant that is refused.
-fn grant_refused(alloc: Global, id: &str, why: GrantFault) -> Result<Items<u8>, AllocError>
+fn grant_refused(alloc: Global, id: &str, why: GrantFault) -> Result<Items<u8>, OutOfMemory>
     requires { IsSome (grant_fault_view why) }
     ensures { IfOk result (λ text. IfSome (grant_fault_view why)
         (λ refusal. text ≡ grant_refused_text id.now refusal)) }
@@ -256,7 +264,7 @@ fn grant_refused(alloc: Global, id: &str, why: GrantFault) -> Result<Items<u8>, 
 }
 
 /// The reply to a grant of a buffer of which an address is not accepted.
-fn not_accepted(alloc: Global, id: &str, first: u64) -> Result<Items<u8>, AllocError>
+fn not_accepted(alloc: Global, id: &str, first: u64) -> Result<Items<u8>, OutOfMemory>
     ensures { IfOk result (λ text. text
         ≡ grant_refused_text id.now (not_accepted first)) }
 {
@@ -265,7 +273,7 @@ fn not_accepted(alloc: Global, id: &str, first: u64) -> Result<Items<u8>, AllocE
 }
 
 /// The reply to a route that is refused.
-fn route_refused(alloc: Global, id: &str, why: RouteFault) -> Result<Items<u8>, AllocError>
+fn route_refused(alloc: Global, id: &str, why: RouteFault) -> Result<Items<u8>, OutOfMemory>
     requires { IsSome (route_fault_view why) }
     ensures { IfOk result (λ text. IfSome (route_fault_view why)
         (λ refusal. text ≡ route_refused_text id.now refusal)) }

@@ -1,15 +1,15 @@
 //! From a text to its platform, or to the rule that it breaks.
 
-ghost use Rattle.std.specs.Prelude.{◌≡◌, ◌≤◌, IfOk, IfSome, option_map, IsTrue, None, Result, Ok, Err, length, map};
-ghost use Rattle.std.specs.List.{All, list_all};
+ghost use Rattle.std.specs.Prelude.{◌≡◌, ◌≤◌, IfOk, IfSome, option_map, IsTrue, None, Result, Ok, Err, length};
+ghost use Rattle.std.specs.List.{list_all};
 ghost use Rattle.dn_net.specs.Terms.{is_closed};
-ghost use Rattle.dn_kind.specs.Terms.{IsLawful, has_kind, shape_fault};
+ghost use Rattle.dn_kind.specs.Terms.{AreKinds, has_kind, kinds_of, shape_fault};
 ghost use Rattle.dn_module.specs.Terms.{Expansion, names_within, outcome_view};
 ghost use Rattle.dn_tool.specs.Terms.{IsLegal, IsPlatform, Refused, compilation, compile_fault_view, expansion_compilation, fault, platform_view, refusal_of, with_refusal};
 ghost use Rattle.dn_base.specs.Terms.{Answers, Checks};
 
-use crate::refusal;
 use crate::refusal::Refusal;
+use crate::{OutOfMemory, refusal};
 use dn_kind::kinds::Kinds;
 use dn_kind::units;
 use dn_module::commands::Commands;
@@ -19,7 +19,7 @@ use dn_net::net::Net;
 use dn_parse::reader;
 use dn_walk::walks;
 use dn_walk::walks::WalkTable;
-use std::alloc::{AllocError, Global};
+use std::alloc::Global;
 use std::fmt;
 use std::fmt::{Debug, Formatter, Write};
 use std::marker::Model;
@@ -83,16 +83,14 @@ pub fn compile<'a>(
     kinds: &Kinds,
 ) -> Result<Platform<'a>, CompileFault>
     requires few_kinds { length kinds.now.list.items ≤ 255 }
-    requires lawful { All (λ k. IsLawful (meaning (k.vtable, k.value))) kinds.now.list.items }
+    requires kinds { AreKinds meaning kinds.now }
     ensures answer { Answers platform_view compile_fault_view result
-        (with_refusal (compilation (map (λ k. meaning (k.vtable, k.value)) kinds.now.list.items) text.now)) }
+        (with_refusal (compilation (kinds_of meaning kinds.now) text.now)) }
     // It is compiled where it breaks no rule, and refused for the first that it breaks.
-    ensures fault { Checks compile_fault_view result (option_map refusal_of
-        (fault (map (λ k. meaning (k.vtable, k.value)) kinds.now.list.items) text.now)) }
-    ensures legal { IfOk result (λ p.
-        IsLegal (map (λ k. meaning (k.vtable, k.value)) kinds.now.list.items) text.now) }
-    ensures shaped { IfOk result (λ p.
-        shape_fault (map (λ k. meaning (k.vtable, k.value)) kinds.now.list.items) p.net ≡ None) }
+    ensures fault { Checks compile_fault_view result
+        (option_map refusal_of (fault (kinds_of meaning kinds.now) text.now)) }
+    ensures legal { IfOk result (λ p. IsLegal (kinds_of meaning kinds.now) text.now) }
+    ensures shaped { IfOk result (λ p. shape_fault (kinds_of meaning kinds.now) p.net ≡ None) }
 {
     let tree = match reader::read(alloc, text) {
         Ok(tree) => tree,
@@ -111,16 +109,14 @@ fn platform_of<'a>(
     expanded: Expanded<'a>,
     kinds: &Kinds,
 ) -> Result<Platform<'a>, CompileFault>
-    requires lawful { All (λ k. IsLawful (meaning (k.vtable, k.value))) kinds.now.list.items }
+    requires kinds { AreKinds meaning kinds.now }
     requires closed { IsTrue (is_closed expanded.net) }
     requires known { IsTrue (list_all (names_within (length expanded.net)) expanded.commands) }
     requires known_kinds { IsTrue
         (list_all (λ n. has_kind (length kinds.now.list.items) n.unit) expanded.net) }
     ensures answer { Answers platform_view compile_fault_view result (with_refusal
-        (expansion_compilation (map (λ k. meaning (k.vtable, k.value)) kinds.now.list.items)
-        (Ok (outcome_view expanded.entry)))) }
-    ensures shaped { IfOk result (λ p.
-        shape_fault (map (λ k. meaning (k.vtable, k.value)) kinds.now.list.items) p.net ≡ None) }
+        (expansion_compilation (kinds_of meaning kinds.now) (Ok (outcome_view expanded.entry)))) }
+    ensures shaped { IfOk result (λ p. shape_fault (kinds_of meaning kinds.now) p.net ≡ None) }
 {
     let Expanded { net, commands } = expanded;
     if let Err(fault) = net.check_nodes(alloc) {
@@ -140,7 +136,7 @@ fn platform_of<'a>(
 }
 
 /// The fault that a refusal is.
-fn fault_of(refusal: Result<Refusal, AllocError>) -> CompileFault
+fn fault_of(refusal: Result<Refusal, OutOfMemory>) -> CompileFault
     ensures { (made : Result Expansion Refused) → IfOk refusal (λ r. made ≡ Err r) →
         IfSome (compile_fault_view result) (λ r. made ≡ Err r) }
 {

@@ -2,18 +2,19 @@
 
 ghost use Rattle.std.specs.Prelude.{◌≡◌, ◌+◌, ◌-◌, ◌^◌, ◌<◌, [], None, if◌then◌else◌, length, IfOk, OnOk};
 ghost use Rattle.dn_net.specs.Terms.{unit_at};
-ghost use Rattle.dn_kind.specs.Terms.{record_held};
+ghost use Rattle.dn_kind.specs.Terms.{kinds_of, record_held};
 ghost use Rattle.dn_flat.specs.Terms.{AreFlats};
 ghost use Rattle.dn_tables.specs.Terms.{FitsNet, words_of};
 ghost use Rattle.dn_demo.specs.Terms.{summary_text};
-ghost use Rattle.dn_tool.specs.Terms.{CameThrough, HaltsByDevice, HaltsByEither, HaltsBySink, IsMachine, IsReady, IsReadyOn, IsShown, IsShownOn, IsTurn, Writes, agent_rows, ending_status, has_granted, has_revoked, held_records, held_slots, is_change, kinds_of, start, state_view, sum_below, summary_with};
+ghost use Rattle.dn_tool.specs.Terms.{CameThrough, HaltsByDevice, HaltsByEither, HaltsBySink, IsMachine, IsReady, IsReadyOn, IsShown, IsShownOn, IsTurn, Writes, agent_rows, ending_status, has_granted, has_revoked, held_records, held_slots, is_change, start, state_view, sum_below, summary_with};
 
+use crate::OutOfMemory;
 use crate::change::change;
-use crate::halt::Halt;
+use crate::halt::RunHalt;
 use crate::machine::Machine;
 use crate::output::write_output;
 use crate::script::DONE;
-use crate::state::{State, keep_flats};
+use crate::state::{Session, keep_flats, kept_flats};
 use dn_base::device::Tables;
 use dn_base::sink::Sink;
 use dn_demo::summary::{Summary, summary_text};
@@ -26,7 +27,7 @@ use dn_placement::roles::is_agent;
 use dn_tables::set::TableSet;
 use dn_view::system::System;
 use dn_view::view::view;
-use std::alloc::{AllocError, Global};
+use std::alloc::Global;
 
 /// How many grants a demonstration made, and how many it revoked.
 #[derive(Clone, Copy)]
@@ -44,18 +45,17 @@ pub(crate) fn run_demo<K: Sink, D: Tables>(
     commands: &Commands,
     sink: &mut K,
     device: &mut D,
-) -> Result<u8, Halt>
+) -> Result<u8, RunHalt>
     requires machine { IsMachine meaning machine }
     requires none { D.units device.old ≡ [] }
-    ensures shown { IsShown
-        (kinds_of meaning machine.entry) machine.entry.net.now
-        agents commands.now (ending_status result) (K.written sink.old) (K.written sink.new)
-        (D.log device.old) (D.log device.new) (D.words device.new) }
+    ensures shown { IsShown (kinds_of meaning machine.entry.on.kinds.now)
+        machine.entry.on.net.now agents commands.now (ending_status result) (K.written sink.old)
+        (K.written sink.new) (D.log device.old) (D.log device.new) (D.words device.new) }
     ensures done { IfOk result (λ status. status ≡ 0) }
     ensures halted { HaltsByEither result (K.faults sink.old) (K.faults sink.new)
         (D.faults device.old) (D.faults device.new) }
 {
-    let mut state = State::make(alloc, machine, device)?;
+    let mut state = Session::make(alloc, machine, device)?;
     play_all(alloc, machine, agents, &mut state, commands, sink, device)
 }
 
@@ -65,17 +65,16 @@ fn play_all<K: Sink, D: Tables>(
     alloc: Global,
     machine: Machine,
     agents: u8,
-    state: &mut State,
+    state: &mut Session,
     commands: &Commands,
     sink: &mut K,
     device: &mut D,
-) -> Result<u8, Halt>
+) -> Result<u8, RunHalt>
     requires ready { IsReadyOn meaning machine state.old (D.units device.old) (D.words device.old) }
     requires start { state_view state.old ≡ start }
-    ensures shown { IsShownOn
-        (kinds_of meaning machine.entry) machine.entry.net.now
-        agents commands.now (ending_status result) (K.written sink.old) (K.written sink.new)
-        (D.log device.old) (D.log device.new) (D.words device.new) }
+    ensures shown { IsShownOn (kinds_of meaning machine.entry.on.kinds.now)
+        machine.entry.on.net.now agents commands.now (ending_status result) (K.written sink.old)
+        (K.written sink.new) (D.log device.old) (D.log device.new) (D.words device.new) }
     ensures done { IfOk result (λ status. status ≡ 0) }
     ensures halted { HaltsByEither result (K.faults sink.old) (K.faults sink.new)
         (D.faults device.old) (D.faults device.new) }
@@ -105,15 +104,14 @@ fn play_all<K: Sink, D: Tables>(
 fn play<D: Tables>(
     alloc: Global,
     machine: Machine,
-    state: &mut State,
+    state: &mut Session,
     command: &Command,
     device: &mut D,
-) -> Result<(), Halt>
+) -> Result<(), RunHalt>
     requires ready { IsReadyOn meaning machine state.old (D.units device.old) (D.words device.old) }
-    ensures through { CameThrough
-        (IsTurn (kinds_of meaning machine.entry) machine.entry.net.now
-        (state_view state.old) command.now)
-        result (state_view state.new) None None (D.log device.old) (D.log device.new) }
+    ensures through { CameThrough (IsTurn (kinds_of meaning machine.entry.on.kinds.now)
+        machine.entry.on.net.now (state_view state.old) command.now) result
+        (state_view state.new) None None (D.log device.old) (D.log device.new) }
     ensures ready { OnOk result
         (IsReadyOn meaning machine.entry state.new (D.units device.new) (D.words device.new)) }
     ensures halted { HaltsByDevice result (D.faults device.old) (D.faults device.new) }
@@ -131,7 +129,7 @@ fn is_change(command: &Command) -> bool
 {
     matches!(
         command,
-        Command::Grant(..) | Command::Route(..) | Command::Revoke(_)
+        Command::Grant { .. } | Command::Route { .. } | Command::Revoke(_)
     )
 }
 
@@ -139,7 +137,7 @@ fn is_change(command: &Command) -> bool
 fn has_granted(command: &Command, before: usize, after: usize) -> bool
     ensures { result ≡ has_granted command.now before after }
 {
-    matches!(command, Command::Grant(..)) && before < after
+    matches!(command, Command::Grant { .. }) && before < after
 }
 
 /// Whether a command was a revoke that took out a grant.
@@ -163,14 +161,13 @@ fn write_summary<K: Sink>(
     machine: Machine,
     agents: u8,
     tally: Tally,
-    state: &mut State,
+    state: &mut Session,
     sink: &mut K,
-) -> Result<(), Halt>
+) -> Result<(), RunHalt>
     requires ready { IsReady meaning machine state.old }
     ensures written { Writes result (K.written sink.old) (K.written sink.new)
-        (summary_text (summary_with
-        (kinds_of meaning machine.entry) machine.entry.net.now agents
-        tally.granted tally.revoked state.old.book.grants)) }
+        (summary_text (summary_with (kinds_of meaning machine.entry.on.kinds.now)
+        machine.entry.on.net.now agents tally.granted tally.revoked state.old.book.grants)) }
     ensures halted { HaltsBySink result (K.faults sink.old) (K.faults sink.new) }
 {
     let line = summary_line(alloc, machine, agents, tally, state)?;
@@ -183,26 +180,24 @@ fn summary_line(
     machine: Machine,
     agents: u8,
     tally: Tally,
-    state: &mut State,
-) -> Result<Vec<u8>, AllocError>
+    state: &mut Session,
+) -> Result<Vec<u8>, OutOfMemory>
     requires ready { IsReady meaning machine state.old }
-    ensures { IfOk result (λ line. line.items ≡ summary_text (summary_with
-        (kinds_of meaning machine.entry) machine.entry.net.now agents
-        tally.granted tally.revoked state.old.book.grants)) }
+    ensures { IfOk result (λ line. line.items
+        ≡ summary_text (summary_with (kinds_of meaning machine.entry.on.kinds.now)
+        machine.entry.on.net.now agents tally.granted tally.revoked state.old.book.grants)) }
 {
     keep_flats(alloc, machine, &mut state.flats)?;
-    let Some(flats) = &state.flats else {
-        unreachable!()
-    };
+    let flats = kept_flats(&state.flats);
     let tables = state.book.tables();
     let summary = Summary {
         agents,
-        nodes: machine.net.nodes(),
+        nodes: machine.on.net.nodes(),
         grants: tally.granted,
         revoked: tally.revoked,
         rows: all_rows(alloc, machine, state, flats)?,
         records: all_records(machine, tables),
-        image: write::write(alloc, machine.net, machine.kinds, tables)?.len() as u64,
+        image: write::write(alloc, machine.on, tables)?.len() as u64,
     };
     summary_text(alloc, summary)
 }
@@ -211,17 +206,16 @@ fn summary_line(
 fn all_rows(
     alloc: Global,
     machine: Machine,
-    state: &State,
+    state: &Session,
     flats: &Flats,
-) -> Result<u64, AllocError>
+) -> Result<u64, OutOfMemory>
     requires ready { IsReady meaning machine state.now }
-    requires flat { AreFlats machine.net.now flats.now }
-    ensures { IfOk result (λ rows. rows ≡
-        sum_below (agent_rows machine.entry.net.now state.now.book.grants)
-        (length machine.entry.net.now)) }
+    requires flat { AreFlats machine.on.net.now flats.now }
+    ensures { IfOk result (λ rows. rows ≡ sum_below (agent_rows
+        machine.entry.on.net.now state.now.book.grants) (length machine.entry.on.net.now)) }
 {
     let mut total = 0;
-    for node in 0..machine.net.nodes() {
+    for node in 0..machine.on.net.nodes() {
         let rows = node_rows(alloc, machine, state, flats, node)?;
         total = sum(total, rows)?;
     }
@@ -229,31 +223,33 @@ fn all_rows(
 }
 
 /// The sum of two counts, where 64 bits can count so far.
-fn sum(total: u64, rows: u64) -> Result<u64, AllocError>
+fn sum(total: u64, rows: u64) -> Result<u64, OutOfMemory>
     ensures { IfOk result (λ all. all ≡ total + rows) }
 {
-    total.checked_add(rows).ok_or(AllocError)
+    total.checked_add(rows).ok_or(OutOfMemory)
 }
 
 /// How many rows a node sees for reading, where it is an agent.
 fn node_rows(
     alloc: Global,
     machine: Machine,
-    state: &State,
+    state: &Session,
     flats: &Flats,
     node: u16,
-) -> Result<u64, AllocError>
+) -> Result<u64, OutOfMemory>
     requires ready { IsReady meaning machine state.now }
-    requires flat { AreFlats machine.net.now flats.now }
-    requires there { node < length machine.net.now }
-    ensures { IfOk result (λ rows.
-        rows ≡ agent_rows machine.entry.net.now state.now.book.grants node) }
+    requires flat { AreFlats machine.on.net.now flats.now }
+    requires there { node < length machine.on.net.now }
+    ensures { IfOk result (λ rows. rows
+        ≡ agent_rows machine.entry.on.net.now state.now.book.grants node) }
 {
-    if !is_agent(machine.net, node) {
+    if !is_agent(machine.on.net, node) {
         return Ok(0);
     }
-    let Machine { net, kinds, .. } = machine;
-    let system = System { net, flats, kinds };
+    let system = System {
+        on: machine.on,
+        flats,
+    };
     let seen = view(alloc, system, state.book.tables(), node, Access::Read)?;
     Ok(seen.rows().len() as u64)
 }
@@ -261,12 +257,12 @@ fn node_rows(
 /// How many slots of all units hold a record.
 fn all_records(machine: Machine, tables: &TableSet) -> u64
     requires machine { IsMachine meaning machine }
-    requires fits { FitsNet machine.net.now (kinds_of meaning machine) tables.now }
-    ensures { result ≡ held_records machine.entry.net.now (record_held machine.entry.net.now
-        (kinds_of meaning machine.entry) (words_of tables.now)) }
+    requires fits { FitsNet machine.on.net.now (kinds_of meaning machine.on.kinds.now) tables.now }
+    ensures { result ≡ held_records machine.entry.on.net.now (record_held machine.entry.on.net.now
+        (kinds_of meaning machine.entry.on.kinds.now) (words_of tables.now)) }
 {
     let mut total = 0;
-    for node in 0..machine.net.nodes() {
+    for node in 0..machine.on.net.nodes() {
         total += node_records(machine, tables, node);
     }
     total
@@ -275,19 +271,22 @@ fn all_records(machine: Machine, tables: &TableSet) -> u64
 /// How many slots of a node hold a record.
 fn node_records(machine: Machine, tables: &TableSet, node: u16) -> u64
     requires machine { IsMachine meaning machine }
-    requires fits { FitsNet machine.net.now (kinds_of meaning machine) tables.now }
-    requires there { node < length machine.net.now }
+    requires fits { FitsNet machine.on.net.now (kinds_of meaning machine.on.kinds.now) tables.now }
+    requires there { node < length machine.on.net.now }
     ensures few { result < 2 ^ 32 }
-    ensures count { result ≡ held_slots (record_held machine.entry.net.now
-        (kinds_of meaning machine.entry) (words_of tables.now))
-        node (unit_at machine.entry.net.now node) }
+    ensures count { result ≡ held_slots
+        (record_held machine.entry.on.net.now (kinds_of meaning machine.entry.on.kinds.now)
+        (words_of tables.now)) node (unit_at machine.entry.on.net.now node) }
 {
-    let Some(unit) = machine.net.unit(node) else {
+    let Some(unit) = machine.on.net.unit(node) else {
         return 0;
     };
     let mut total = 0;
     for slot in 0..unit.slots {
-        total = count_if(total, tables.record_at(machine.kinds, node, slot).is_some());
+        total = count_if(
+            total,
+            tables.record_at(machine.on.kinds, node, slot).is_some(),
+        );
     }
     total
 }

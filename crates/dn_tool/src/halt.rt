@@ -2,10 +2,10 @@
 
 ghost use Rattle.std.specs.Prelude.{◌≡◌};
 ghost use Rattle.dn_tool.specs.Terms.{ending_status, make_halt};
-ghost use Rattle.dn_tool.specs.declared.halt.Halt.TheVariants.{NoMemory as no_memory};
+ghost use Rattle.dn_tool.specs.declared.halt.RunHalt.TheVariants.{NoMemory as no_memory};
 
-use dn_base::device::MakeFault;
-use std::alloc::AllocError;
+use crate::OutOfMemory;
+use dn_base::device::DeviceOrMemory;
 
 /// The sink failed.
 pub const WRITE_FAULT: u8 = 3;
@@ -16,7 +16,7 @@ pub const NO_MEMORY: u8 = 7;
 
 /// Why an answer stops before its end.
 #[derive(Clone, Copy, Debug, PartialEq, Eq)]
-pub(crate) enum Halt {
+pub(crate) enum RunHalt {
     /// A write failed. The sink counts it.
     WriteFault,
     /// A call of the device failed. The device counts it.
@@ -25,33 +25,33 @@ pub(crate) enum Halt {
     NoMemory,
 }
 
-impl From<AllocError> for Halt {
+impl From<OutOfMemory> for RunHalt {
     ghost from_gives = { λ _ e. e ≡ no_memory };
 
-    fn from(_e: AllocError) -> Halt {
-        Halt::NoMemory
+    fn from(_e: OutOfMemory) -> RunHalt {
+        RunHalt::NoMemory
     }
 }
 
-impl From<MakeFault> for Halt {
+impl From<DeviceOrMemory> for RunHalt {
     ghost from_gives = { λ fault e. e ≡ make_halt fault };
 
-    fn from(fault: MakeFault) -> Halt {
+    fn from(fault: DeviceOrMemory) -> RunHalt {
         match fault {
-            MakeFault::Device => Halt::DeviceFault,
-            MakeFault::OutOfMemory => Halt::NoMemory,
+            DeviceOrMemory::Device => RunHalt::DeviceFault,
+            DeviceOrMemory::OutOfMemory => RunHalt::NoMemory,
         }
     }
 }
 
 /// The status of an answer that was given whole, or of the halt before that.
-pub(crate) fn status_of(ended: Result<u8, Halt>) -> u8
+pub(crate) fn status_of(ended: Result<u8, RunHalt>) -> u8
     ensures { result ≡ ending_status ended }
 {
     match ended {
         Ok(status) => status,
-        Err(Halt::WriteFault) => WRITE_FAULT,
-        Err(Halt::DeviceFault) => DEVICE_FAULT,
-        Err(Halt::NoMemory) => NO_MEMORY,
+        Err(RunHalt::WriteFault) => WRITE_FAULT,
+        Err(RunHalt::DeviceFault) => DEVICE_FAULT,
+        Err(RunHalt::NoMemory) => NO_MEMORY,
     }
 }

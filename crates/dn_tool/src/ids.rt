@@ -4,8 +4,9 @@ ghost use Rattle.std.specs.Prelude.{◌≡◌, [], length, position, IfOk, OnErr
 ghost use Rattle.std.specs.Str.{bytes_eq};
 ghost use Rattle.dn_tool.specs.Terms.{id_number, with_id};
 
+use crate::OutOfMemory;
 use dn_module::text_table::TextTable;
-use std::alloc::{AllocError, Global};
+use std::alloc::Global;
 use std::marker::Model;
 
 /// Different ids, numbered from 0 in the order in which they came, at most 4,294,967,295. Contracts
@@ -37,7 +38,7 @@ impl Ids {
 
     /// The number of an id, which is the next one where it did not come before. `Err` is want of memory,
     /// or of numbers, and then the ids are unchanged.
-    pub fn number(&mut self, alloc: Global, id: &str) -> Result<u32, AllocError>
+    pub fn number(&mut self, alloc: Global, id: &str) -> Result<u32, OutOfMemory>
         ensures number { IfOk result (λ n. n ≡ id_number self.old id.now) }
         ensures ids { OnOk result (self.new ≡ with_id self.old id.now) }
         ensures err { OnErr result (self.new ≡ self.old) }
@@ -59,14 +60,14 @@ impl Ids {
     }
 
     /// Adds an id, which gets the next number where it did not come before.
-    fn add(&mut self, alloc: Global, id: &str) -> Result<u32, AllocError>
+    fn add(&mut self, alloc: Global, id: &str) -> Result<u32, OutOfMemory>
         ensures number { IfOk result (λ n. n ≡ length self.old) }
         ensures ids { OnOk result (self.new ≡ with_id self.old id.now) }
         ensures err { OnErr result (self.new ≡ self.old) }
     {
         let number = self.ids.len();
         if number >= 4_294_967_295 {
-            return Err(AllocError);
+            return Err(OutOfMemory);
         }
         let _is_new = self.ids.add(alloc, id)?;
         Ok(number as u32)

@@ -1,11 +1,22 @@
 //! Laws on scripts, on the rows that they print and on the nets that commands make, each the
 //! contract of a function that does nothing.
 
-ghost use Rattle.dn_tool.specs.Terms.{AbsorbIsReadBack, BooksStayFaithful, CompiledIsReadBack, FaithfulImageGivesOwed, OwedRowsAreNormal, SplitIsReadBack};
+ghost use Rattle.dn_tool.specs.Terms.{AbsorbIsReadBack, BooksStayFaithful, CompiledIsReadBack, FaithfulImageGivesOwed, OwedRowsAreNormal, SplitIsReadBack, TurnIsOne, TurnsAreOne};
 
 /// The book after each number of the turns of a script over a legal net is sound and faithful.
 pub fn books_stay_faithful()
     ensures { BooksStayFaithful }
+{}
+
+/// A command that meets a sound book over a legal net has one turn at most.
+pub fn turn_is_one()
+    ensures { TurnIsOne }
+{}
+
+/// A script over a legal net has one list of turns at most: what it does to the device, and what is written, is
+/// told by its net, its kinds and its commands.
+pub fn turns_are_one()
+    ensures { TurnsAreOne }
 {}
 
 /// The image of the tables of a sound and faithful book gives what the book owes.

@@ -23,4 +23,5 @@ pub mod run;
 mod script;
 pub mod state;
 
+pub use dn_base::OutOfMemory;
 pub use dn_words::words;

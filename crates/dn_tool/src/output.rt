@@ -1,18 +1,18 @@
 //! Writing an output, an image line by line, a net statement by statement, and rows some at once.
 
 ghost use Rattle.std.specs.Prelude.{length, map, IsTrue};
-ghost use Rattle.std.specs.List.{All, list_all};
+ghost use Rattle.std.specs.List.{list_all};
 ghost use Rattle.dn_interval.specs.Terms.{seen_view};
 ghost use Rattle.dn_net.specs.Terms.{is_closed};
-ghost use Rattle.dn_kind.specs.Terms.{IsLawful, has_kind};
+ghost use Rattle.dn_kind.specs.Terms.{AreKinds, has_kind, kinds_of};
 ghost use Rattle.dn_print.specs.Terms.{dump_text, ends_exist, net_text, rows_text};
 ghost use Rattle.dn_tool.specs.Terms.{HaltsBySink, Writes};
 
-use crate::halt::Halt;
+use crate::halt::RunHalt;
 use dn_base::sink::{Sink, WriteFault};
 use dn_base::whole;
 use dn_interval::Row;
-use dn_kind::kinds::Kinds;
+use dn_kind::kinded::KindedNet;
 use dn_net::net::Net;
 use dn_print::dump;
 use dn_print::net::statement_text;
@@ -27,19 +27,19 @@ const ROWS: usize = 512;
 
 /// Writes the output.
 #[tactic(auto, using(dn_base::proofs::Told::written_stopped))]
-pub(crate) fn write_output<K: Sink>(sink: &mut K, output: &[u8]) -> Result<(), Halt>
+pub(crate) fn write_output<K: Sink>(sink: &mut K, output: &[u8]) -> Result<(), RunHalt>
     ensures written { Writes result (K.written sink.old) (K.written sink.new) output.now }
     ensures halted { HaltsBySink result (K.faults sink.old) (K.faults sink.new) }
 {
     match whole::write_whole(sink, output) {
         Ok(()) => Ok(()),
-        Err(WriteFault::Failed) => Err(Halt::WriteFault),
-        Err(WriteFault::OutOfMemory) => Err(Halt::NoMemory),
+        Err(WriteFault::Failed) => Err(RunHalt::WriteFault),
+        Err(WriteFault::OutOfMemory) => Err(RunHalt::NoMemory),
     }
 }
 
 /// Writes the text of an image piece by piece, so that no more than a piece of it is in memory.
-pub(crate) fn write_dump<K: Sink>(alloc: Global, image: &[u8], sink: &mut K) -> Result<(), Halt>
+pub(crate) fn write_dump<K: Sink>(alloc: Global, image: &[u8], sink: &mut K) -> Result<(), RunHalt>
     ensures written { Writes result (K.written sink.old) (K.written sink.new)
         (dump_text image.now) }
     ensures halted { HaltsBySink result (K.faults sink.old) (K.faults sink.new) }
@@ -56,22 +56,17 @@ pub(crate) fn write_dump<K: Sink>(alloc: Global, image: &[u8], sink: &mut K) -> 
 }
 
 /// Writes the text of a net statement by statement, so that no more than one of them is in memory.
-pub(crate) fn write_net<K: Sink>(
-    alloc: Global,
-    net: &Net,
-    kinds: &Kinds,
-    sink: &mut K,
-) -> Result<(), Halt>
-    requires closed { IsTrue (is_closed net.now) }
-    requires lawful { All (λ k. IsLawful (meaning (k.vtable, k.value))) kinds.now.list.items }
+pub(crate) fn write_net<K: Sink>(alloc: Global, on: KindedNet, sink: &mut K) -> Result<(), RunHalt>
+    requires closed { IsTrue (is_closed on.net.now) }
+    requires kinds { AreKinds meaning on.kinds.now }
     requires known { IsTrue
-        (list_all (λ n. has_kind (length kinds.now.list.items) n.unit) net.now) }
-    ensures written { Writes result (K.written sink.old) (K.written sink.new)
-        (net_text (map (λ k. meaning (k.vtable, k.value)) kinds.now.list.items) net.now) }
+        (list_all (λ n. has_kind (length on.kinds.now.list.items) n.unit) on.net.now) }
+    ensures written { Writes result (K.written sink.old)
+        (K.written sink.new) (net_text (kinds_of meaning on.entry.kinds.now) on.entry.net.now) }
     ensures halted { HaltsBySink result (K.faults sink.old) (K.faults sink.new) }
 {
-    for node in 0..net.nodes() {
-        let text = statement_text(alloc, net, kinds, node)?;
+    for node in 0..on.net.nodes() {
+        let text = statement_text(alloc, on, node)?;
         write_output(sink, text.as_bytes())?;
     }
     Ok(())
@@ -83,7 +78,7 @@ pub(crate) fn write_rows<K: Sink>(
     net: &Net,
     rows: &[Row],
     sink: &mut K,
-) -> Result<(), Halt>
+) -> Result<(), RunHalt>
     requires { IsTrue (ends_exist (length net.now) rows.now) }
     ensures written { Writes result (K.written sink.old) (K.written sink.new)
         (rows_text net.now (map seen_view rows.now)) }

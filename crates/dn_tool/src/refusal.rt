@@ -10,6 +10,7 @@ ghost use Rattle.dn_walk.specs.Terms.{walk_fault_view};
 ghost use Rattle.dn_print.specs.Terms.{name_text};
 ghost use Rattle.dn_tool.specs.Terms.{AreNodesWithin, IsNodeWithin, by_limit, by_line, by_shown, by_text, chain_text, expand_refusal, fork_text, node_refusal, rule_name, text_refusal, unit_refusal, units_text, walk_refusal};
 
+use crate::OutOfMemory;
 use dn_base::text::Text;
 use dn_kind::units::UnitFault;
 use dn_module::fault::ExpandFault;
@@ -20,7 +21,7 @@ use dn_parse::reader::ParseFault;
 use dn_print::joined::write_joined;
 use dn_print::names;
 use dn_walk::fault::WalkFault;
-use std::alloc::{AllocError, Global};
+use std::alloc::Global;
 use std::marker::Model;
 
 /// The rules that a text can break, in the order in which they are tested.
@@ -115,7 +116,7 @@ impl Model for Refusal {
 
 impl Refusal {
     /// The refusal of a text as a whole.
-    pub fn of_text(alloc: Global, rule: Rule) -> Result<Refusal, AllocError>
+    pub fn of_text(alloc: Global, rule: Rule) -> Result<Refusal, OutOfMemory>
         ensures { IfOk result (λ r. r ≡ by_text rule) }
     {
         let name = rule.name();
@@ -124,7 +125,7 @@ impl Refusal {
     }
 
     /// The refusal at a line, counted from 1.
-    pub fn at_line(alloc: Global, rule: Rule, line: u32) -> Result<Refusal, AllocError>
+    pub fn at_line(alloc: Global, rule: Rule, line: u32) -> Result<Refusal, OutOfMemory>
         ensures { IfOk result (λ r. r ≡ by_line rule line) }
     {
         let name = rule.name();
@@ -133,7 +134,7 @@ impl Refusal {
     }
 
     /// The refusal at a line, counted from 1, that passes a limit.
-    pub fn past_limit(alloc: Global, line: u32, limit: u32) -> Result<Refusal, AllocError>
+    pub fn past_limit(alloc: Global, line: u32, limit: u32) -> Result<Refusal, OutOfMemory>
         ensures { IfOk result (λ r. r ≡ by_limit line limit) }
     {
         let rule = Rule::TooMany;
@@ -142,7 +143,7 @@ impl Refusal {
     }
 
     /// The refusal whose line shows this behind the rule: nodes, names or a limit.
-    pub fn by_shown(alloc: Global, rule: Rule, what: &str) -> Result<Refusal, AllocError>
+    pub fn by_shown(alloc: Global, rule: Rule, what: &str) -> Result<Refusal, OutOfMemory>
         ensures { IfOk result (λ r. r ≡ by_shown rule what.now) }
     {
         let name = rule.name();
@@ -166,7 +167,7 @@ impl Refusal {
 }
 
 /// The refusal of a text that the reader refuses. Want of memory is handed on.
-pub fn text_refusal(alloc: Global, fault: ParseFault) -> Result<Refusal, AllocError>
+pub fn text_refusal(alloc: Global, fault: ParseFault) -> Result<Refusal, OutOfMemory>
     ensures { IfOk result (λ r. option_map text_refusal (parse_fault_view fault) ≡ Some r) }
 {
     match fault {
@@ -175,12 +176,12 @@ pub fn text_refusal(alloc: Global, fault: ParseFault) -> Result<Refusal, AllocEr
         ParseFault::Statement { line } => Refusal::at_line(alloc, Rule::Statement, line),
         ParseFault::Block { line } => Refusal::at_line(alloc, Rule::Block, line),
         ParseFault::Nesting { line } => Refusal::at_line(alloc, Rule::Nesting, line),
-        ParseFault::OutOfMemory => Err(AllocError),
+        ParseFault::OutOfMemory => Err(OutOfMemory),
     }
 }
 
 /// The refusal of a tree that expands to no net. Want of memory is handed on.
-pub fn expand_refusal(alloc: Global, fault: ExpandFault) -> Result<Refusal, AllocError>
+pub fn expand_refusal(alloc: Global, fault: ExpandFault) -> Result<Refusal, OutOfMemory>
     ensures { IfOk result (λ r. option_map expand_refusal (expand_fault_view fault) ≡ Some r) }
 {
     match fault {
@@ -189,12 +190,12 @@ pub fn expand_refusal(alloc: Global, fault: ExpandFault) -> Result<Refusal, Allo
         ExpandFault::Arguments { line } => Refusal::at_line(alloc, Rule::Arguments, line),
         ExpandFault::Value { line } => Refusal::at_line(alloc, Rule::Value, line),
         ExpandFault::TooMany { line, limit } => Refusal::past_limit(alloc, line, limit),
-        ExpandFault::OutOfMemory => Err(AllocError),
+        ExpandFault::OutOfMemory => Err(OutOfMemory),
     }
 }
 
 /// The refusal of a net by a node rule. Want of memory is handed on.
-pub fn node_refusal(alloc: Global, net: &Net, fault: NodeFault) -> Result<Refusal, AllocError>
+pub fn node_refusal(alloc: Global, net: &Net, fault: NodeFault) -> Result<Refusal, OutOfMemory>
     requires { IfSome (node_fault_view fault) (IsNodeWithin (length net.now)) }
     ensures { IfOk result (λ r.
         option_map (node_refusal net.now) (node_fault_view fault) ≡ Some r) }
@@ -206,12 +207,12 @@ pub fn node_refusal(alloc: Global, net: &Net, fault: NodeFault) -> Result<Refusa
         NodeFault::VectorSpace { node } => {
             Refusal::by_shown(alloc, Rule::VectorSpace, net.text(node))
         }
-        NodeFault::OutOfMemory => Err(AllocError),
+        NodeFault::OutOfMemory => Err(OutOfMemory),
     }
 }
 
 /// The refusal of an overlap, whose line has the name at which it is.
-fn overlap_refusal(alloc: Global, net: &Net, name: Name) -> Result<Refusal, AllocError>
+fn overlap_refusal(alloc: Global, net: &Net, name: Name) -> Result<Refusal, OutOfMemory>
     requires { name.node < length net.now }
     ensures { IfOk result (λ r. r ≡ by_shown Rule.Overlap (name_text net.now name)) }
 {
@@ -221,7 +222,7 @@ fn overlap_refusal(alloc: Global, net: &Net, name: Name) -> Result<Refusal, Allo
 }
 
 /// The refusal of a net by the rule on the shape of units. Want of memory is handed on.
-pub fn unit_refusal(alloc: Global, net: &Net, fault: UnitFault) -> Result<Refusal, AllocError>
+pub fn unit_refusal(alloc: Global, net: &Net, fault: UnitFault) -> Result<Refusal, OutOfMemory>
     requires { IfSome (unit_fault_view fault) (λ node. node < length net.now) }
     ensures { IfOk result (λ r.
         option_map (unit_refusal net.now) (unit_fault_view fault) ≡ Some r) }
@@ -232,7 +233,7 @@ pub fn unit_refusal(alloc: Global, net: &Net, fault: UnitFault) -> Result<Refusa
 }
 
 /// The refusal of a net by a rule on walks. Want of memory is handed on.
-pub fn walk_refusal(alloc: Global, net: &Net, fault: &WalkFault) -> Result<Refusal, AllocError>
+pub fn walk_refusal(alloc: Global, net: &Net, fault: &WalkFault) -> Result<Refusal, OutOfMemory>
     requires { IfSome (walk_fault_view fault.now) (AreNodesWithin (length net.now)) }
     ensures { IfOk result (λ r.
         option_map (walk_refusal net.now) (walk_fault_view fault.now) ≡ Some r) }
@@ -243,7 +244,7 @@ pub fn walk_refusal(alloc: Global, net: &Net, fault: &WalkFault) -> Result<Refus
         WalkFault::Deep { path } => chain_refusal(alloc, Rule::Deep, net, path.as_slice()),
         WalkFault::Fork { name, unit } => fork_refusal(alloc, net, *name, *unit),
         WalkFault::Chain { units } => units_refusal(alloc, net, units.as_slice()),
-        WalkFault::OutOfMemory => Err(AllocError),
+        WalkFault::OutOfMemory => Err(OutOfMemory),
     }
 }
 
@@ -253,7 +254,7 @@ fn chain_refusal(
     rule: Rule,
     net: &Net,
     names: &[Name],
-) -> Result<Refusal, AllocError>
+) -> Result<Refusal, OutOfMemory>
     requires { IsTrue (are_there (length net.now) names.now) }
     ensures { IfOk result (λ r. r ≡ by_shown rule (chain_text net.now names.now)) }
 {
@@ -263,7 +264,7 @@ fn chain_refusal(
 }
 
 /// The refusal of a fork, whose line has the name that forks and the unit that it reaches.
-fn fork_refusal(alloc: Global, net: &Net, name: Name, unit: u16) -> Result<Refusal, AllocError>
+fn fork_refusal(alloc: Global, net: &Net, name: Name, unit: u16) -> Result<Refusal, OutOfMemory>
     requires name { name.node < length net.now }
     requires unit { unit < length net.now }
     ensures { IfOk result (λ r. r ≡ by_shown Rule.Fork (fork_text net.now name unit)) }
@@ -276,7 +277,7 @@ fn fork_refusal(alloc: Global, net: &Net, name: Name, unit: u16) -> Result<Refus
 }
 
 /// The refusal of a row of units, whose line has their full names.
-fn units_refusal(alloc: Global, net: &Net, units: &[u16]) -> Result<Refusal, AllocError>
+fn units_refusal(alloc: Global, net: &Net, units: &[u16]) -> Result<Refusal, OutOfMemory>
     requires { IsTrue (list_all (λ u. nat_lt u (length net.now)) units.now) }
     ensures { IfOk result (λ r. r ≡ by_shown Rule.Chain (units_text net.now units.now)) }
 {

@@ -4,7 +4,7 @@ ghost use Rattle.std.specs.Prelude.{◌≡◌, ◌<◌, List, None, Ok, false, l
 ghost use Rattle.std.specs.String.{string_bytes};
 ghost use Rattle.dn_net.specs.declared.node.Name.{Name as NamePart};
 ghost use Rattle.dn_net.specs.Terms.{IsLegalNet, is_agent_at, over_within};
-ghost use Rattle.dn_kind.specs.Terms.{Held, are_there};
+ghost use Rattle.dn_kind.specs.Terms.{Held, are_there, kinds_of};
 ghost use Rattle.dn_flat.specs.Terms.{AreFlats};
 ghost use Rattle.dn_view.specs.Terms.{AreViewed};
 ghost use Rattle.dn_module.specs.Terms.{names_within};
@@ -13,13 +13,13 @@ ghost use Rattle.dn_image.specs.Terms.{broken_image, version_of, written_version
 ghost use Rattle.dn_lookup.specs.Terms.{lookup_of};
 ghost use Rattle.dn_book.specs.Terms.{owed_names};
 ghost use Rattle.dn_print.specs.Terms.{names_text};
-ghost use Rattle.dn_tool.specs.Terms.{HaltsBySink, IsFirstView, IsMachine, IsReady, IsStill, Writes, access_of, access_text, asked_text, is_change, is_dump, is_view, kinds_of, lookup_text, names_under, no_agent_text, owed_rows, reply, resolve_text, view_heading, view_text, viewed_text};
+ghost use Rattle.dn_tool.specs.Terms.{HaltsBySink, IsFirstView, IsMachine, IsReady, IsStill, Writes, access_of, access_text, asked_text, is_change, is_dump, is_view, lookup_text, names_under, no_agent_text, owed_rows, reply, resolve_text, view_heading, view_text, viewed_text};
 
-use crate::halt::Halt;
+use crate::halt::RunHalt;
 use crate::machine::Machine;
 use crate::output::{write_output, write_rows};
-use crate::reshape;
-use crate::state::{FirstView, State, keep_first, keep_flats, keep_image};
+use crate::state::{FirstView, Session, keep_first, keep_flats, keep_image, kept_flats};
+use crate::{OutOfMemory, reshape};
 use dn_base::sink::Sink;
 use dn_flat::flats::Flats;
 use dn_image::write::VERSION;
@@ -35,7 +35,7 @@ use dn_print::names;
 use dn_view::resolve::{resolve, resolve_few};
 use dn_view::system::System;
 use dn_view::view::{fixed_view, view};
-use std::alloc::{AllocError, Global};
+use std::alloc::Global;
 
 /// What `resolve` and `lookup` ask for: an address of what a command names, and an access.
 #[derive(Clone, Copy)]
@@ -50,17 +50,16 @@ struct Question<'a> {
 pub fn reply(
     alloc: Global,
     machine: Machine,
-    state: &mut State,
+    state: &mut Session,
     command: &Command,
-) -> Result<Vec<u8>, AllocError>
+) -> Result<Vec<u8>, OutOfMemory>
     requires ready { IsReady meaning machine state.old }
-    requires known { IsTrue (names_within (length machine.net.now) command.now) }
+    requires known { IsTrue (names_within (length machine.on.net.now) command.now) }
     requires no_dump { is_dump command.now ≡ false }
     requires no_view { is_view command.now ≡ false }
     requires no_change { is_change command.now ≡ false }
-    ensures reply { IfOk result (λ v. v.items ≡
-        reply (kinds_of meaning machine.entry) machine.entry.net.now
-        state.old.book.grants command.now) }
+    ensures reply { IfOk result (λ v. v.items ≡ reply (kinds_of meaning machine.entry.on.kinds.now)
+        machine.entry.on.net.now state.old.book.grants command.now) }
     ensures still { IsStill meaning machine.entry state.old state.new }
 {
     match command {
@@ -104,7 +103,7 @@ fn access_text(mode: Mode) -> &'static str
 }
 
 /// The address and the access as they were asked for, and what is found there.
-fn asked_text(alloc: Global, question: Question, found: &str) -> Result<String, AllocError>
+fn asked_text(alloc: Global, question: Question, found: &str) -> Result<String, OutOfMemory>
     ensures { IfOk result (λ s. string_bytes s ≡ asked_text
         question.entry.target.now question.entry.addr question.entry.mode found.now) }
 {
@@ -115,7 +114,7 @@ fn asked_text(alloc: Global, question: Question, found: &str) -> Result<String, 
 }
 
 /// The names, joined by commas.
-fn names_of(alloc: Global, net: &Net, found: &[Name]) -> Result<String, AllocError>
+fn names_of(alloc: Global, net: &Net, found: &[Name]) -> Result<String, OutOfMemory>
     requires { IsTrue (are_there (length net.now) found.now) }
     ensures { IfOk result (λ s. string_bytes s ≡ names_text net.now found.now) }
 {
@@ -128,14 +127,13 @@ fn names_of(alloc: Global, net: &Net, found: &[Name]) -> Result<String, AllocErr
 fn resolve_reply(
     alloc: Global,
     machine: Machine,
-    state: &mut State,
+    state: &mut Session,
     question: Question,
-) -> Result<String, AllocError>
+) -> Result<String, OutOfMemory>
     requires ready { IsReady meaning machine state.old }
-    requires there { IsTrue (over_within (length machine.net.now) question.target.now.node) }
-    ensures reply { IfOk result (λ s. string_bytes s ≡
-        resolve_text machine.entry.net.now state.old.book.grants
-        question.entry.target.now question.entry.addr question.entry.mode) }
+    requires there { IsTrue (over_within (length machine.on.net.now) question.target.now.node) }
+    ensures reply { IfOk result (λ s. string_bytes s ≡ resolve_text machine.entry.on.net.now
+        state.old.book.grants question.entry.target.now question.entry.addr question.entry.mode) }
     ensures still { IsStill meaning machine.entry state.old state.new }
 {
     let Some(node) = question.target.node else {
@@ -152,27 +150,27 @@ fn resolve_reply(
 fn node_names(
     alloc: Global,
     machine: Machine,
-    state: &mut State,
+    state: &mut Session,
     access: Access,
     name: Name,
-) -> Result<String, AllocError>
+) -> Result<String, OutOfMemory>
     requires ready { IsReady meaning machine state.old }
-    requires there { name.node < length machine.net.now }
-    ensures reply { IfOk result (λ s. string_bytes s ≡ names_text machine.entry.net.now
-        (names_under machine.entry.net.now state.old.book.grants access name)) }
+    requires there { name.node < length machine.on.net.now }
+    ensures reply { IfOk result (λ s. string_bytes s ≡ names_text machine.entry.on.net.now
+        (names_under machine.entry.on.net.now state.old.book.grants access name)) }
     ensures still { IsStill meaning machine.entry state.old state.new }
 {
     if let Some(found) = few_names(alloc, machine, state, access, name)? {
-        return names_of(alloc, machine.net, found.list());
+        return names_of(alloc, machine.on.net, found.list());
     }
     keep_flats(alloc, machine, &mut state.flats)?;
-    let Some(flats) = &state.flats else {
-        unreachable!()
+    let flats = kept_flats(&state.flats);
+    let system = System {
+        on: machine.on,
+        flats,
     };
-    let Machine { net, kinds, .. } = machine;
-    let system = System { net, flats, kinds };
     let found = resolve(alloc, system, state.book.tables(), name, access)?;
-    names_of(alloc, net, found.list())
+    names_of(alloc, machine.on.net, found.list())
 }
 
 /// The names to which a name resolves under the tables, where it leads to few and what the nodes of the net reach is
@@ -180,41 +178,40 @@ fn node_names(
 fn few_names(
     alloc: Global,
     machine: Machine,
-    state: &State,
+    state: &Session,
     access: Access,
     name: Name,
-) -> Result<Option<Names>, AllocError>
+) -> Result<Option<Names>, OutOfMemory>
     requires ready { IsReady meaning machine state.now }
-    requires there { name.node < length machine.net.now }
+    requires there { name.node < length machine.on.net.now }
     ensures names { IfOk result (λ found. IfSome found (λ names. names
-        ≡ names_under machine.entry.net.now state.now.book.grants access name)) }
+        ≡ names_under machine.entry.on.net.now state.now.book.grants access name)) }
     // Each name is in a node that is there.
-    ensures there { IfOk result (λ found. IfSome found
-        (λ names. IsTrue (are_there (length machine.entry.net.now) names))) }
+    ensures there { IfOk result (λ found.
+        IfSome found (λ names. IsTrue (are_there (length machine.entry.on.net.now) names))) }
 {
     if state.flats.is_some() {
         return Ok(None);
     }
     let tables = state.book.tables();
-    resolve_few(alloc, machine.net, machine.kinds, tables, name, access)
+    resolve_few(alloc, machine.on, tables, name, access)
 }
 
 /// The reply to `lookup`, from the bytes of the present image.
 fn lookup_reply(
     alloc: Global,
     machine: Machine,
-    state: &mut State,
+    state: &mut Session,
     question: Question,
-) -> Result<String, AllocError>
+) -> Result<String, OutOfMemory>
     requires ready { IsReady meaning machine state.old }
-    requires there { IsTrue (over_within (length machine.net.now) question.target.now.node) }
-    ensures reply { IfOk result (λ s. string_bytes s ≡
-        lookup_text machine.entry.net.now state.old.book.grants
-        question.entry.target.now question.entry.addr question.entry.mode) }
+    requires there { IsTrue (over_within (length machine.on.net.now) question.target.now.node) }
+    ensures reply { IfOk result (λ s. string_bytes s ≡ lookup_text machine.entry.on.net.now
+        state.old.book.grants question.entry.target.now question.entry.addr question.entry.mode) }
     ensures still { IsStill meaning machine.entry state.old state.new }
 {
     match question.target.node {
-        Some(node) if is_agent(machine.net, node) => {
+        Some(node) if is_agent(machine.on.net, node) => {
             let addr = question.addr;
             let access = access_of(question.mode);
             let found = agent_names(alloc, machine, state, access, Name { node, addr })?;
@@ -228,14 +225,14 @@ fn lookup_reply(
 fn agent_names(
     alloc: Global,
     machine: Machine,
-    state: &mut State,
+    state: &mut Session,
     access: Access,
     name: Name,
-) -> Result<String, AllocError>
+) -> Result<String, OutOfMemory>
     requires ready { IsReady meaning machine state.old }
-    requires agent { IsTrue (is_agent_at (slice_get machine.net.now name.node)) }
-    ensures reply { IfOk result (λ s. string_bytes s ≡ names_text machine.entry.net.now
-        (owed_names machine.entry.net.now state.old.book.grants access name)) }
+    requires agent { IsTrue (is_agent_at (slice_get machine.on.net.now name.node)) }
+    ensures reply { IfOk result (λ s. string_bytes s ≡ names_text machine.entry.on.net.now
+        (owed_names machine.entry.on.net.now state.old.book.grants access name)) }
     ensures still { IsStill meaning machine.entry state.old state.new }
 {
     keep_image(alloc, machine, state.book.tables(), &mut state.image)?;
@@ -243,9 +240,7 @@ fn agent_names(
     let Some(image) = &state.image else {
         unreachable!()
     };
-    let Some(flats) = &state.flats else {
-        unreachable!()
-    };
+    let flats = kept_flats(&state.flats);
     image_names(alloc, machine, flats, image.as_slice(), access, name)
 }
 
@@ -258,42 +253,44 @@ fn image_names(
     image: &[u8],
     access: Access,
     name: Name,
-) -> Result<String, AllocError>
+) -> Result<String, OutOfMemory>
     requires machine { IsMachine meaning machine }
-    requires flats { AreFlats machine.net.now flats.now }
-    requires agent { IsTrue (is_agent_at (slice_get machine.net.now name.node)) }
-    requires whole { broken_image machine.net.now
-        (kinds_of meaning machine) image.now ≡ None }
+    requires flats { AreFlats machine.on.net.now flats.now }
+    requires agent { IsTrue (is_agent_at (slice_get machine.on.net.now name.node)) }
+    requires whole { broken_image machine.on.net.now
+        (kinds_of meaning machine.on.kinds.now) image.now ≡ None }
     requires version { written_version ≡ version_of image.now }
-    ensures { (names : List NamePart) → lookup_of machine.entry.net.now
-        (kinds_of meaning machine.entry) image.now access name ≡ Ok names →
-        IfOk result (λ s. string_bytes s ≡ names_text machine.entry.net.now names) }
+    ensures { (names : List NamePart) → lookup_of machine.entry.on.net.now
+        (kinds_of meaning machine.entry.on.kinds.now) image.now access name
+        ≡ Ok names → IfOk result (λ s. string_bytes s ≡ names_text machine.entry.on.net.now names) }
 {
-    let Machine { net, kinds, .. } = machine;
-    let system = System { net, flats, kinds };
+    let system = System {
+        on: machine.on,
+        flats,
+    };
     let found = lookup_by(alloc, system, image, VERSION, access, name)?;
-    names_of(alloc, net, found.list())
+    names_of(alloc, machine.on.net, found.list())
 }
 
 /// Writes the reply to `view`: a line, and below it a line for each row.
 pub(crate) fn view_reply<K: Sink>(
     alloc: Global,
     machine: Machine,
-    state: &mut State,
+    state: &mut Session,
     target: &Target,
     mode: Mode,
     sink: &mut K,
-) -> Result<(), Halt>
+) -> Result<(), RunHalt>
     requires ready { IsReady meaning machine state.old }
-    requires there { IsTrue (over_within (length machine.net.now) target.now.node) }
+    requires there { IsTrue (over_within (length machine.on.net.now) target.now.node) }
     ensures written { Writes result (K.written sink.old) (K.written sink.new)
-        (view_text machine.entry.net.now state.old.book.grants target.now mode) }
+        (view_text machine.entry.on.net.now state.old.book.grants target.now mode) }
     ensures still { IsStill meaning machine.entry state.old state.new }
     ensures halted { HaltsBySink result (K.faults sink.old) (K.faults sink.new) }
 {
     let text = target.text.as_str();
     match target.node {
-        Some(node) if is_agent(machine.net, node) => {
+        Some(node) if is_agent(machine.on.net, node) => {
             agent_view(alloc, machine, state, text, mode, node, sink)
         }
         _ => {
@@ -312,7 +309,7 @@ fn is_agent(net: &Net, node: u16) -> bool
 }
 
 /// The reply to a view of what is no agent.
-fn no_agent(alloc: Global, text: &str) -> Result<String, AllocError>
+fn no_agent(alloc: Global, text: &str) -> Result<String, OutOfMemory>
     ensures { IfOk result (λ s. string_bytes s ≡ no_agent_text text.now) }
 {
     format!(in alloc; "view {text} refused: NoAgent\n")
@@ -324,33 +321,34 @@ fn no_agent(alloc: Global, text: &str) -> Result<String, AllocError>
 fn agent_view<K: Sink>(
     alloc: Global,
     machine: Machine,
-    state: &mut State,
+    state: &mut Session,
     text: &str,
     mode: Mode,
     node: u16,
     sink: &mut K,
-) -> Result<(), Halt>
+) -> Result<(), RunHalt>
     requires ready { IsReady meaning machine state.old }
-    requires agent { IsTrue (is_agent_at (slice_get machine.net.now node)) }
-    ensures written { Writes result (K.written sink.old) (K.written sink.new)
-        (viewed_text machine.entry.net.now text.now mode
-        (owed_rows machine.entry.net.now state.old.book.grants (access_of mode) node)) }
+    requires agent { IsTrue (is_agent_at (slice_get machine.on.net.now node)) }
+    ensures written { Writes result (K.written sink.old)
+        (K.written sink.new) (viewed_text machine.entry.on.net.now text.now mode
+        (owed_rows machine.entry.on.net.now state.old.book.grants (access_of mode) node)) }
     ensures still { IsStill meaning machine.entry state.old state.new }
     ensures halted { HaltsBySink result (K.faults sink.old) (K.faults sink.new) }
 {
-    let Machine { net, kinds, .. } = machine;
+    let net = machine.on.net;
     keep_first(alloc, machine, &mut state.first, node)?;
     if let Some(rows) = first_rows(net, &state.first, node) {
         return write_view(alloc, net, text, mode, rows, sink);
     }
     keep_flats(alloc, machine, &mut state.flats)?;
-    let Some(flats) = &state.flats else {
-        unreachable!()
-    };
+    let flats = kept_flats(&state.flats);
     if let Some(rows) = shared_rows(net, flats, &state.first, node) {
         return write_view(alloc, net, text, mode, rows, sink);
     }
-    let system = System { net, flats, kinds };
+    let system = System {
+        on: machine.on,
+        flats,
+    };
     let access = access_of(mode);
     let rows = view(alloc, system, state.book.tables(), node, access)?;
     write_view(alloc, net, text, mode, &rows, sink)
@@ -399,7 +397,7 @@ fn write_view<K: Sink>(
     mode: Mode,
     seen: &Rows,
     sink: &mut K,
-) -> Result<(), Halt>
+) -> Result<(), RunHalt>
     requires { IsTrue (ends_within (length net.now) seen.now) }
     ensures written { Writes result (K.written sink.old) (K.written sink.new)
         (viewed_text net.now text.now mode (map seen_view seen.now)) }
@@ -412,7 +410,7 @@ fn write_view<K: Sink>(
 }
 
 /// The heading of a view: this text, the access and the number of rows.
-fn heading_text(alloc: Global, text: &str, mode: Mode, count: usize) -> Result<String, AllocError>
+fn heading_text(alloc: Global, text: &str, mode: Mode, count: usize) -> Result<String, OutOfMemory>
     ensures { IfOk result (λ s. string_bytes s ≡ view_heading text.now mode count) }
 {
     let access = access_text(mode);

@@ -1,21 +1,23 @@
 //! The replies to the commands that make another net of the net, which stays as it is.
 
-ghost use Rattle.std.specs.Prelude.{◌≡◌, ◌<◌, List, length, map, IfOk, IfSome, IsSome, IsTrue};
+ghost use Rattle.std.specs.Prelude.{◌≡◌, ◌<◌, List, length, IfOk, IfSome, IsSome, IsTrue};
 ghost use Rattle.std.specs.List.{All, list_all};
-ghost use Rattle.dn_kind.specs.Terms.{IsLawful, has_kind};
+ghost use Rattle.dn_kind.specs.Terms.{AreKinds, has_kind, kinds_of};
 ghost use Rattle.dn_net.specs.declared.node.NodeDecl.{NodeDecl};
 ghost use Rattle.dn_net.specs.Terms.{is_closed, over_within};
 ghost use Rattle.dn_shape.specs.Terms.{absorb_fault_view, absorb_outcome};
-ghost use Rattle.dn_tool.specs.Terms.{AreUnmade, IsMachine, IsPassed, IsUnfit, IsUnfitFor, absorb_text, absorbed_text, kinds_of, limit_text, made_text, no_node_text, reason_text, refusal_text, split_text, unfit_text};
+ghost use Rattle.dn_tool.specs.Terms.{AreUnmade, IsMachine, IsPassed, IsUnfit, IsUnfitFor, absorb_text, absorbed_text, limit_text, made_text, no_node_text, reason_text, refusal_text, split_text, unfit_text};
 
+use crate::OutOfMemory;
 use crate::machine::Machine;
 use dn_base::items::Items;
+use dn_kind::kinded::KindedNet;
 use dn_kind::kinds::Kinds;
 use dn_module::command::Target;
 use dn_net::net::Net;
 use dn_shape::fault::{AbsorbFault, SplitFault, Why};
 use dn_shape::{absorb, split};
-use std::alloc::{AllocError, Global};
+use std::alloc::Global;
 
 /// Why a node is not absorbed.
 #[derive(Clone, Copy)]
@@ -51,23 +53,23 @@ pub fn split_reply(
     alloc: Global,
     machine: Machine,
     passed: &mut Option<u32>,
-) -> Result<Vec<u8>, AllocError>
+) -> Result<Vec<u8>, OutOfMemory>
     requires machine { IsMachine meaning machine }
-    requires passed { IfSome passed.old (IsPassed machine.net.now) }
-    ensures reply { IfOk result (λ v. v.items ≡
-        split_text (kinds_of meaning machine.entry) machine.entry.net.now) }
-    ensures passed { IfSome passed.new (IsPassed machine.entry.net.now) }
+    requires passed { IfSome passed.old (IsPassed machine.on.net.now) }
+    ensures reply { IfOk result (λ v. v.items
+        ≡ split_text (kinds_of meaning machine.entry.on.kinds.now) machine.entry.on.net.now) }
+    ensures passed { IfSome passed.new (IsPassed machine.entry.on.net.now) }
 {
     if let Some(limit) = *passed {
         return limit_reply(alloc, "split", limit);
     }
-    match split::split(alloc, machine.net) {
-        Ok(made) => made_reply(alloc, machine.kinds, "split", &made),
+    match split::split(alloc, machine.on.net) {
+        Ok(made) => made_reply(alloc, machine.on.kinds, "split", &made),
         Err(SplitFault::TooMany { limit }) => {
             *passed = Some(limit);
             limit_reply(alloc, "split", limit)
         }
-        Err(SplitFault::OutOfMemory) => Err(AllocError),
+        Err(SplitFault::OutOfMemory) => Err(OutOfMemory),
     }
 }
 
@@ -77,13 +79,13 @@ pub fn absorb_reply(
     machine: Machine,
     unfit: &mut Items<Unfit>,
     target: &Target,
-) -> Result<Vec<u8>, AllocError>
+) -> Result<Vec<u8>, OutOfMemory>
     requires machine { IsMachine meaning machine }
-    requires there { IsTrue (over_within (length machine.net.now) target.now.node) }
-    requires unfit { All (IsUnfit machine.net.now) unfit.old }
-    ensures reply { IfOk result (λ v. v.items ≡
-        absorb_text (kinds_of meaning machine.entry) machine.entry.net.now target.now) }
-    ensures unfit { All (IsUnfit machine.entry.net.now) unfit.new }
+    requires there { IsTrue (over_within (length machine.on.net.now) target.now.node) }
+    requires unfit { All (IsUnfit machine.on.net.now) unfit.old }
+    ensures reply { IfOk result (λ v. v.items ≡ absorb_text
+        (kinds_of meaning machine.entry.on.kinds.now) machine.entry.on.net.now target.now) }
+    ensures unfit { All (IsUnfit machine.entry.on.net.now) unfit.new }
 {
     let name = target.text.as_str();
     match target.node {
@@ -99,21 +101,20 @@ fn past_reply(
     unfit: &mut Items<Unfit>,
     name: &str,
     node: u16,
-) -> Result<Vec<u8>, AllocError>
+) -> Result<Vec<u8>, OutOfMemory>
     requires machine { IsMachine meaning machine }
-    requires there { node < length machine.net.now }
-    requires unfit { All (IsUnfit machine.net.now) unfit.old }
-    ensures reply { IfOk result (λ v. v.items ≡
-        absorbed_text (kinds_of meaning machine.entry) name.now
-        (absorb_outcome machine.entry.net.now node)) }
-    ensures unfit { All (IsUnfit machine.entry.net.now) unfit.new }
+    requires there { node < length machine.on.net.now }
+    requires unfit { All (IsUnfit machine.on.net.now) unfit.old }
+    ensures reply { IfOk result (λ v. v.items ≡ absorbed_text (kinds_of meaning
+        machine.entry.on.kinds.now) name.now (absorb_outcome machine.entry.on.net.now node)) }
+    ensures unfit { All (IsUnfit machine.entry.on.net.now) unfit.new }
 {
     if let Some(why) = why_unfit(unfit.as_slice(), node) {
         return refused_reply(alloc, name, why);
     }
-    match absorb::absorb(alloc, machine.net, node) {
-        Ok(made) => made_reply(alloc, machine.kinds, "absorb", &made),
-        Err(AbsorbFault::OutOfMemory) => Err(AllocError),
+    match absorb::absorb(alloc, machine.on.net, node) {
+        Ok(made) => made_reply(alloc, machine.on.kinds, "absorb", &made),
+        Err(AbsorbFault::OutOfMemory) => Err(OutOfMemory),
         Err(why) => kept_reply(alloc, unfit, name, Unfit { node, why }),
     }
 }
@@ -124,7 +125,7 @@ fn kept_reply(
     unfit: &mut Items<Unfit>,
     name: &str,
     one: Unfit,
-) -> Result<Vec<u8>, AllocError>
+) -> Result<Vec<u8>, OutOfMemory>
     requires { IsSome (absorb_fault_view one.why) }
     ensures reply { IfOk result (λ v. IfSome (absorb_fault_view one.why)
         (λ refusal. v.items ≡ refusal_text name.now refusal)) }
@@ -149,7 +150,7 @@ fn why_unfit(unfit: &[Unfit], node: u16) -> Option<AbsorbFault>
 }
 
 /// The reply where the node of this name is not absorbed.
-fn refused_reply(alloc: Global, name: &str, why: AbsorbFault) -> Result<Vec<u8>, AllocError>
+fn refused_reply(alloc: Global, name: &str, why: AbsorbFault) -> Result<Vec<u8>, OutOfMemory>
     requires { IsSome (absorb_fault_view why) }
     ensures { IfOk result (λ v. IfSome (absorb_fault_view why)
         (λ refusal. v.items ≡ refusal_text name.now refusal)) }
@@ -162,30 +163,29 @@ fn refused_reply(alloc: Global, name: &str, why: AbsorbFault) -> Result<Vec<u8>,
 }
 
 /// A net that a command of this word made, below a heading that has the number of its nodes.
-fn made_reply(alloc: Global, kinds: &Kinds, word: &str, net: &Net) -> Result<Vec<u8>, AllocError>
+fn made_reply(alloc: Global, kinds: &Kinds, word: &str, net: &Net) -> Result<Vec<u8>, OutOfMemory>
     requires closed { IsTrue (is_closed net.now) }
-    requires lawful { All (λ k. IsLawful (meaning (k.vtable, k.value))) kinds.now.list.items }
+    requires kinds { AreKinds meaning kinds.now }
     requires known { IsTrue
         (list_all (λ n. has_kind (length kinds.now.list.items) n.unit) net.now) }
-    ensures { IfOk result (λ v. v.items ≡
-        made_text (map (λ k. meaning (k.vtable, k.value)) kinds.now.list.items) word.now net.now) }
+    ensures { IfOk result (λ v. v.items ≡ made_text (kinds_of meaning kinds.now) word.now net.now) }
 {
     let count = net.nodes();
     let mut out = format!(in alloc; "{word} nodes {count}\n")?.into_bytes();
-    let text = dn_print::net::net_text(alloc, net, kinds)?;
+    let text = dn_print::net::net_text(alloc, KindedNet { net, kinds })?;
     out.extend_from_slice(&text)?;
     Ok(out)
 }
 
 /// The reply where the net that would be made passes a limit.
-fn limit_reply(alloc: Global, name: &str, limit: u32) -> Result<Vec<u8>, AllocError>
+fn limit_reply(alloc: Global, name: &str, limit: u32) -> Result<Vec<u8>, OutOfMemory>
     ensures { IfOk result (λ v. v.items ≡ limit_text name.now limit) }
 {
     Ok(format!(in alloc; "{name} refused: TooMany {limit}\n")?.into_bytes())
 }
 
 /// The reply where a node cannot be absorbed.
-fn unfit_reply(alloc: Global, name: &str, why: Why) -> Result<Vec<u8>, AllocError>
+fn unfit_reply(alloc: Global, name: &str, why: Why) -> Result<Vec<u8>, OutOfMemory>
     ensures { IfOk result (λ v. v.items ≡ unfit_text name.now why) }
 {
     match why {
@@ -198,14 +198,14 @@ fn unfit_reply(alloc: Global, name: &str, why: Why) -> Result<Vec<u8>, AllocErro
 }
 
 /// The reply by the word for the reason.
-fn reason_reply(alloc: Global, name: &str, word: &str) -> Result<Vec<u8>, AllocError>
+fn reason_reply(alloc: Global, name: &str, word: &str) -> Result<Vec<u8>, OutOfMemory>
     ensures { IfOk result (λ v. v.items ≡ reason_text name.now word.now) }
 {
     Ok(format!(in alloc; "{name} refused: NotAbsorbable {word}\n")?.into_bytes())
 }
 
 /// The reply where there is no such node.
-fn no_node(alloc: Global, name: &str) -> Result<Vec<u8>, AllocError>
+fn no_node(alloc: Global, name: &str) -> Result<Vec<u8>, OutOfMemory>
     ensures { IfOk result (λ v. v.items ≡ no_node_text name.now) }
 {
     Ok(format!(in alloc; "{name} refused: no such node\n")?.into_bytes())

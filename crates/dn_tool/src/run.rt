@@ -1,33 +1,33 @@
 //! The top call: from the words and the bytes of a source to those of a sink, the words of a device, and a status.
 
-ghost use Rattle.std.specs.Prelude.{◌≡◌, ◌≢◌, ℕ, List, ◌==◌, ◌-◌, ◌<◌, ◌≤◌, ◌⊎◌, ◌++◌, [], true, false, codes, length, map, IfOk, None, Some, take};
-ghost use Rattle.std.specs.List.{All};
+ghost use Rattle.std.specs.Prelude.{◌≡◌, ◌≢◌, ℕ, List, ◌==◌, ◌-◌, ◌<◌, ◌≤◌, ◌⊎◌, ◌++◌, [], true, false, codes, length, IfOk, None, Some, take};
 ghost use Rattle.std.specs.Option.{IfSome};
 ghost use Rattle.dn_base.specs.Terms.{AtEnd, IsCounted, Taken, TakenAtMost, input_limit};
-ghost use Rattle.dn_kind.specs.Terms.{IsLawful, shape_fault};
+ghost use Rattle.dn_kind.specs.Terms.{AreKinds, kinds_of, shape_fault};
 ghost use Rattle.dn_words.specs.Terms.{task_of};
-ghost use Rattle.dn_tool.specs.Terms.{HaltsByEither, HaltsBySink, IsAnswered, IsInput, IsMachine, IsSaid, answer, demo_answer, ending_status, is_free_status, is_script, kinds_of, reads, task_answer, text_answer, usage};
+ghost use Rattle.dn_tool.specs.Terms.{HaltsByEither, HaltsBySink, IsAnswered, IsInput, IsMachine, IsSaid, answer, demo_answer, ending_status, is_free_status, is_script, reads, task_answer, text_answer, usage};
 ghost use Rattle.dn_print.specs.Terms.{net_text};
 
-use crate::compile;
 use crate::compile::{CompileFault, Platform};
 use crate::demo::run_demo;
-use crate::halt::{Halt, status_of};
+use crate::halt::{RunHalt, status_of};
 pub use crate::halt::{DEVICE_FAULT, NO_MEMORY, WRITE_FAULT};
 use crate::machine::Machine;
 use crate::output::{write_net, write_output};
 use crate::refusal::Refusal;
 pub use crate::script::DONE;
 use crate::script::run_script;
+use crate::{OutOfMemory, compile};
 use dn_base::device::Tables;
 use dn_base::sink::Sink;
 use dn_base::source::Source;
 use dn_base::whole;
 use dn_base::whole::InputFault;
 use dn_demo::text::demo_text;
+use dn_kind::kinded::KindedNet;
 use dn_kind::kinds::Kinds;
 use dn_words::words::{Task, Words};
-use std::alloc::{AllocError, Global};
+use std::alloc::Global;
 
 /// The words are of none of the forms.
 pub const WRONG_WORDS: u8 = 1;
@@ -50,19 +50,17 @@ pub fn run<S: Source, K: Sink, D: Tables>(
     device: &mut D,
 ) -> u8
     requires few_kinds { length kinds.now.list.items ≤ 255 }
-    requires lawful { All (λ k. IsLawful (meaning (k.vtable, k.value))) kinds.now.list.items }
+    requires kinds { AreKinds meaning kinds.now }
     requires none { D.units device.old ≡ [] }
     // What the run gave is the answer to the text that the source tells where the words read it, and
     // else to any text: a status and an output, or a script as far as the run came over it.
-    ensures answered { (text : List ℕ) → IsInput words.now (S.left source.old) text →
-        IsAnswered (map (λ k. meaning (k.vtable, k.value)) kinds.now.list.items)
-        (answer words.now (map (λ k. meaning (k.vtable, k.value)) kinds.now.list.items) text) result
-        (K.written sink.old) (K.written sink.new)
-        (D.log device.old) (D.log device.new) (D.words device.new) }
+    ensures answered { (text : List ℕ)
+        → IsInput words.now (S.left source.old) text → IsAnswered (kinds_of meaning kinds.now)
+        (answer words.now (kinds_of meaning kinds.now) text) result (K.written sink.old)
+        (K.written sink.new) (D.log device.old) (D.log device.new) (D.words device.new) }
     // Where no script is run the device is as it was, and with `check` whatever the source tells.
-    ensures untouched { (text : List ℕ) → IsInput words.now (S.left source.old) text →
-        is_script (answer words.now (map (λ k. meaning (k.vtable, k.value)) kinds.now.list.items) text)
-        ≡ false → device.new ≡ device.old }
+    ensures untouched { (text : List ℕ) → IsInput words.now (S.left source.old) text → is_script
+        (answer words.now (kinds_of meaning kinds.now) text) ≡ false → device.new ≡ device.old }
     ensures checked { task_of words.now ≡ Some Task.Check → device.new ≡ device.old }
     ensures nothing_done { result ≡ 2 →
         (K.written sink.new ≡ K.written sink.old) × (device.new ≡ device.old) }
@@ -90,7 +88,7 @@ pub fn run<S: Source, K: Sink, D: Tables>(
     let task = match words.task() {
         Ok(Some(task)) => task,
         Ok(None) => return status_of(refuse_words(sink)),
-        Err(AllocError) => return NO_MEMORY,
+        Err(OutOfMemory) => return NO_MEMORY,
     };
     if let Task::Demo(agents) = task {
         return demo(alloc, agents, kinds, sink, device);
@@ -115,15 +113,13 @@ pub fn demo<K: Sink, D: Tables>(
 ) -> u8
     requires some { 0 < agents }
     requires few_kinds { length kinds.now.list.items ≤ 255 }
-    requires lawful { All (λ k. IsLawful (meaning (k.vtable, k.value))) kinds.now.list.items }
+    requires kinds { AreKinds meaning kinds.now }
     requires none { D.units device.old ≡ [] }
-    ensures answered { IsAnswered (map (λ k. meaning (k.vtable, k.value)) kinds.now.list.items)
-        (demo_answer agents (map (λ k. meaning (k.vtable, k.value)) kinds.now.list.items)) result
-        (K.written sink.old) (K.written sink.new)
-        (D.log device.old) (D.log device.new) (D.words device.new) }
-    ensures untouched { is_script
-        (demo_answer agents (map (λ k. meaning (k.vtable, k.value)) kinds.now.list.items)) ≡ false →
-        device.new ≡ device.old }
+    ensures answered { IsAnswered (kinds_of meaning kinds.now)
+        (demo_answer agents (kinds_of meaning kinds.now)) result (K.written sink.old)
+        (K.written sink.new) (D.log device.old) (D.log device.new) (D.words device.new) }
+    ensures untouched { is_script (demo_answer agents (kinds_of meaning kinds.now))
+        ≡ false → device.new ≡ device.old }
     ensures statuses { ((result ≡ 0) ⊎ (result ≡ 3))
         ⊎ ((result ≡ 4) ⊎ ((result ≡ 6) ⊎ (result ≡ 7))) }
     ensures sink_counted { IsCounted (K.faults sink.old) (K.faults sink.new) (result == 3) }
@@ -136,7 +132,7 @@ pub fn demo<K: Sink, D: Tables>(
 }
 
 /// Writes the line that says how the program is used.
-fn refuse_words<K: Sink>(sink: &mut K) -> Result<u8, Halt>
+fn refuse_words<K: Sink>(sink: &mut K) -> Result<u8, RunHalt>
     ensures said { IsSaid 1 usage (ending_status result) (K.written sink.old) (K.written sink.new) }
     ensures status { IfOk result (λ s. s ≡ 1) }
     ensures halted { HaltsBySink result (K.faults sink.old) (K.faults sink.new) }
@@ -152,16 +148,14 @@ fn answer_text<K: Sink, D: Tables>(
     text: &[u8],
     sink: &mut K,
     device: &mut D,
-) -> Result<u8, Halt>
+) -> Result<u8, RunHalt>
     requires few_kinds { length kinds.now.list.items ≤ 255 }
-    requires lawful { All (λ k. IsLawful (meaning (k.vtable, k.value))) kinds.now.list.items }
+    requires kinds { AreKinds meaning kinds.now }
     requires none { D.units device.old ≡ [] }
-    ensures answered { IsAnswered (map (λ k. meaning (k.vtable, k.value)) kinds.now.list.items)
-        (text_answer task (map (λ k. meaning (k.vtable, k.value)) kinds.now.list.items) text.now)
-        (ending_status result) (K.written sink.old) (K.written sink.new)
-        (D.log device.old) (D.log device.new) (D.words device.new) }
-    ensures untouched { is_script
-        (text_answer task (map (λ k. meaning (k.vtable, k.value)) kinds.now.list.items) text.now)
+    ensures answered { IsAnswered (kinds_of meaning kinds.now) (text_answer task
+        (kinds_of meaning kinds.now) text.now) (ending_status result) (K.written sink.old)
+        (K.written sink.new) (D.log device.old) (D.log device.new) (D.words device.new) }
+    ensures untouched { is_script (text_answer task (kinds_of meaning kinds.now) text.now)
         ≡ false → device.new ≡ device.old }
     ensures which { IfOk result (λ s. (s ≡ 0) ⊎ (s ≡ 4)) }
     ensures halted { HaltsByEither result (K.faults sink.old) (K.faults sink.new)
@@ -171,7 +165,7 @@ fn answer_text<K: Sink, D: Tables>(
     match compile::compile(alloc, text, kinds) {
         Ok(platform) => answer_task(alloc, task, kinds, &platform, sink, device),
         Err(CompileFault::Refused(refusal)) => refuse(alloc, &refusal, sink),
-        Err(CompileFault::OutOfMemory) => Err(Halt::NoMemory),
+        Err(CompileFault::OutOfMemory) => Err(RunHalt::NoMemory),
     }
 }
 
@@ -184,27 +178,24 @@ fn answer_task<K: Sink, D: Tables>(
     platform: &Platform,
     sink: &mut K,
     device: &mut D,
-) -> Result<u8, Halt>
-    requires lawful { All (λ k. IsLawful (meaning (k.vtable, k.value))) kinds.now.list.items }
-    requires shaped { shape_fault
-        (map (λ k. meaning (k.vtable, k.value)) kinds.now.list.items) platform.now.net
-        ≡ None }
+) -> Result<u8, RunHalt>
+    requires kinds { AreKinds meaning kinds.now }
+    requires shaped { shape_fault (kinds_of meaning kinds.now) platform.now.net ≡ None }
     requires none { D.units device.old ≡ [] }
-    ensures answered { IsAnswered (map (λ k. meaning (k.vtable, k.value)) kinds.now.list.items)
-        (task_answer task (map (λ k. meaning (k.vtable, k.value)) kinds.now.list.items)
-        platform.now.net platform.now.commands)
-        (ending_status result) (K.written sink.old) (K.written sink.new)
-        (D.log device.old) (D.log device.new) (D.words device.new) }
-    ensures untouched { is_script
-        (task_answer task (map (λ k. meaning (k.vtable, k.value)) kinds.now.list.items)
+    ensures answered { IsAnswered (kinds_of meaning kinds.now) (task_answer task (kinds_of
+        meaning kinds.now) platform.now.net platform.now.commands) (ending_status result) (K.written
+        sink.old) (K.written sink.new) (D.log device.old) (D.log device.new) (D.words device.new) }
+    ensures untouched { is_script (task_answer task (kinds_of meaning kinds.now)
         platform.now.net platform.now.commands) ≡ false → device.new ≡ device.old }
     ensures done { IfOk result (λ s. s ≡ 0) }
     ensures halted { HaltsByEither result (K.faults sink.old) (K.faults sink.new)
         (D.faults device.old) (D.faults device.new) }
 {
     let machine = Machine {
-        kinds,
-        net: &platform.net,
+        on: KindedNet {
+            net: &platform.net,
+            kinds,
+        },
         walks: &platform.walks,
     };
     let commands = &platform.commands;
@@ -216,20 +207,19 @@ fn answer_task<K: Sink, D: Tables>(
 }
 
 /// Writes the net, a statement for each node. The status is `DONE`.
-fn print_net<K: Sink>(alloc: Global, machine: Machine, sink: &mut K) -> Result<u8, Halt>
+fn print_net<K: Sink>(alloc: Global, machine: Machine, sink: &mut K) -> Result<u8, RunHalt>
     requires machine { IsMachine meaning machine }
-    ensures said { IsSaid 0
-        (net_text (kinds_of meaning machine.entry) machine.entry.net.now)
-        (ending_status result) (K.written sink.old) (K.written sink.new) }
+    ensures said { IsSaid 0 (net_text (kinds_of meaning machine.entry.on.kinds.now)
+        machine.entry.on.net.now) (ending_status result) (K.written sink.old) (K.written sink.new) }
     ensures done { IfOk result (λ s. s ≡ 0) }
     ensures halted { HaltsBySink result (K.faults sink.old) (K.faults sink.new) }
 {
-    write_net(alloc, machine.net, machine.kinds, sink)?;
+    write_net(alloc, machine.on, sink)?;
     Ok(DONE)
 }
 
 /// Writes the line of a refusal. The status is `REFUSED`.
-fn refuse<K: Sink>(alloc: Global, refusal: &Refusal, sink: &mut K) -> Result<u8, Halt>
+fn refuse<K: Sink>(alloc: Global, refusal: &Refusal, sink: &mut K) -> Result<u8, RunHalt>
     ensures said { IsSaid 4 (refusal.now.text ++ codes "\n")
         (ending_status result) (K.written sink.old) (K.written sink.new) }
     ensures status { IfOk result (λ s. s ≡ 4) }
@@ -241,7 +231,7 @@ fn refuse<K: Sink>(alloc: Global, refusal: &Refusal, sink: &mut K) -> Result<u8,
 }
 
 /// Writes an output, and gives its status.
-fn say<K: Sink>(sink: &mut K, output: &[u8], status: u8) -> Result<u8, Halt>
+fn say<K: Sink>(sink: &mut K, output: &[u8], status: u8) -> Result<u8, RunHalt>
     requires { is_free_status status ≡ false }
     ensures said { IsSaid status output.now
         (ending_status result) (K.written sink.old) (K.written sink.new) }

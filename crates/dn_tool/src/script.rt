@@ -2,18 +2,19 @@
 
 ghost use Rattle.std.specs.Prelude.{◌≡◌, [], false, length, IfOk, IsTrue, OnOk};
 ghost use Rattle.std.specs.List.{list_all};
+ghost use Rattle.dn_kind.specs.Terms.{kinds_of};
 ghost use Rattle.dn_image.specs.Terms.{image};
 ghost use Rattle.dn_book.specs.Terms.{tables_of};
 ghost use Rattle.dn_print.specs.Terms.{dump_text};
 ghost use Rattle.dn_module.specs.Terms.{names_within};
-ghost use Rattle.dn_tool.specs.Terms.{CameThrough, HaltsByEither, HaltsBySink, IsMachine, IsPlayed, IsPlayedOn, IsReady, IsReadyOn, IsStill, IsTurn, Writes, ending_status, is_change, is_dump, is_view, kinds_of, reply, start, state_view};
+ghost use Rattle.dn_tool.specs.Terms.{CameThrough, HaltsByEither, HaltsBySink, IsMachine, IsPlayed, IsPlayedOn, IsReady, IsReadyOn, IsStill, IsTurn, Writes, ending_status, is_change, is_dump, is_view, reply, start, state_view};
 
 use crate::change::change;
-use crate::halt::Halt;
+use crate::halt::RunHalt;
 use crate::machine::Machine;
 use crate::output::{write_dump, write_output};
 use crate::reply;
-use crate::state::{State, keep_image};
+use crate::state::{Session, keep_image};
 use dn_base::device::Tables;
 use dn_base::sink::Sink;
 use dn_module::command::Command;
@@ -31,19 +32,18 @@ pub(crate) fn run_script<K: Sink, D: Tables>(
     commands: &Commands,
     sink: &mut K,
     device: &mut D,
-) -> Result<u8, Halt>
+) -> Result<u8, RunHalt>
     requires machine { IsMachine meaning machine }
-    requires known { IsTrue (list_all (names_within (length machine.net.now)) commands.now) }
+    requires known { IsTrue (list_all (names_within (length machine.on.net.now)) commands.now) }
     requires none { D.units device.old ≡ [] }
-    ensures played { IsPlayed (kinds_of meaning machine.entry)
-        machine.entry.net.now commands.now (ending_status result)
-        (K.written sink.old) (K.written sink.new)
-        (D.log device.old) (D.log device.new) (D.words device.new) }
+    ensures played { IsPlayed (kinds_of meaning machine.entry.on.kinds.now)
+        machine.entry.on.net.now commands.now (ending_status result) (K.written sink.old)
+        (K.written sink.new) (D.log device.old) (D.log device.new) (D.words device.new) }
     ensures done { IfOk result (λ status. status ≡ 0) }
     ensures halted { HaltsByEither result (K.faults sink.old) (K.faults sink.new)
         (D.faults device.old) (D.faults device.new) }
 {
-    let mut state = State::make(alloc, machine, device)?;
+    let mut state = Session::make(alloc, machine, device)?;
     answer_all(alloc, machine, &mut state, commands, sink, device)
 }
 
@@ -52,18 +52,17 @@ pub(crate) fn run_script<K: Sink, D: Tables>(
 fn answer_all<K: Sink, D: Tables>(
     alloc: Global,
     machine: Machine,
-    state: &mut State,
+    state: &mut Session,
     commands: &Commands,
     sink: &mut K,
     device: &mut D,
-) -> Result<u8, Halt>
-    requires known { IsTrue (list_all (names_within (length machine.net.now)) commands.now) }
+) -> Result<u8, RunHalt>
+    requires known { IsTrue (list_all (names_within (length machine.on.net.now)) commands.now) }
     requires ready { IsReadyOn meaning machine state.old (D.units device.old) (D.words device.old) }
     requires start { state_view state.old ≡ start }
-    ensures played { IsPlayedOn (kinds_of meaning machine.entry)
-        machine.entry.net.now commands.now (ending_status result)
-        (K.written sink.old) (K.written sink.new)
-        (D.log device.old) (D.log device.new) (D.words device.new) }
+    ensures played { IsPlayedOn (kinds_of meaning machine.entry.on.kinds.now)
+        machine.entry.on.net.now commands.now (ending_status result) (K.written sink.old)
+        (K.written sink.new) (D.log device.old) (D.log device.new) (D.words device.new) }
     ensures done { IfOk result (λ status. status ≡ 0) }
     ensures halted { HaltsByEither result (K.faults sink.old) (K.faults sink.new)
         (D.faults device.old) (D.faults device.new) }
@@ -81,25 +80,23 @@ fn answer_all<K: Sink, D: Tables>(
 fn answer<K: Sink, D: Tables>(
     alloc: Global,
     machine: Machine,
-    state: &mut State,
+    state: &mut Session,
     command: &Command,
     sink: &mut K,
     device: &mut D,
-) -> Result<(), Halt>
-    requires known { IsTrue (names_within (length machine.net.now) command.now) }
+) -> Result<(), RunHalt>
+    requires known { IsTrue (names_within (length machine.on.net.now) command.now) }
     requires ready { IsReadyOn meaning machine state.old (D.units device.old) (D.words device.old) }
-    ensures through { CameThrough
-        (IsTurn (kinds_of meaning machine.entry) machine.entry.net.now
-        (state_view state.old) command.now)
-        result (state_view state.new) (K.written sink.old) (K.written sink.new)
-        (D.log device.old) (D.log device.new) }
+    ensures through { CameThrough (IsTurn (kinds_of meaning machine.entry.on.kinds.now)
+        machine.entry.on.net.now (state_view state.old) command.now) result (state_view state.new)
+        (K.written sink.old) (K.written sink.new) (D.log device.old) (D.log device.new) }
     ensures ready { OnOk result
         (IsReadyOn meaning machine.entry state.new (D.units device.new) (D.words device.new)) }
     ensures halted { HaltsByEither result (K.faults sink.old) (K.faults sink.new)
         (D.faults device.old) (D.faults device.new) }
 {
     match command {
-        Command::Grant(..) | Command::Route(..) | Command::Revoke(..) => {
+        Command::Grant { .. } | Command::Route { .. } | Command::Revoke(..) => {
             let text = change(alloc, machine, state, command, device)?;
             write_output(sink, text.as_slice())
         }
@@ -115,18 +112,18 @@ fn answer<K: Sink, D: Tables>(
 fn answer_still<K: Sink>(
     alloc: Global,
     machine: Machine,
-    state: &mut State,
+    state: &mut Session,
     command: &Command,
     sink: &mut K,
-) -> Result<(), Halt>
-    requires known { IsTrue (names_within (length machine.net.now) command.now) }
+) -> Result<(), RunHalt>
+    requires known { IsTrue (names_within (length machine.on.net.now) command.now) }
     requires ready { IsReady meaning machine state.old }
     requires no_dump { is_dump command.now ≡ false }
     requires no_view { is_view command.now ≡ false }
     requires no_change { is_change command.now ≡ false }
-    ensures written { Writes result (K.written sink.old) (K.written sink.new)
-        (reply (kinds_of meaning machine.entry) machine.entry.net.now
-        state.old.book.grants command.now) }
+    ensures written { Writes result (K.written sink.old)
+        (K.written sink.new) (reply (kinds_of meaning machine.entry.on.kinds.now)
+        machine.entry.on.net.now state.old.book.grants command.now) }
     ensures still { IsStill meaning machine.entry state.old state.new }
     ensures halted { HaltsBySink result (K.faults sink.old) (K.faults sink.new) }
 {
@@ -138,15 +135,14 @@ fn answer_still<K: Sink>(
 fn dump<K: Sink>(
     alloc: Global,
     machine: Machine,
-    state: &mut State,
+    state: &mut Session,
     sink: &mut K,
-) -> Result<(), Halt>
+) -> Result<(), RunHalt>
     requires ready { IsReady meaning machine state.old }
-    ensures written { Writes result (K.written sink.old) (K.written sink.new)
-        (dump_text (image machine.entry.net.now
-        (kinds_of meaning machine.entry)
-        (tables_of machine.entry.net.now (kinds_of meaning machine.entry)
-        state.old.book.grants))) }
+    ensures written { Writes result
+        (K.written sink.old) (K.written sink.new) (dump_text (image machine.entry.on.net.now
+        (kinds_of meaning machine.entry.on.kinds.now) (tables_of machine.entry.on.net.now
+        (kinds_of meaning machine.entry.on.kinds.now) state.old.book.grants))) }
     ensures still { IsStill meaning machine.entry state.old state.new }
     ensures halted { HaltsBySink result (K.faults sink.old) (K.faults sink.new) }
 {

@@ -3,16 +3,13 @@ use Rattle.std.proofs.Common.{◌≡◌, ◌∙◌, sym, ap, refl, subst, ℕ, �
 use Rattle.std.proofs.lemmas.Bool.{leb-false}
 use Rattle.std.proofs.lemmas.Option.{slice_get_within}
 use Rattle.dn_base.specs.declared.device.TableEvent.{TableEvent}
-use Rattle.std.specs.List.{All}
 use Rattle.dn_net.specs.declared.node.NodeDecl.{NodeDecl}
 use Rattle.dn_net.specs.Legal.{IsLegalNet}
-use Rattle.dn_tables.specs.declared.table.NodeTable.{NodeTable}
 use Rattle.dn_view.proofs.AddedLaw.{refusal_is_complete}
-use Rattle.dn_book.specs.Tables.{IsKept}
+use Rattle.dn_book.proofs.Begun.{book_is_proper}
 use Rattle.dn_book.proofs.Faithful.{grant_keeps_book}
-use Rattle.dn_place.proofs.Proper.{proper_slots}
 use Rattle.dn_net.specs.Decode.{is_agent_at}
-use Rattle.dn_kind.specs.Kind.{IsLawful, Meaning}
+use Rattle.dn_kind.specs.Kind.{Meaning}
 use Rattle.dn_tables.specs.Placement.{Place}
 use Rattle.dn_placement.specs.Roles.{is_vectors_at}
 use Rattle.dn_book.specs.declared.grant.Grant.{Grant}
@@ -128,12 +125,11 @@ placed_logged net kinds book cleared id agent line node v p g failed log log' e 
 }
 
 -- where no vector has an admissible placement, no addition gives one
-pub no_addition : (net : List NodeDecl) (kinds : List Meaning) (book : List Grant) (set : List NodeTable)
-    (id agent line node : ℕ) → IsLegalNet net → All IsLawful kinds → IsKept net kinds book set →
+pub no_addition : (net : List NodeDecl) (book : List Grant) (id agent line node : ℕ) → IsLegalNet net → IsSound net book →
     route_refusal net book id agent node ≡ None → NoVector net book agent line node →
     NoRouteAddition net book agent line node
-no_addition net kinds book set id agent line node legal lawful kept none unplaced vector added free ad ex =
+no_addition net book id agent line node legal sound none unplaced vector added free ad ex =
     let is = allowed_is net book id agent node none in
-    let proper = proper_slots net kinds book set lawful kept in
+    let proper = book_is_proper net book legal sound in
     let p = refusal_is_complete net (slots_of net book) (vector_request agent node vector) line added legal proper is.agent_is refl refl ad ex in
     unplaced vector free p.0 p.1

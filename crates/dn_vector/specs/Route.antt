@@ -1,13 +1,12 @@
 -- What a route comes to: a refusal, or a grant of the least free vector that has an admissible placement
 -- at the line.
-use Rattle.std.specs.Prelude.{◌≡◌, ◌≢◌, ℕ, ◌<◌, Bool, true, false, List, [], ◌∷◌, ◌++◌, map, Option, Some, None, Result, Ok, Err, IsTrue}
-use Rattle.std.specs.declared.alloc.Global.{Global}
-use Rattle.std.specs.declared.dyn_box.DynBox.{DynBox}
+use Rattle.std.specs.Prelude.{◌≡◌, ◌≢◌, ℕ, ◌<◌, Bool, true, false, List, [], ◌∷◌, ◌++◌, Option, Some, None, Result, Ok, Err, IsTrue}
 use Rattle.dn_base.specs.declared.device.TableEvent.{TableEvent}
 use Rattle.dn_base.specs.declared.device.UnitWords.{UnitWords}
 use Rattle.dn_base.specs.Device.{UnitSize}
 use Rattle.dn_net.specs.declared.node.NodeDecl.{NodeDecl}
 use Rattle.dn_kind.specs.Kind.{Meaning}
+use Rattle.dn_kind.specs.Kinded.{kinds_of}
 use Rattle.dn_kind.specs.Rights.{both_rights}
 use Rattle.dn_kind.specs.Tables.{Held}
 use Rattle.dn_tables.specs.Placement.{Place}
@@ -29,12 +28,12 @@ use Rattle.dn_vector.specs.Vectors.{is_free_vector, vector_request}
 
 -- the system is one, no call of the device failed so far, and the tables, which the device has, keep
 -- the grants of the book
-pub record MayRoute {K : Type 0} {V : K → Type 0} (means : DynBox K Global V → Meaning)
+pub record MayRoute {K : Type 0} {V : K → Type 0} (means : (k : K) × V k → Meaning)
     (system : System K V) (book : BookState) (units : List UnitSize) (words : Option (List UnitWords))
     : Type 0 where
   pub is_system : IsSystem means system
-  pub sound : book.sound ≡ true
-  pub kept : IsKept system.net.now (map means system.kinds.now.list.items) book.grants book.set
+  pub unfailed : book.unfailed ≡ true
+  pub kept : IsKept system.on.net.now (kinds_of means system.on.kinds.now) book.grants book.set
   pub on_device : IsOnDevice book.set units words
 
 -- the grant of a vector to an agent at a placement
@@ -74,11 +73,12 @@ pub record IsPlacedRoute (net : List NodeDecl) (book : List Grant) (id agent lin
   pub allowed : route_refusal net book id agent node ≡ None
   pub placed : IsLeastVector net book agent line node vector p
 
--- no refusal holds, and no vector is there
+-- no refusal holds, and no vector is there; no addition gives one either
 pub record IsUnplacedRoute (net : List NodeDecl) (book : List Grant) (id agent line node : ℕ)
     : Type 0 where
   pub allowed : route_refusal net book id agent node ≡ None
   pub none : NoVector net book agent line node
+  pub complete : NoRouteAddition net book agent line node
 
 -- the line is routed to a vector
 pub record IsRouteMade (net : List NodeDecl) (book : List Grant) (id agent line node vector : ℕ)

@@ -1,11 +1,10 @@
 -- What a search for a vector goes by, and the least of a span that has an admissible placement at a line.
-use Rattle.std.specs.Prelude.{ℕ, ◌<◌, ◌≤◌, List, Some, map, slice_get, IsTrue}
-use Rattle.std.specs.declared.alloc.Global.{Global}
-use Rattle.std.specs.declared.dyn_box.DynBox.{DynBox}
+use Rattle.std.specs.Prelude.{ℕ, ◌<◌, ◌≤◌, List, Some, slice_get, IsTrue}
 use Rattle.dn_interval.specs.declared.span.Span.{Span}
 use Rattle.dn_net.specs.declared.node.NodeDecl.{NodeDecl}
 use Rattle.dn_net.specs.Decode.{is_agent_at}
 use Rattle.dn_kind.specs.Kind.{Meaning}
+use Rattle.dn_kind.specs.Kinded.{kinds_of}
 use Rattle.dn_tables.specs.Placement.{Place}
 use Rattle.dn_placement.specs.Order.{IsFirst}
 use Rattle.dn_placement.specs.Roles.{is_vectors_at}
@@ -18,12 +17,12 @@ use Rattle.dn_vector.specs.Route.{HasNoPlace}
 use Rattle.dn_vector.specs.Vectors.{vector_request}
 
 -- the system is one, the book is kept, the agent is one, and the node has vectors
-pub record IsRouteAsked {K : Type 0} {V : K → Type 0} (means : DynBox K Global V → Meaning) (asked : Asked K V) : Type 0 where
+pub record IsRouteAsked {K : Type 0} {V : K → Type 0} (means : (k : K) × V k → Meaning) (asked : Asked K V) : Type 0 where
   pub system : IsSystem means asked.system
-  pub kept : IsKept asked.system.net.now (map means asked.system.kinds.now.list.items)
+  pub kept : IsKept asked.system.on.net.now (kinds_of means asked.system.on.kinds.now)
       asked.book.now.grants asked.book.now.set
-  pub agent : IsTrue (is_agent_at (slice_get asked.system.net.now asked.agent))
-  pub target : IsTrue (is_vectors_at (slice_get asked.system.net.now asked.node))
+  pub agent : IsTrue (is_agent_at (slice_get asked.system.on.net.now asked.agent))
+  pub target : IsTrue (is_vectors_at (slice_get asked.system.on.net.now asked.node))
 
 -- the vector is the least of a span that has an admissible placement at the line, and this is the first
 pub record IsLeastOfSpan (net : List NodeDecl) (book : List Grant) (agent line node : ℕ) (span : Span)

@@ -10,3 +10,5 @@ pub mod refusal;
 pub mod route;
 pub mod search;
 pub mod vectors;
+
+pub use dn_base::OutOfMemory;

@@ -6,7 +6,7 @@ ghost use Rattle.dn_interval.specs.Terms.{AreMaximal, has};
 ghost use Rattle.dn_net.specs.Terms.{KeepsNodeRules, top};
 ghost use Rattle.dn_vector.specs.Terms.{has_vector, in_some_span, is_free_vector};
 
-use dn_base::OutOfMemory;
+use crate::OutOfMemory;
 use dn_book::grant::Grant;
 use dn_book::grants::Grants;
 use dn_interval::{Span, SpanSet, TOP};

@@ -25,8 +25,8 @@ use Rattle.dn_placement.specs.Exposure.{Adds, Gives}
 use Rattle.dn_placement.specs.Order.{IsSuited}
 use Rattle.dn_placement.specs.Placement.{IsUsable, Joins, Leads, Meets, is_free, is_shared}
 use Rattle.dn_placement.specs.Records.{first_slot, hop_rights, hops_records, joined_records, last_slot, slot_record}
-use Rattle.dn_placement.specs.Slots.{Slots}
-use Rattle.dn_view.specs.Addition.{AreProper, GivesExactly, IsAddition, RefusalIsComplete, name_of_address}
+use Rattle.dn_placement.specs.Slots.{AreProper, Slots}
+use Rattle.dn_view.specs.Addition.{GivesExactly, IsAddition, RefusalIsComplete, name_of_address}
 use Rattle.dn_view.proofs.AddedHops.{HoldAll, hops_hold, hops_sub, record_is, record_of, slot_is}
 use Rattle.dn_view.proofs.AddedRights.{allowed_here, both_or_not, joined_below, joined_cases, joined_left, joined_right, mask_less, some_allowed}
 use Rattle.dn_view.proofs.AddedRows.{HopStep, Row, accepted_ends, chain_of_row, one_from_stop, one_to_stop, one_way_within, row_of, stop_of_hop, stop_part, through_record, unit_unaccepted}
@@ -124,14 +124,8 @@ module _ (net : List NodeDecl) (slots : Slots) (agent node base : ℕ) (rights :
     all_held : AreHeld net all
     all_held n q r e = elim (joined_cases slots.held added n q r e) [
       | inl s ↦ proper.held n q r s
-      | inr s ↦ record { unit = ad.fits n q r s.1; rights = proper_rights s.1 }
+      | inr s ↦ ad.held n q r s.1
     ]
-      where
-        proper_rights : added n q ≡ Some r → IsTrue (are_rights r.rights)
-        proper_rights s = elim (kind_of n q r s) [
-          | inl k ↦ subst (λ t. IsTrue (are_rights t)) (sym k.2) are
-          | inr b ↦ subst (λ t. IsTrue (are_rights t)) (sym b) refl
-        ]
 
     adds : Adds rq v start end
     adds =
@@ -325,11 +319,7 @@ module _ (net : List NodeDecl) (slots : Slots) (agent node base : ℕ) (rights :
           let joins : Joins net slots rq hop ks = record {
             unit = w.unit;
             is_unit = w.is_unit;
-            node = w.node;
-            is_port = w.is_port;
-            agree = f.same;
-            within = omega (arith, inside);
-            reached = omega (arith, below);
+            fits = record { node = w.node; is_port = w.is_port; agree = f.same; within = omega (arith, inside); reached = omega (arith, below) };
             usable = usable x r.2 hop r.0 w (among hop (inl refl));
             meets = subst (λ (s : Name). Meets net rq s.node s.addr ks) (sym w.to_is) rest.0;
           } in

@@ -8,8 +8,8 @@ use Rattle.std.specs.List.{list_any}
 use Rattle.dn_interval.specs.Strands.{rows_give, seg_gives}
 use Rattle.dn_flat.specs.Levels.{FlatsView, levels_give, reached_of}
 use Rattle.dn_flat.proofs.Shown.{shows_none}
-use Rattle.dn_view.specs.declared.part.Part.{Part}
-use Rattle.dn_view.specs.declared.part.Part.TheVariants.{Accepts, Stops}
+use Rattle.dn_view.specs.declared.part.FlatPart.{FlatPart}
+use Rattle.dn_view.specs.declared.part.FlatPart.TheVariants.{Accepts, Stops}
 use Rattle.dn_interval.specs.declared.row.End.{End}
 use Rattle.dn_interval.specs.declared.row.Row.{Row}
 use Rattle.dn_interval.specs.declared.row.Seg.{Seg}
@@ -250,7 +250,7 @@ no_layer (rows ∷ rest) n z e =
     ap (λ t. t || levels_give rest n z) (no_rows rows n z o.0) ∙ no_layer rest n z o.1
 
 -- where no port's node leads to anything, nothing goes on
-pub none_leads : (net : List NodeDecl) (h : Held) (flats : FlatsView) (part : Part) (s : Seg) (u : UnitPart) (a : ℕ) (z : End) → unit_at net s.node ≡ Some u → list_any (λ p. part_leads part flats p) u.ports ≡ false → names_go (part_gives part flats) (outputs net h (seg_name s a)) z ≡ false
+pub none_leads : (net : List NodeDecl) (h : Held) (flats : FlatsView) (part : FlatPart) (s : Seg) (u : UnitPart) (a : ℕ) (z : End) → unit_at net s.node ≡ Some u → list_any (λ p. part_leads part flats p) u.ports ≡ false → names_go (part_gives part flats) (outputs net h (seg_name s a)) z ≡ false
 none_leads net h flats part s u a z eu none =
     ap (λ o. names_go (part_gives part flats) (outputs_by h (seg_name s a) o) z) eu
     ∙ by (h s.node ((s.base + (a - s.span.lo)) / 2 ^ u.page))
@@ -259,7 +259,7 @@ none_leads net h flats part s u a z eu none =
     empty [] e = refl
     empty (x ∷ xs) e = let f : 0 < length (x ∷ xs) = omega arith in let t : nat_lt 0 (length (x ∷ xs)) ≡ true = lt-ltb 0 (length (x ∷ xs)) f in absurd (false≢true (sym e ∙ t))
 
-    leads : (q : Part) (p n : ℕ) → part_leads q flats p ≡ false → part_gives q flats p n z ≡ false
+    leads : (q : FlatPart) (p n : ℕ) → part_leads q flats p ≡ false → part_gives q flats p n z ≡ false
     leads Accepts p n e = shows_none flats p n z (empty (reached_of (slice_get flats.nodes p)) e)
     leads Stops p n e = no_layer (stops_of flats p) n z e
 

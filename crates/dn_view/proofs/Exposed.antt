@@ -39,7 +39,7 @@ hops_fit : (net : List NodeDecl) (slots : Slots) (rq : Request) (hops : List Hop
 hops_fit net slots rq [] l = All-nil (IsFitted net rq.size)
 hops_fit net slots rq (hop ∷ hops) l =
     let j : Joins net slots rq hop hops = l.0 in
-    All-cons (IsFitted net rq.size) hop hops (record { unit = j.unit; is_unit = j.is_unit; node = j.node; is_port = j.is_port; agree = j.agree; within = j.within; reached = j.reached }) (hops_fit net slots rq hops l.1)
+    All-cons (IsFitted net rq.size) hop hops (record { unit = j.unit; is_unit = j.is_unit; fits = j.fits }) (hops_fit net slots rq hops l.1)
 
 pub placement_fits : (net : List NodeDecl) (slots : Slots) (rq : Request) (p : Place) → IsTrue (are_rights rq.rights) → IsPlacement net slots rq p → AreFitted net rq p
 placement_fits net slots rq p are is = record { some = is.some; rights = are; hops = hops_fit net slots rq p.hops is.leads }
@@ -97,19 +97,19 @@ module _ (net : List NodeDecl) (slots : Slots) (rq : Request) (access : Access) 
     shut (g ∷ hops) (suc own) hop e free leads node addr i l m =
         let j : Joins net slots rq g hops = leads.0 in
         let q = in_hop g j.unit i l in
-        by j (j.usable ((g.x + i) / 2 ^ j.unit.page) q.0 q.1) (shut hops own hop e free leads.1 j.node g.y i l j.meets)
+        by j (j.usable ((g.x + i) / 2 ^ j.unit.page) q.0 q.1) (shut hops own hop e free leads.1 j.fits.node g.y i l j.meets)
       where
-        by : (j : Joins net slots rq g hops) → IsUsable slots j.unit g ((g.x + i) / 2 ^ j.unit.page) → IsShut (name_on j.node g.y i) → IsShut (name_on node addr i)
+        by : (j : Joins net slots rq g hops) → IsUsable slots j.unit g ((g.x + i) / 2 ^ j.unit.page) → IsShut (name_on j.fits.node g.y i) → IsShut (name_on node addr i)
         by j (is_free f) later = shut_here (name_on node addr i) g j.unit i (m i l) j.is_unit (free_is_empty g.unit ((g.x + i) / 2 ^ j.unit.page) f)
         by j (is_shared holds unowned) later =
             let st : StopsAt net (name_on node addr i) (name_on g.unit g.x i) = m i l in
-            let step : StepUnder net old (name_on g.unit g.x i) (name_on j.node g.y i) = stop_step net legal old (name_on g.unit g.x i) (name_on j.node g.y i) st.0 (passed_by g j.unit j.node i j.is_unit j.is_port j.agree holds) in
+            let step : StepUnder net old (name_on g.unit g.x i) (name_on j.fits.node g.y i) = stop_step net legal old (name_on g.unit g.x i) (name_on j.fits.node g.y i) st.0 (passed_by g j.unit j.fits.node i j.is_unit j.fits.is_port j.fits.agree holds) in
             let first : IsChain (StepUnder net old) st.1.0 (name_on node addr i) (name_on g.unit g.x i) = net_chain net legal old st.1.0 (name_on node addr i) (name_on g.unit g.x i) st.1.2 in
             record {
               end = later.end;
               stop = later.stop;
               steps = st.1.0 + suc later.steps;
-              chain = chain_join (StepUnder net old) st.1.0 (suc later.steps) (name_on node addr i) (name_on g.unit g.x i) later.end first (name_on j.node g.y i, step, later.chain);
+              chain = chain_join (StepUnder net old) st.1.0 (suc later.steps) (name_on node addr i) (name_on g.unit g.x i) later.end first (name_on j.fits.node g.y i, step, later.chain);
               none = later.none;
             }
 

@@ -49,8 +49,8 @@ small_ends net size hop plain f =
     let b : 2 ^ f.unit.reach ≤ 2 ^ 56 = pow-le-pow_right (omega arith) s.reach in
     let c : f.unit.slots * 2 ^ f.unit.page ≤ 262144 * 2 ^ f.unit.page = mul-le-mul_right (2 ^ f.unit.page) s.slots in
     let d : 262144 * 2 ^ f.unit.page ≤ 262144 * 2 ^ 40 = omega arith in
-    let x : hop.x + size ≤ f.unit.slots * 2 ^ f.unit.page = f.within in
-    let y : hop.y + size ≤ 2 ^ f.unit.reach = f.reached in
+    let x : hop.x + size ≤ f.unit.slots * 2 ^ f.unit.page = f.fits.within in
+    let y : hop.y + size ≤ 2 ^ f.unit.reach = f.fits.reached in
     record { x = omega arith; y = omega arith }
 
 -- the first record of hops, hop by hop
@@ -107,9 +107,9 @@ hop_record_held net size rights hop node slot r plain some are f e =
     let k : IsHopRecord net size rights hop node slot u r = hop_record_is net size rights hop node slot u r f.is_unit e in
     let sum : u.reach - u.page + u.page ≡ u.reach = let o = s.order in omega arith in
     let whole : 2 ^ u.reach ≡ 2 ^ (u.reach - u.page) * 2 ^ u.page = sym (ap (λ n. 2 ^ n) sum) ∙ pow-add 2 (u.reach - u.page) u.page in
-    let reached : hop.y + size ≤ 2 ^ (u.reach - u.page) * 2 ^ u.page = subst (λ n. hop.y + size ≤ n) whole f.reached in
-    let in_hop : IsSlotOfHop u.slots (2 ^ (u.reach - u.page)) slot (hop.y / 2 ^ u.page + (slot - hop.x / 2 ^ u.page)) = slot_of_hop (2 ^ u.page) hop.x hop.y size u.slots (2 ^ (u.reach - u.page)) slot (pow_pos u.page) some f.agree f.within reached k.from k.to in
-    let port : nat_lt hop.port (length u.ports) ≡ true = lt-ltb hop.port (length u.ports) (slice_get_within u.ports hop.port f.node f.is_port) in
+    let reached : hop.y + size ≤ 2 ^ (u.reach - u.page) * 2 ^ u.page = subst (λ n. hop.y + size ≤ n) whole f.fits.reached in
+    let in_hop : IsSlotOfHop u.slots (2 ^ (u.reach - u.page)) slot (hop.y / 2 ^ u.page + (slot - hop.x / 2 ^ u.page)) = slot_of_hop (2 ^ u.page) hop.x hop.y size u.slots (2 ^ (u.reach - u.page)) slot (pow_pos u.page) some f.fits.agree f.fits.within reached k.from k.to in
+    let port : nat_lt hop.port (length u.ports) ≡ true = lt-ltb hop.port (length u.ports) (slice_get_within u.ports hop.port f.fits.node f.fits.is_port) in
     let page : nat_lt (slot_record u rights hop slot).page (2 ^ (u.reach - u.page)) ≡ true = lt-ltb (slot_record u rights hop slot).page (2 ^ (u.reach - u.page)) in_hop.below in
     let within : IsTrue (is_within (unit_shape u) (slot_record u rights hop slot)) = rw (port, page) refl in
     record {

@@ -15,8 +15,8 @@ use Rattle.dn_kind.proofs.Ways.{more_records_keep_names, legal_one_way_to_unit, 
 use Rattle.dn_placement.specs.Records.{or_record, joined_records}
 use Rattle.dn_view.specs.Passes.{outputs, outputs_by}
 use Rattle.dn_view.specs.Records.{fresh_record, fresh_records}
-use Rattle.dn_view.specs.Through.{Through, UpTo, Newly, ComesNewly, IsShownNewly}
-use Rattle.dn_view.proofs.Ways.{stop_not_accepted, net_chain, stop_step, step_stop, up_resolves, up_to_three}
+use Rattle.dn_view.specs.Through.{Through, Newly, ComesNewly, IsShownNewly}
+use Rattle.dn_view.proofs.Ways.{UpTo, stop_not_accepted, net_chain, stop_step, step_stop, up_resolves, up_to_three}
 
 -- outputs by other records of the slot
 outputs_as : (net : List NodeDecl) (h h' : Held) (s w : Name) → ((u : UnitPart) → unit_at net s.node ≡ Some u → Member w (output u (h s.node (s.addr / 2 ^ u.page)) s.addr) → Member w (output u (h' s.node (s.addr / 2 ^ u.page)) s.addr)) → Member w (outputs net h s) → Member w (outputs net h' s)

@@ -21,8 +21,8 @@ use Rattle.dn_walk.specs.Ends.{end_of, name_of_end}
 use Rattle.dn_flat.specs.Levels.{AreFlats, FlatsView, levels_give, stops_in}
 use Rattle.dn_flat.specs.Views.{ResolvesFrom, StopsFrom}
 use Rattle.dn_flat.proofs.Shown.{levels_there, shows_is}
-use Rattle.dn_view.specs.declared.part.Part.{Part}
-use Rattle.dn_view.specs.declared.part.Part.TheVariants.{Accepts, Stops}
+use Rattle.dn_view.specs.declared.part.FlatPart.{FlatPart}
+use Rattle.dn_view.specs.declared.part.FlatPart.TheVariants.{Accepts, Stops}
 use Rattle.dn_view.specs.Passes.{part_gives, outputs, outputs_by, names_go, seg_name, seg_passes, segs_pass, stops_of}
 use Rattle.dn_view.specs.Through.{Through, ComesThrough, Newly, ComesNewly, IsPassedOn}
 use Rattle.dn_view.proofs.Fitted.{IsSmall, small_unit}
@@ -68,7 +68,7 @@ module _ (net : List NodeDecl) (legal : IsLegalNet net) (h : Held) (held : AreHe
           let a : l.addr ≡ w.addr = ap (λ (x : Name). x.addr) l.to in
           (ltb-true w.node (length net) (member_all (λ (x : Name). nat_lt x.node (length net)) (steps_under net h s) w (steps_under_there net h s legal.nodes.closed) step), omega arith)
 
-  module _ (part : Part) (T : ℕ → ℕ → End → Type 0) (next_is : (w : Name) (z : End) → w.node < length net → w.addr ≤ TOP → (part_gives part flats w.node w.addr z ≡ true) ↔ T w.node w.addr z) where
+  module _ (part : FlatPart) (T : ℕ → ℕ → End → Type 0) (next_is : (w : Name) (z : End) → w.node < length net → w.addr ≤ TOP → (part_gives part flats w.node w.addr z ≡ true) ↔ T w.node w.addr z) where
     abbrev next : ℕ → ℕ → End → Bool
     next = part_gives part flats
 

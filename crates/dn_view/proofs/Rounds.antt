@@ -8,8 +8,7 @@ use Rattle.dn_net.specs.Decode.{is_stop, is_stop_at, unit_at, Resolves, StopsAt}
 use Rattle.dn_net.specs.Legal.{IsLegalNet}
 use Rattle.dn_kind.specs.Tables.{AreHeld, Held, ResolvesUnder, StepUnder}
 use Rattle.dn_view.specs.Passes.{outputs}
-use Rattle.dn_view.specs.Through.{UpTo}
-use Rattle.dn_view.proofs.Ways.{step_stop, stop_step, up_to_three}
+use Rattle.dn_view.proofs.Ways.{UpTo, step_stop, stop_step, up_to_three}
 
 -- a name comes to an accepted name in so many rounds
 abbrev pub Rounds : List NodeDecl → Held → ℕ → Name → Name → Type 0

@@ -1,5 +1,5 @@
 -- What one name comes to, alone.
-use Rattle.std.proofs.Common.{◌≡◌, ◌∙◌, ℕ, zero, suc, ◌+◌, ◌-◌, ◌<◌, ◌≤◌, ◌==◌, ◌⊎◌, ◌↔◌, inl, inr, Bool, true, false, ◌&&◌, ◌||◌, nat_le, nat_eq, ◌/◌, ◌^◌, if◌then◌else◌, List, [], ◌∷◌, ◌++◌, length, slice_get, Option, Some, None, IsTrue, refl, sym, ap, subst, arith, eqb-true}
+use Rattle.std.proofs.Common.{◌≡◌, ◌∙◌, ℕ, zero, suc, ◌+◌, ◌-◌, ◌<◌, ◌≤◌, ◌==◌, ◌⊎◌, ◌↔◌, inl, inr, Bool, true, false, ◌&&◌, ◌||◌, nat_le, nat_eq, ◌/◌, ◌^◌, if◌then◌else◌, List, [], ◌∷◌, ◌++◌, length, slice_get, Option, Some, None, refl, sym, ap, subst, arith, eqb-true}
 use Rattle.std.proofs.lemmas.Bool.{lt-leb, le-leb, eq-eqb, or_cases}
 use Rattle.std.proofs.lemmas.List.Folds.{list_any-append}
 use Rattle.dn_base.proofs.Booleans.{or-false, or_left, or_right}
@@ -12,16 +12,16 @@ use Rattle.dn_interval.proofs.Membership.{in_from}
 use Rattle.dn_net.specs.declared.node.Name.{Name}
 use Rattle.dn_net.specs.declared.node.NodeDecl.{NodeDecl}
 use Rattle.dn_net.specs.declared.node.Unit.{Unit as UnitPart}
-use Rattle.dn_net.specs.Chain.{Member, IsChain, Ends, ReachesWithin}
+use Rattle.dn_net.specs.Chain.{Member, IsChain, Ends}
 use Rattle.dn_net.specs.Decode.{top, decode, in_some_block, by_entries, sent_names, is_accepted, is_accepted_at, is_stop, is_stop_at, steps, step_limit, unit_at, Resolves, StopsAt}
-use Rattle.dn_net.specs.Names.{name_eq, passing_names, reached_names, sorted_names, end_names}
+use Rattle.dn_net.specs.Names.{name_eq, passing_names, reached_names, sorted_names}
 use Rattle.dn_net.proofs.Resolution.{end_names_are_ends, found_by_test, names_in, test_finds}
 use Rattle.dn_kind.specs.Tables.{Held, output, steps_by_unit, steps_under, step_limit_under, ResolvesUnder, resolved_names_under}
 use Rattle.dn_kind.proofs.Sets.{sorted_same}
 use Rattle.dn_walk.specs.Ends.{end_of}
 use Rattle.dn_flat.specs.Levels.{AreFlats, FlatsView, levels_give, shows}
-use Rattle.dn_view.specs.declared.part.Part.{Part}
-use Rattle.dn_view.specs.declared.part.Part.TheVariants.{Accepts, Stops}
+use Rattle.dn_view.specs.declared.part.FlatPart.{FlatPart}
+use Rattle.dn_view.specs.declared.part.FlatPart.TheVariants.{Accepts, Stops}
 use Rattle.dn_view.specs.Named.{has_name, ComesTo, IsAtName}
 use Rattle.dn_view.specs.Passes.{part_gives, stops_of}
 use Rattle.dn_view.specs.Views.{ResolvesFromUnder}
@@ -110,7 +110,7 @@ stops_given_at net flats are x l s is segs given z =
     let e : segs_give segs x.addr (end_of z) ≡ levels_give (stops_of flats x.node) x.addr (end_of z) = alone_there x s is (λ a n b. segs_give segs a (end_of z) ≡ levels_give (stops_of flats n) b (end_of z)) (given (end_of z)) in
     node_stops net flats are x.node (subst (λ n. x.node < n) (sym are.every) l) (segs_give segs x.addr (end_of z)) x.addr (end_of z) (is_low x s is) e
 
-pub part_given : (net : List NodeDecl) (flats : FlatsView) → AreFlats net flats → (part : Part) (x : Name) → x.node < length net → (s : Seg) → IsAtName x s → (segs : List Seg) → ((z : End) → segs_give segs s.span.lo z ≡ part_gives part flats s.node s.base z) → (z : Name) → (segs_give segs x.addr (end_of z) ≡ true) ↔ ComesTo net part x z
+pub part_given : (net : List NodeDecl) (flats : FlatsView) → AreFlats net flats → (part : FlatPart) (x : Name) → x.node < length net → (s : Seg) → IsAtName x s → (segs : List Seg) → ((z : End) → segs_give segs s.span.lo z ≡ part_gives part flats s.node s.base z) → (z : Name) → (segs_give segs x.addr (end_of z) ≡ true) ↔ ComesTo net part x z
 part_given net flats are Accepts x l s is segs given z = resolved_given net flats are x l s is segs given z
 part_given net flats are Stops x l s is segs given z = stops_given_at net flats are x l s is segs given z
 
@@ -154,7 +154,7 @@ past_resolves net x z l = no_ends (steps net) (is_accepted net) step_limit x z (
 pub past_stops : (net : List NodeDecl) (x z : Name) → top < x.addr → StopsAt net x z → ⊥
 past_stops net x z l = no_ends (steps net) (is_stop net) step_limit x z (still_past net x l) (no_stop_past net x l)
 
-pub past_part : (net : List NodeDecl) (part : Part) (x z : Name) → top < x.addr → ComesTo net part x z → ⊥
+pub past_part : (net : List NodeDecl) (part : FlatPart) (x z : Name) → top < x.addr → ComesTo net part x z → ⊥
 past_part net Accepts x z l r = past_resolves net x z l r
 past_part net Stops x z l r = past_stops net x z l r
 

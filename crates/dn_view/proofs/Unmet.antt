@@ -1,15 +1,14 @@
 -- A node from which no hop can be met shows nothing newly.
-use Rattle.std.proofs.Common.{◌≡◌, ℕ, suc, ◌+◌, ◌*◌, ◌-◌, ◌/◌, ◌%◌, ◌^◌, ◌<◌, ◌≤◌, inl, inr, Bool, true, false, if◌then◌else◌, ◌&&◌, nat_eq, nat_lt, List, [], ◌∷◌, length, slice_get, Option, Some, None, IsTrue, refl, sym, ap, ◌∙◌, subst, eqb-true, ltb-true}
+use Rattle.std.proofs.Common.{◌≡◌, ℕ, suc, ◌+◌, ◌*◌, ◌/◌, ◌%◌, ◌^◌, ◌<◌, ◌≤◌, inl, inr, Bool, true, false, if◌then◌else◌, ◌&&◌, nat_eq, nat_lt, List, [], ◌∷◌, length, slice_get, Option, Some, None, IsTrue, refl, sym, ap, ◌∙◌, subst, eqb-true, ltb-true}
 use Rattle.std.specs.List.{list_any, list_all}
-use Rattle.std.proofs.lemmas.Bool.{and_parts, false≢true}
+use Rattle.std.proofs.lemmas.Bool.{false≢true}
 use Rattle.dn_base.proofs.Lists.{list_all-at}
 use Rattle.dn_base.proofs.Booleans.{or_parts}
 use Rattle.dn_base.proofs.Members.{any_member, member_any, member_none}
 use Rattle.dn_interval.specs.declared.row.End.{End}
 use Rattle.dn_interval.specs.declared.row.Row.{Row}
 use Rattle.dn_interval.specs.declared.span.TheConstants.{TOP}
-use Rattle.dn_interval.specs.Spans.{in_span}
-use Rattle.dn_interval.specs.Strands.{ends_give, row_gives, rows_give}
+use Rattle.dn_interval.specs.Strands.{rows_give}
 use Rattle.dn_net.specs.declared.node.Name.{Name}
 use Rattle.dn_net.specs.declared.node.NodeDecl.{NodeDecl}
 use Rattle.dn_net.specs.declared.node.Unit.{Unit as UnitPart}
@@ -23,7 +22,7 @@ use Rattle.dn_kind.specs.declared.unit_kind.Record.{Record}
 use Rattle.dn_kind.specs.Rights.{allows}
 use Rattle.dn_kind.specs.Tables.{Held, allowing, name_at_port, output, record_allowing}
 use Rattle.dn_flat.specs.declared.levels.Levels.{Levels}
-use Rattle.dn_flat.specs.Levels.{AreFlats, FlatsView, is_among, levels_give, stops_in, units_in}
+use Rattle.dn_flat.specs.Levels.{AreFlats, FlatsView, is_among, levels_give, stops_in}
 use Rattle.dn_flat.proofs.Shown.{levels_there}
 use Rattle.dn_flat.proofs.Reached.{some_rows}
 use Rattle.dn_tables.specs.declared.placement.Hop.{Hop}
@@ -42,6 +41,11 @@ use Rattle.dn_view.proofs.Buffers.{exact_none}
 use Rattle.dn_view.proofs.Cuts.{none_at}
 use Rattle.dn_view.proofs.Exposed.{stop_low}
 use Rattle.dn_view.proofs.Viewed.{node_stops}
+
+-- the units of the stops of a node; of one that is not there they are none
+abbrev pub units_in : Option Levels → List ℕ
+units_in None = []
+units_in (Some levels) = levels.units
 
 -- in a node in which no hop stands the hops have no record
 unplaced : (net : List NodeDecl) (size : ℕ) (rights : Rights) (own place : ℕ) (hops : List Hop) (node slot : ℕ) → has_hop hops node ≡ false → hops_records net size rights own place hops node slot ≡ None

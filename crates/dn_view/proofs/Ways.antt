@@ -14,7 +14,11 @@ use Rattle.dn_kind.specs.Tables.{Held, output, steps_by_unit, step_limit_under, 
 use Rattle.dn_kind.proofs.Bounds.{Led, leads_by, led, reach_under_is_within}
 use Rattle.dn_kind.proofs.Ways.{stop_from_step}
 use Rattle.dn_view.specs.Passes.{outputs, outputs_by}
-use Rattle.dn_view.specs.Through.{UpTo, ComesThrough}
+use Rattle.dn_view.specs.Through.{Through, ComesThrough}
+
+-- a name comes to an accepted name through at most so many units
+abbrev pub UpTo : List NodeDecl → Held → ℕ → Name → Name → Type 0
+UpTo net h n x z = Resolves net x z ⊎ ((t : Name) × StopsAt net x t × Through net h n t z)
 
 -- a unit has no step of the net
 bare : (net : List NodeDecl) → IsLegalNet net → (x : Name) (u : UnitPart) → unit_at net x.node ≡ Some u → steps net x ≡ []

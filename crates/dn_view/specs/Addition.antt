@@ -1,43 +1,35 @@
 -- Additions: records in free slots, as many as may be and wherever, and the law on those that give an
 -- agent exactly one name more.
-use Rattle.std.specs.Prelude.{◌≡◌, ℕ, ◌≤◌, ◌<◌, Bool, not, List, slice_get, Some, IsTrue}
+use Rattle.std.specs.Prelude.{◌≡◌, ℕ, ◌≤◌, Bool, not, List, slice_get, Some, IsTrue}
 use Rattle.dn_net.specs.declared.node.Name.{Name}
 use Rattle.dn_net.specs.declared.node.NodeDecl.{NodeDecl}
-use Rattle.dn_net.specs.declared.node.Unit.{Unit as UnitPart}
 use Rattle.dn_net.specs.Chain.{Member}
-use Rattle.dn_net.specs.Decode.{is_agent_at, top, unit_at}
+use Rattle.dn_net.specs.Decode.{is_agent_at, top}
 use Rattle.dn_net.specs.Legal.{IsLegalNet}
 use Rattle.dn_kind.specs.declared.rights.Access.{Access}
 use Rattle.dn_kind.specs.declared.rights.Rights.{Rights}
 use Rattle.dn_kind.specs.declared.unit_kind.Record.{Record}
-use Rattle.dn_kind.specs.Kind.{is_within}
 use Rattle.dn_kind.specs.Rights.{allows, are_rights, both_rights}
 use Rattle.dn_kind.specs.Tables.{AreHeld, Held, ResolvesUnder, allowing}
-use Rattle.dn_kind.specs.Units.{unit_shape}
 use Rattle.dn_kind.specs.Ways.{Passes, Slot}
 use Rattle.dn_tables.specs.Placement.{Place}
 use Rattle.dn_placement.specs.declared.request.Request.{Request}
 use Rattle.dn_placement.specs.Exposure.{Gives}
 use Rattle.dn_placement.specs.Order.{IsSuited}
 use Rattle.dn_placement.specs.Records.{joined_records}
-use Rattle.dn_placement.specs.Slots.{Slots}
+use Rattle.dn_placement.specs.Slots.{AreProper, Slots}
 
 -- the name of an address of a node
 abbrev pub name_of_address : ℕ → ℕ → Name
 name_of_address node addr = record { node = node; addr = addr }
 
--- a slot is there, and its unit can hold the record
-abbrev pub CanHold : List NodeDecl → ℕ → ℕ → Record → Type 0
-CanHold net node slot r =
-    (u : UnitPart) × (unit_at net node ≡ Some u) × (slot < u.slots) × IsTrue (is_within (unit_shape u) r)
-
--- An addition for rights: records in free slots, each with a port of its unit and an output below its
--- reach, of which one has the rights and every other has both.
+-- An addition for rights: records in free slots that their units can hold, of which one has the rights
+-- and every other has both.
 pub record IsAddition (net : List NodeDecl) (slots : Slots) (rights : Rights) (added : Held)
     : Type 0 where
   pub free : (node slot : ℕ) (r : Record) → added node slot ≡ Some r →
       IsTrue (slots.is_free node slot)
-  pub fits : (node slot : ℕ) (r : Record) → added node slot ≡ Some r → CanHold net node slot r
+  pub held : AreHeld net added
   pub node : ℕ
   pub slot : ℕ
   pub own : Record
@@ -64,15 +56,6 @@ pub record GivesExactly (net : List NodeDecl) (slots : Slots) (rq : Request) (v 
       → ⊥
   pub unowned : PassesNoOwned net (joined_records slots.held added) slots.has_owner
       (name_of_address rq.agent v) (name_of_address rq.node rq.base)
-
--- slots whose records their units can hold; one that is free holds none, and one that has no owner
--- holds none but with both rights
-pub record AreProper (net : List NodeDecl) (slots : Slots) : Type 0 where
-  pub held : AreHeld net slots.held
-  pub empty : (node slot : ℕ) → IsTrue (slots.is_free node slot) →
-      (r : Record) → slots.held node slot ≡ Some r → ⊥
-  pub shared : (node slot : ℕ) (r : Record) → slots.held node slot ≡ Some r →
-      IsTrue (not (slots.has_owner node slot)) → r.rights ≡ both_rights
 
 -- Where an addition gives an agent exactly the one name of a request, a part of it is an admissible
 -- placement at the same address: the refusal of one address is complete.

@@ -9,8 +9,8 @@ use Rattle.dn_net.specs.Chain.{Member}
 use Rattle.dn_net.specs.Decode.{Resolves, StopsAt}
 use Rattle.dn_net.specs.Names.{name_eq}
 use Rattle.dn_walk.specs.Ends.{end_of}
-use Rattle.dn_view.specs.declared.part.Part.{Part}
-use Rattle.dn_view.specs.declared.part.Part.TheVariants.{Accepts, Stops}
+use Rattle.dn_view.specs.declared.part.FlatPart.{FlatPart}
+use Rattle.dn_view.specs.declared.part.FlatPart.TheVariants.{Accepts, Stops}
 
 -- the name stands in the list
 abbrev pub has_name : List Name → Name → Bool
@@ -23,7 +23,7 @@ pub record IsAtName (x : Name) (s : Seg) : Type 0 where
   pub lo : s.span.lo ≡ x.addr
 
 -- the name comes to the other in the net: it resolves to it, or that is one of its stops
-abbrev pub ComesTo : List NodeDecl → Part → Name → Name → Type 0
+abbrev pub ComesTo : List NodeDecl → FlatPart → Name → Name → Type 0
 ComesTo net Accepts x z = Resolves net x z
 ComesTo net Stops x z = StopsAt net x z
 
@@ -32,7 +32,7 @@ abbrev pub AddsThose : (Name → Type 0) → List Name → List Name → Type 0
 AddsThose P old new = (z : Name) → Member z new ↔ (Member z old ⊎ P z)
 
 -- the names that were there, and those to which the name comes
-abbrev pub AddsPart : List NodeDecl → Part → Name → List Name → List Name → Type 0
+abbrev pub AddsPart : List NodeDecl → FlatPart → Name → List Name → List Name → Type 0
 AddsPart net part x old new = AddsThose (ComesTo net part x) old new
 
 -- the names that were there, and those that the segments give to the address

@@ -12,20 +12,20 @@ use Rattle.dn_net.specs.Decode.{unit_at}
 use Rattle.dn_kind.specs.Tables.{Held, output}
 use Rattle.dn_flat.specs.Levels.{FlatsView, levels_give, reached_of, shows, stops_in}
 use Rattle.dn_flat.specs.Onward.{has_rows}
-use Rattle.dn_view.specs.declared.part.Part.{Part}
-use Rattle.dn_view.specs.declared.part.Part.TheVariants.{Accepts, Stops}
+use Rattle.dn_view.specs.declared.part.FlatPart.{FlatPart}
+use Rattle.dn_view.specs.declared.part.FlatPart.TheVariants.{Accepts, Stops}
 
 -- the layers of the stops of a node
 abbrev pub stops_of : FlatsView → ℕ → List (List Row)
 stops_of flats node = stops_in (slice_get flats.nodes node)
 
 -- the address of the node comes to the name: to an accepted one, or to a stop
-abbrev pub part_gives : Part → FlatsView → ℕ → ℕ → End → Bool
+abbrev pub part_gives : FlatPart → FlatsView → ℕ → ℕ → End → Bool
 part_gives Accepts flats node a z = shows flats node a z
 part_gives Stops flats node a z = levels_give (stops_of flats node) a z
 
 -- there is something to which the node leads: a level, or a stop
-abbrev pub part_leads : Part → FlatsView → ℕ → Bool
+abbrev pub part_leads : FlatPart → FlatsView → ℕ → Bool
 part_leads Accepts flats node = nat_lt 0 (length (reached_of (slice_get flats.nodes node)))
 part_leads Stops flats node = list_any has_rows (stops_of flats node)
 

@@ -1,5 +1,5 @@
 -- Which records a pass through units goes by.
-use Rattle.std.specs.Prelude.{◌≡◌, ℕ, ◌+◌, ◌*◌, ◌%◌, ◌^◌, ◌≤◌, List, slice_get, Option, Some, None, IsTrue}
+use Rattle.std.specs.Prelude.{◌≡◌, ℕ, ◌≤◌, List, Option, Some, None, IsTrue}
 use Rattle.std.specs.List.{All}
 use Rattle.dn_net.specs.declared.node.NodeDecl.{NodeDecl}
 use Rattle.dn_net.specs.declared.node.Unit.{Unit as UnitPart}
@@ -10,6 +10,7 @@ use Rattle.dn_kind.specs.Tables.{Held}
 use Rattle.dn_tables.specs.declared.placement.Hop.{Hop}
 use Rattle.dn_tables.specs.Placement.{Place}
 use Rattle.dn_placement.specs.declared.request.Request.{Request}
+use Rattle.dn_placement.specs.Placement.{FitsUnit}
 use Rattle.dn_placement.specs.Records.{joined_records, placed_records}
 use Rattle.dn_view.specs.declared.records.Records.{Records}
 use Rattle.dn_view.specs.declared.records.Records.TheVariants.{Kept, Fresh, Joined}
@@ -34,16 +35,11 @@ records_taken net h (Joined rq p) = joined_records h (placed_records net rq.now 
 abbrev pub HoldsBelow : Held → ℕ → ℕ → Type 0
 HoldsBelow h node end = (slot : ℕ) → end ≤ slot → h node slot ≡ None
 
--- a hop fits its unit for so many addresses: it is a unit with the port, `x` and `y` agree modulo the
--- page, and both ends lie within
+-- a hop fits the unit that its node is, for so many addresses
 pub record IsFitted (net : List NodeDecl) (size : ℕ) (hop : Hop) : Type 0 where
   pub unit : UnitPart
   pub is_unit : unit_at net hop.unit ≡ Some unit
-  pub node : ℕ
-  pub is_port : slice_get unit.ports hop.port ≡ Some node
-  pub agree : hop.x % 2 ^ unit.page ≡ hop.y % 2 ^ unit.page
-  pub within : hop.x + size ≤ unit.slots * 2 ^ unit.page
-  pub reached : hop.y + size ≤ 2 ^ unit.reach
+  pub fits : FitsUnit unit size hop
 
 -- the hops of a placement fit their units, whose slots can hold the request's rights
 pub record AreFitted (net : List NodeDecl) (rq : Request) (p : Place) : Type 0 where

@@ -14,10 +14,6 @@ Through net h (suc n) s z =
     (w : Name) × Member w (outputs net h s)
     × (Resolves net w z ⊎ ((t : Name) × StopsAt net w t × Through net h n t z))
 
--- a name comes to an accepted name through at most so many units
-abbrev pub UpTo : List NodeDecl → Held → ℕ → Name → Name → Type 0
-UpTo net h n x z = Resolves net x z ⊎ ((t : Name) × StopsAt net x t × Through net h n t z)
-
 -- a name in a unit comes to an accepted name through a fresh record: after fewer than so many of the
 -- first records, one of the fresh ones, and then by all
 abbrev pub Newly : List NodeDecl → Held → Held → Held → ℕ → Name → Name → Type 0

@@ -6,7 +6,7 @@ use Rattle.dn_net.specs.declared.node.Unit.{Unit as UnitPart}
 use Rattle.dn_net.specs.Decode.{unit_at}
 use Rattle.dn_flat.specs.Levels.{FlatsView}
 use Rattle.dn_tables.specs.declared.placement.Hop.{Hop}
-use Rattle.dn_view.specs.declared.part.Part.TheVariants.{Stops}
+use Rattle.dn_view.specs.declared.part.FlatPart.TheVariants.{Stops}
 use Rattle.dn_view.specs.Passes.{part_leads}
 
 -- one of the hops stands in the node

@@ -1,26 +1,26 @@
 //! Whether a placement shows exactly its buffer.
 
-ghost use Rattle.std.specs.Prelude.{◌≡◌, ℕ, ◌+◌, ◌≤◌, ◌⊎◌, ◌↔◌, ◌&&◌, nat_eq, map, slice_get, IfOk, OnOk, IsTrue};
+ghost use Rattle.std.specs.Prelude.{◌≡◌, ℕ, ◌+◌, ◌≤◌, ◌⊎◌, ◌↔◌, ◌&&◌, nat_eq, slice_get, IfOk, OnOk, IsTrue};
 ghost use Rattle.std.specs.List.{list_all};
 ghost use Rattle.dn_interval.specs.declared.row.End.{End};
 ghost use Rattle.dn_interval.specs.declared.span.TheConstants.{TOP};
 ghost use Rattle.dn_interval.specs.Terms.{segs_give};
 ghost use Rattle.dn_net.specs.Terms.{is_agent_at};
-ghost use Rattle.dn_kind.specs.Terms.{allows, are_rights};
+ghost use Rattle.dn_kind.specs.Terms.{allows, are_rights, kinds_of};
 ghost use Rattle.dn_tables.specs.Terms.{FitsNet, record_kept};
 ghost use Rattle.dn_placement.specs.Terms.{IsAdmissible, IsPlacement, slots_of_set};
 ghost use Rattle.dn_walk.specs.Terms.{name_of_end};
 ghost use Rattle.dn_view.specs.Terms.{AreExactIn, ComesIn, IsAskedAt, IsExactIn, IsPassedIn, IsSystem, IsTrial, are_buffer, is_buffer_end, is_buffer_row, is_part_of_buffer};
 
+use crate::OutOfMemory;
 use crate::course::Course;
-use crate::part::Part;
+use crate::part::FlatPart;
 use crate::pass::pass;
 use crate::records::Records;
 use crate::shown::{UNITS, node_stops, passed_stops, push_through};
 use crate::system::System;
 use crate::trial::Trial;
 use crate::untouched::is_untouched;
-use dn_base::OutOfMemory;
 use dn_interval::{End, Row, Rows, Seg};
 use dn_kind::rights::Access;
 use dn_placement::request::Request;
@@ -40,16 +40,14 @@ pub fn exact<'a>(
     request: &'a Request,
     placement: &'a Placement,
 ) -> Result<bool, OutOfMemory>
-    requires system { IsSystem (λ k. meaning (k.vtable, k.value)) system }
-    requires fits { FitsNet system.net.now
-        (map (λ k. meaning (k.vtable, k.value)) system.kinds.now.list.items) tables.now }
+    requires system { IsSystem meaning system }
+    requires fits { FitsNet system.on.net.now (kinds_of meaning system.on.kinds.now) tables.now }
     requires rights { IsTrue (are_rights request.now.rights) }
-    requires placed { IsPlacement system.net.now
-        (slots_of_set (map (λ k. meaning (k.vtable, k.value)) system.kinds.now.list.items)
-        tables.now) request.now placement.now }
-    ensures exact { IfOk result (λ is_exact. IsTrue is_exact ↔ IsAdmissible system.entry.net.now
-        (record_kept (map (λ k. meaning (k.vtable, k.value)) system.entry.kinds.now.list.items)
-        tables.now) request.now placement.now) }
+    requires placed { IsPlacement system.on.net.now
+        (slots_of_set (kinds_of meaning system.on.kinds.now) tables.now) request.now placement.now }
+    ensures exact { IfOk result (λ is_exact. IsTrue is_exact
+        ↔ IsAdmissible system.entry.on.net.now (record_kept
+        (kinds_of meaning system.entry.on.kinds.now) tables.now) request.now placement.now) }
 {
     tables.facts();
     let (read, write) = (Access::Read, Access::Write);
@@ -71,16 +69,15 @@ pub fn exact<'a>(
 /// Whether every agent shows newly in a trial exactly what is asked for. The request's agent is looked
 /// at first, since most placements that show more show it there.
 fn exact_for(alloc: Global, trial: Trial) -> Result<bool, OutOfMemory>
-    requires { IsTrial (λ k. meaning (k.vtable, k.value)) trial }
-    ensures { IfOk result (λ is_exact. IsTrue is_exact
-        ↔ AreExactIn (λ k. meaning (k.vtable, k.value)) trial.entry) }
+    requires { IsTrial meaning trial }
+    ensures { IfOk result (λ is_exact. IsTrue is_exact ↔ AreExactIn meaning trial.entry) }
 {
     let own = trial.request.agent;
     let first = exact_at(alloc, trial, own)?;
     if !first {
         return Ok(false);
     }
-    for node in 0..trial.system.net.nodes() {
+    for node in 0..trial.system.on.net.nodes() {
         if node != own {
             let other = exact_at(alloc, trial, node)?;
             if !other {
@@ -93,12 +90,11 @@ fn exact_for(alloc: Global, trial: Trial) -> Result<bool, OutOfMemory>
 
 /// Whether a node is no agent, or shows newly in a trial exactly what is asked for.
 fn exact_at(alloc: Global, trial: Trial, node: u16) -> Result<bool, OutOfMemory>
-    requires { IsTrial (λ k. meaning (k.vtable, k.value)) trial }
-    ensures { IfOk result (λ is_exact. IsTrue is_exact
-        ↔ (IsTrue (is_agent_at (slice_get trial.entry.system.net.now node))
-        → IsExactIn (λ k. meaning (k.vtable, k.value)) trial.entry node)) }
+    requires { IsTrial meaning trial }
+    ensures { IfOk result (λ is_exact. IsTrue is_exact ↔ (IsTrue (is_agent_at
+        (slice_get trial.entry.system.on.net.now node)) → IsExactIn meaning trial.entry node)) }
 {
-    if !is_agent(trial.system.net, node) {
+    if !is_agent(trial.system.on.net, node) {
         return Ok(true);
     }
     if is_untouched(trial, node) {
@@ -122,10 +118,10 @@ pub(crate) fn is_asked(request: &Request, node: u16, access: Access) -> bool
 
 /// What is shown newly of the names in units that segments give.
 fn newly_shown(alloc: Global, trial: Trial, stops: Vec<Seg>) -> Result<Vec<Seg>, OutOfMemory>
-    requires { IsTrial (λ k. meaning (k.vtable, k.value)) trial }
-    ensures { IfOk result (λ shown. (a : ℕ) (z : End) → a ≤ TOP → IsTrue (segs_give shown.items a z)
-        ↔ ((s : End) × IsTrue (segs_give stops.items a s)
-        × ComesIn (λ k. meaning (k.vtable, k.value)) trial.entry (name_of_end s) (name_of_end z))) }
+    requires { IsTrial meaning trial }
+    ensures { IfOk result (λ shown. (a : ℕ) (z : End) → a ≤ TOP
+        → IsTrue (segs_give shown.items a z) ↔ ((s : End) × IsTrue (segs_give stops.items a s) ×
+        ComesIn meaning trial.entry (name_of_end s) (name_of_end z))) }
 {
     let kept = Course {
         system: trial.system,
@@ -151,11 +147,10 @@ fn push_newly(
     trial: Trial,
     segs: &[Seg],
 ) -> Result<(), OutOfMemory>
-    requires { IsTrial (λ k. meaning (k.vtable, k.value)) trial }
+    requires { IsTrial meaning trial }
     ensures { OnOk result ((a : ℕ) (z : End) → a ≤ TOP → IsTrue (segs_give shown.new.items a z)
-        ↔ (IsTrue (segs_give shown.old.items a z)
-        ⊎ ((s : End) × IsTrue (segs_give segs.now a s) × IsPassedIn
-        (λ k. meaning (k.vtable, k.value)) trial.entry (name_of_end s) (name_of_end z)))) }
+        ↔ (IsTrue (segs_give shown.old.items a z) ⊎ ((s : End) × IsTrue (segs_give segs.now a s) ×
+        IsPassedIn meaning trial.entry (name_of_end s) (name_of_end z)))) }
 {
     if segs.is_empty() {
         return Ok(());
@@ -168,7 +163,7 @@ fn push_newly(
     };
     let records = Records::Joined(trial.request, trial.placement);
     let all = Course { records, ..fresh };
-    pass(alloc, shown, fresh, Part::Accepts, segs)?;
+    pass(alloc, shown, fresh, FlatPart::Accepts, segs)?;
     let stops = passed_stops(alloc, fresh, segs)?;
     push_through(alloc, shown, all, stops)
 }

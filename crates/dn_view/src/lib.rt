@@ -16,3 +16,5 @@ pub mod system;
 mod trial;
 mod untouched;
 pub mod view;
+
+pub use dn_base::OutOfMemory;

@@ -5,9 +5,9 @@ ghost use Rattle.dn_interval.specs.declared.span.TheConstants.{TOP};
 ghost use Rattle.dn_flat.specs.Terms.{AreFlats};
 ghost use Rattle.dn_view.specs.Terms.{AddsGiven, AddsOne, AddsPart, IsAtName};
 
-use crate::part::Part;
+use crate::OutOfMemory;
+use crate::part::FlatPart;
 use crate::pass::push_sent;
-use dn_base::OutOfMemory;
 use dn_flat::flats::Flats;
 use dn_interval::{Seg, Span, TOP};
 use dn_net::net::Net;
@@ -20,7 +20,7 @@ pub fn push_names(
     alloc: Global,
     net: &Net,
     flats: &Flats,
-    part: Part,
+    part: FlatPart,
     name: Name,
     found: &mut Vec<Name>,
 ) -> Result<(), OutOfMemory>

@@ -2,7 +2,7 @@
 
 /// To what names come.
 #[derive(Clone, Copy)]
-pub enum Part {
+pub enum FlatPart {
     /// The accepted names.
     Accepts,
     /// The names in units.

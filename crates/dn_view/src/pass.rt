@@ -10,11 +10,11 @@ ghost use Rattle.dn_kind.specs.Terms.{is_plain_unit_shape, is_within, unit_shape
 ghost use Rattle.dn_flat.specs.Terms.{has_rows};
 ghost use Rattle.dn_view.specs.Terms.{IsCourse, course_records, in_slot, names_go, outputs, part_gives, part_leads, seg_name, seg_passes, segs_pass, stops_of};
 
+use crate::OutOfMemory;
 use crate::course::Course;
-use crate::part::Part;
+use crate::part::FlatPart;
 use crate::range::{held_end, slot_range};
 use crate::records::record_for;
-use dn_base::OutOfMemory;
 use dn_flat::flats::Flats;
 use dn_interval::onward::cut;
 use dn_interval::{End, Rows, Seg, Span};
@@ -31,14 +31,13 @@ pub(crate) fn pass(
     alloc: Global,
     out: &mut Vec<Seg>,
     course: Course,
-    part: Part,
+    part: FlatPart,
     segs: &[Seg],
 ) -> Result<(), OutOfMemory>
-    requires { IsCourse (λ k. meaning (k.vtable, k.value)) course }
+    requires { IsCourse meaning course }
     ensures { OnOk result ((a : ℕ) (z : End) → segs_give out.new.items a z
-        ≡ (segs_give out.old.items a z || segs_pass course.entry.system.net.now
-        (course_records (λ k. meaning (k.vtable, k.value)) course.entry)
-        (part_gives part course.entry.system.flats.now) segs.now a z)) }
+        ≡ (segs_give out.old.items a z || segs_pass course.entry.system.on.net.now (course_records
+        meaning course.entry) (part_gives part course.entry.system.flats.now) segs.now a z)) }
 {
     let mut mid = Vec::new(alloc);
     for seg in segs {
@@ -52,23 +51,22 @@ fn pass_seg(
     out: &mut Vec<Seg>,
     mid: &mut Vec<Seg>,
     course: Course,
-    part: Part,
+    part: FlatPart,
     seg: Seg,
 ) -> Result<(), OutOfMemory>
-    requires { IsCourse (λ k. meaning (k.vtable, k.value)) course }
+    requires { IsCourse meaning course }
     ensures { OnOk result ((a : ℕ) (z : End) → segs_give out.new.items a z
-        ≡ (segs_give out.old.items a z || seg_passes course.entry.system.net.now
-        (course_records (λ k. meaning (k.vtable, k.value)) course.entry)
-        (part_gives part course.entry.system.flats.now) seg a z)) }
+        ≡ (segs_give out.old.items a z || seg_passes course.entry.system.on.net.now (course_records
+        meaning course.entry) (part_gives part course.entry.system.flats.now) seg a z)) }
 {
-    let Some(unit) = unit_of(course.system.net, seg.node) else {
+    let Some(unit) = unit_of(course.system.on.net, seg.node) else {
         return Ok(());
     };
     if !leads_on(course.system.flats, unit, part) {
         return Ok(());
     }
     let checked = CheckedNet {
-        net: course.system.net,
+        net: course.system.on.net,
     };
     let end = held_end(course.system, course.tables, seg.node, unit);
     let range = slot_range(checked, course.records, unit, seg, end);
@@ -83,21 +81,20 @@ fn pass_slot(
     out: &mut Vec<Seg>,
     mid: &mut Vec<Seg>,
     course: Course,
-    part: Part,
+    part: FlatPart,
     unit: &Unit,
     seg: Seg,
     slot: u64,
 ) -> Result<(), OutOfMemory>
-    requires course { IsCourse (λ k. meaning (k.vtable, k.value)) course }
-    requires unit { unit_at course.system.net.now seg.node ≡ Some unit.now }
+    requires course { IsCourse meaning course }
+    requires unit { unit_at course.system.on.net.now seg.node ≡ Some unit.now }
     requires there { slot < unit.now.slots }
     requires begins { seg.base / 2 ^ unit.now.page ≤ slot }
     requires ends { slot ≤ (seg.base + (seg.span.hi - seg.span.lo)) / 2 ^ unit.now.page }
     ensures { OnOk result ((a : ℕ) (z : End) → segs_give out.new.items a z
-        ≡ (segs_give out.old.items a z || (in_slot unit.now.page slot seg a
-        && names_go (part_gives part course.entry.system.flats.now)
-        (outputs course.entry.system.net.now
-        (course_records (λ k. meaning (k.vtable, k.value)) course.entry) (seg_name seg a)) z))) }
+        ≡ (segs_give out.old.items a z || (in_slot unit.now.page slot seg a && names_go
+        (part_gives part course.entry.system.flats.now) (outputs course.entry.system.on.net.now
+        (course_records meaning course.entry) (seg_name seg a)) z))) }
 {
     match record_for(course, seg.node, slot as u32) {
         None => Ok(()),
@@ -118,7 +115,7 @@ pub(crate) fn push_sent(
     out: &mut Vec<Seg>,
     mid: &mut Vec<Seg>,
     flats: &Flats,
-    part: Part,
+    part: FlatPart,
     seg: Seg,
 ) -> Result<(), OutOfMemory>
     requires { seg.node < length flats.now.nodes }
@@ -127,8 +124,8 @@ pub(crate) fn push_sent(
         && part_gives part flats.now seg.node (seg.base + (a - seg.span.lo)) z))) }
 {
     match part {
-        Part::Accepts => flats.push_accepted(out, mid, seg),
-        Part::Stops => flats.push_stops(out, seg),
+        FlatPart::Accepts => flats.push_accepted(out, mid, seg),
+        FlatPart::Stops => flats.push_stops(out, seg),
     }
 }
 
@@ -176,7 +173,7 @@ fn stop_layers(flats: &Flats, node: u16) -> &[Rows]
 }
 
 /// Whether the node of one of a unit's ports leads to something.
-pub(crate) fn leads_on(flats: &Flats, unit: &Unit, part: Part) -> bool
+pub(crate) fn leads_on(flats: &Flats, unit: &Unit, part: FlatPart) -> bool
     requires { IsTrue (list_all (λ p. nat_lt p (length flats.now.nodes)) unit.now.ports) }
     ensures { result ≡ list_any (λ p. part_leads part flats.now p) unit.now.ports }
 {
@@ -190,13 +187,13 @@ pub(crate) fn leads_on(flats: &Flats, unit: &Unit, part: Part) -> bool
 }
 
 /// Whether a node leads to something.
-fn node_leads(flats: &Flats, node: u16, part: Part) -> bool
+fn node_leads(flats: &Flats, node: u16, part: FlatPart) -> bool
     requires { node < length flats.now.nodes }
     ensures { result ≡ part_leads part flats.now node }
 {
     match part {
-        Part::Accepts => !flats.of(node).reached.as_slice().is_empty(),
-        Part::Stops => has_layer(stop_layers(flats, node)),
+        FlatPart::Accepts => !flats.of(node).reached.as_slice().is_empty(),
+        FlatPart::Stops => has_layer(stop_layers(flats, node)),
     }
 }
 

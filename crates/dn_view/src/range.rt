@@ -1,9 +1,9 @@
 //! Which slots of a unit a pass looks at.
 
-ghost use Rattle.std.specs.Prelude.{◌≡◌, ℕ, ◌+◌, ◌-◌, ◌/◌, ◌^◌, ◌<◌, ◌≤◌, ◌⊎◌, map, Some, None};
+ghost use Rattle.std.specs.Prelude.{◌≡◌, ℕ, ◌+◌, ◌-◌, ◌/◌, ◌^◌, ◌<◌, ◌≤◌, ◌⊎◌, Some, None};
 ghost use Rattle.dn_net.specs.declared.node.Unit.{Unit as UnitPart};
 ghost use Rattle.dn_net.specs.Terms.{unit_at};
-ghost use Rattle.dn_kind.specs.Terms.{Held};
+ghost use Rattle.dn_kind.specs.Terms.{Held, kinds_of};
 ghost use Rattle.dn_kind.specs.declared.rights.Rights.{Rights};
 ghost use Rattle.dn_tables.specs.Terms.{FitsNet, record_kept};
 ghost use Rattle.dn_placement.specs.Terms.{hop_record, placed_records};
@@ -72,14 +72,12 @@ fn taken_range(checked: CheckedNet, records: Records, node: u16, slots: u64, end
 /// From which slot on no slot of a unit holds a record: from there on each word is 0, behind the last page
 /// that was made, or the unit has no more slots.
 pub(crate) fn held_end(system: System, tables: &TableSet, node: u16, unit: &Unit) -> u64
-    requires system { IsSystem (λ k. meaning (k.vtable, k.value)) system }
-    requires fits { FitsNet system.net.now
-        (map (λ k. meaning (k.vtable, k.value)) system.kinds.now.list.items) tables.now }
-    requires unit { unit_at system.net.now node ≡ Some unit.now }
+    requires system { IsSystem meaning system }
+    requires fits { FitsNet system.on.net.now (kinds_of meaning system.on.kinds.now) tables.now }
+    requires unit { unit_at system.on.net.now node ≡ Some unit.now }
     ensures most { result ≤ unit.now.slots }
-    ensures none { HoldsBelow (record_kept
-        (map (λ k. meaning (k.vtable, k.value)) system.entry.kinds.now.list.items) tables.now)
-        node result }
+    ensures none { HoldsBelow
+        (record_kept (kinds_of meaning system.entry.on.kinds.now) tables.now) node result }
 {
     let slots = u64::from(unit.slots);
     slots.min(tables.words(node).zeros_from() as u64)

@@ -28,13 +28,13 @@ pub(crate) enum Records<'a> {
 
 /// The record of a slot that is taken, where it allows the access.
 pub(crate) fn record_for(course: Course, node: u16, slot: u32) -> Option<Record>
-    requires course { IsCourse (λ k. meaning (k.vtable, k.value)) course }
+    requires course { IsCourse meaning course }
     requires there { IsTrue (has_slot course.tables.now node slot) }
-    ensures { result ≡ course_records (λ k. meaning (k.vtable, k.value)) course.entry node slot }
+    ensures { result ≡ course_records meaning course.entry node slot }
 {
-    let kept = course.tables.record_at(course.system.kinds, node, slot);
+    let kept = course.tables.record_at(course.system.on.kinds, node, slot);
     let checked = CheckedNet {
-        net: course.system.net,
+        net: course.system.on.net,
     };
     let record = taken_record(checked, course.records, kept, node, slot)?;
     if record.rights.allows(course.access) {

@@ -7,12 +7,12 @@ ghost use Rattle.dn_interval.specs.Terms.{segs_give};
 ghost use Rattle.dn_walk.specs.Terms.{name_of_end};
 ghost use Rattle.dn_flat.specs.Terms.{levels_give};
 ghost use Rattle.dn_view.specs.Terms.{ComesThrough, IsCourse, course_records, part_gives, segs_pass, stops_of};
-ghost use Rattle.dn_view.specs.declared.part.Part.TheVariants.{Stops};
+ghost use Rattle.dn_view.specs.declared.part.FlatPart.TheVariants.{Stops};
 
+use crate::OutOfMemory;
 use crate::course::Course;
-use crate::part::Part;
+use crate::part::FlatPart;
 use crate::pass::pass;
-use dn_base::OutOfMemory;
 use dn_flat::flats::Flats;
 use dn_interval::{Seg, Span, TOP};
 use std::alloc::Global;
@@ -28,12 +28,11 @@ pub(crate) fn push_through(
     course: Course,
     stops: Vec<Seg>,
 ) -> Result<(), OutOfMemory>
-    requires { IsCourse (λ k. meaning (k.vtable, k.value)) course }
+    requires { IsCourse meaning course }
     ensures { OnOk result ((a : ℕ) (z : End) → a ≤ TOP → IsTrue (segs_give shown.new.items a z)
-        ↔ (IsTrue (segs_give shown.old.items a z)
-        ⊎ ((s : End) × IsTrue (segs_give stops.items a s) × ComesThrough course.entry.system.net.now
-        (course_records (λ k. meaning (k.vtable, k.value)) course.entry)
-        (name_of_end s) (name_of_end z)))) }
+        ↔ (IsTrue (segs_give shown.old.items a z) ⊎ ((s : End) ×
+        IsTrue (segs_give stops.items a s) × ComesThrough course.entry.system.on.net.now
+        (course_records meaning course.entry) (name_of_end s) (name_of_end z)))) }
 {
     if stops.is_empty() {
         return Ok(());
@@ -41,7 +40,7 @@ pub(crate) fn push_through(
     let mut level = stops;
     for _ in 0..UNITS {
         let segs = level.as_slice();
-        pass(alloc, shown, course, Part::Accepts, segs)?;
+        pass(alloc, shown, course, FlatPart::Accepts, segs)?;
         level = passed_stops(alloc, course, segs)?;
     }
     Ok(())
@@ -53,14 +52,13 @@ pub(crate) fn passed_stops(
     course: Course,
     segs: &[Seg],
 ) -> Result<Vec<Seg>, OutOfMemory>
-    requires { IsCourse (λ k. meaning (k.vtable, k.value)) course }
+    requires { IsCourse meaning course }
     ensures { IfOk result (λ stops. (a : ℕ) (z : End) → segs_give stops.items a z
-        ≡ segs_pass course.entry.system.net.now
-        (course_records (λ k. meaning (k.vtable, k.value)) course.entry)
+        ≡ segs_pass course.entry.system.on.net.now (course_records meaning course.entry)
         (part_gives Stops course.entry.system.flats.now) segs.now a z) }
 {
     let mut stops = Vec::new(alloc);
-    pass(alloc, &mut stops, course, Part::Stops, segs)?;
+    pass(alloc, &mut stops, course, FlatPart::Stops, segs)?;
     Ok(stops)
 }
 

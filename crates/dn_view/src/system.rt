@@ -1,13 +1,11 @@
 //! A net with what its nodes see, and the kinds of its units.
 
 use dn_flat::flats::Flats;
-use dn_kind::kinds::Kinds;
-use dn_net::net::Net;
+use dn_kind::kinded::KindedNet;
 
-/// A net, what its nodes see, and the kinds of its units.
+/// A net with the kinds of its units, and what its nodes see.
 #[derive(Clone, Copy)]
 pub struct System<'a> {
-    pub net: &'a Net,
+    pub on: KindedNet<'a>,
     pub flats: &'a Flats,
-    pub kinds: &'a Kinds,
 }

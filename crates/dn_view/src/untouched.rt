@@ -4,11 +4,11 @@ ghost use Rattle.std.specs.Prelude.{◌≡◌, ◌<◌, length, IsTrue};
 ghost use Rattle.dn_net.specs.Terms.{unit_at};
 ghost use Rattle.dn_kind.specs.Terms.{Held};
 ghost use Rattle.dn_view.specs.Terms.{IsExactAt, IsSystem, IsTrial, can_meet, has_hop, leads_to_units};
-ghost use Rattle.dn_view.specs.declared.part.Part.TheVariants.{Stops};
+ghost use Rattle.dn_view.specs.declared.part.FlatPart.TheVariants.{Stops};
 ghost use Rattle.std.specs.List.{list_any};
 
 use crate::exact::is_asked;
-use crate::part::Part;
+use crate::part::FlatPart;
 use crate::pass::{leads_on, unit_of};
 use crate::system::System;
 use crate::trial::Trial;
@@ -18,10 +18,10 @@ use dn_tables::placement::Placement;
 /// placement: then it shows nothing newly, whatever the tables hold. It takes no memory, and time of the
 /// units to which the node leads.
 pub(crate) fn is_untouched(trial: Trial, node: u16) -> bool
-    requires trial { IsTrial (λ k. meaning (k.vtable, k.value)) trial }
+    requires trial { IsTrial meaning trial }
     requires there { node < length trial.system.flats.now.nodes }
-    ensures { IsTrue result → (h : Held) → IsExactAt trial.entry.system.net.now h
-        trial.entry.request.now trial.entry.placement.now trial.entry.access node }
+    ensures { IsTrue result → (h : Held) → IsExactAt trial.entry.system.on.net.now
+        h trial.entry.request.now trial.entry.placement.now trial.entry.access node }
 {
     if is_asked(trial.request, node, trial.access) {
         return false;
@@ -32,8 +32,8 @@ pub(crate) fn is_untouched(trial: Trial, node: u16) -> bool
 
 /// Whether what stands in one of the nodes can come to a hop.
 fn some_meets(trial: Trial, nodes: &[u16]) -> bool
-    requires { IsTrial (λ k. meaning (k.vtable, k.value)) trial }
-    ensures { result ≡ list_any (can_meet trial.entry.system.net.now
+    requires { IsTrial meaning trial }
+    ensures { result ≡ list_any (can_meet trial.entry.system.on.net.now
         trial.entry.system.flats.now trial.entry.placement.now.hops) nodes.now }
 {
     for node in nodes {
@@ -46,9 +46,9 @@ fn some_meets(trial: Trial, nodes: &[u16]) -> bool
 
 /// Whether what stands in a node can come to a hop: to one in the node itself, or through it to others.
 fn can_meet(trial: Trial, node: u16) -> bool
-    requires { IsTrial (λ k. meaning (k.vtable, k.value)) trial }
-    ensures { result ≡ can_meet trial.entry.system.net.now trial.entry.system.flats.now
-        trial.entry.placement.now.hops node }
+    requires { IsTrial meaning trial }
+    ensures { result ≡ can_meet trial.entry.system.on.net.now
+        trial.entry.system.flats.now trial.entry.placement.now.hops node }
 {
     has_hop(trial.placement, node) || leads_to_units(trial.system, node)
 }
@@ -62,11 +62,12 @@ fn has_hop(placement: &Placement, node: u16) -> bool
 
 /// Whether the node is a unit with a port whose node leads to units.
 fn leads_to_units(system: System, node: u16) -> bool
-    requires { IsSystem (λ k. meaning (k.vtable, k.value)) system }
-    ensures { result ≡ leads_to_units system.entry.flats.now (unit_at system.entry.net.now node) }
+    requires { IsSystem meaning system }
+    ensures { result
+        ≡ leads_to_units system.entry.flats.now (unit_at system.entry.on.net.now node) }
 {
-    match unit_of(system.net, node) {
-        Some(unit) => leads_on(system.flats, unit, Part::Stops),
+    match unit_of(system.on.net, node) {
+        Some(unit) => leads_on(system.flats, unit, FlatPart::Stops),
         None => false,
     }
 }

@@ -1,18 +1,18 @@
 //! What an agent sees under tables.
 
-ghost use Rattle.std.specs.Prelude.{◌<◌, length, map, IfNone, IfOk, IfSome, IsTrue};
+ghost use Rattle.std.specs.Prelude.{◌<◌, length, IfNone, IfOk, IfSome, IsTrue};
 ghost use Rattle.dn_interval.specs.Terms.{ends_within};
 ghost use Rattle.dn_net.specs.Terms.{IsLegalNet};
-ghost use Rattle.dn_kind.specs.Terms.{Held, allowing};
+ghost use Rattle.dn_kind.specs.Terms.{Held, allowing, kinds_of};
 ghost use Rattle.dn_flat.specs.Terms.{IsFlat};
 ghost use Rattle.dn_tables.specs.Terms.{FitsNet, record_kept};
 ghost use Rattle.dn_view.specs.Terms.{AreViewed, IsSystem, ReachesUnit};
 
+use crate::OutOfMemory;
 use crate::course::Course;
 use crate::records::Records;
 use crate::shown::{node_stops, push_through};
 use crate::system::System;
-use dn_base::OutOfMemory;
 use dn_flat::flat::Flat;
 use dn_interval::Rows;
 use dn_kind::rights::Access;
@@ -47,15 +47,14 @@ pub fn view<'a>(
     node: u16,
     access: Access,
 ) -> Result<Rows, OutOfMemory>
-    requires system { IsSystem (λ k. meaning (k.vtable, k.value)) system }
-    requires fits { FitsNet system.net.now
-        (map (λ k. meaning (k.vtable, k.value)) system.kinds.now.list.items) tables.now }
-    requires there { node < length system.net.now }
-    ensures rows { IfOk result (λ rows. AreViewed system.entry.net.now (allowing access (record_kept
-        (map (λ k. meaning (k.vtable, k.value)) system.entry.kinds.now.list.items)
-        tables.now)) node rows) }
+    requires system { IsSystem meaning system }
+    requires fits { FitsNet system.on.net.now (kinds_of meaning system.on.kinds.now) tables.now }
+    requires there { node < length system.on.net.now }
+    ensures rows { IfOk result (λ rows. AreViewed system.entry.on.net.now (allowing access
+        (record_kept (kinds_of meaning system.entry.on.kinds.now) tables.now)) node rows) }
     // Each name of a row is in a node that is there.
-    ensures within { IfOk result (λ rows. IsTrue (ends_within (length system.entry.net.now) rows)) }
+    ensures within { IfOk result
+        (λ rows. IsTrue (ends_within (length system.entry.on.net.now) rows)) }
 {
     let mut shown = system.flats.accepted_segs(alloc, node)?;
     let stops = node_stops(alloc, system.flats, node)?;

@@ -13,7 +13,7 @@ use Rattle.dn_net.specs.Rules.{KeepsNodeRules}
 use Rattle.dn_net.proofs.Least.{within_to, within_from}
 use Rattle.dn_walk.specs.declared.way.Goal.TheVariants.{Anywhere, To}
 use Rattle.dn_walk.specs.Rows.{BareWalk, bare_walk}
-use Rattle.dn_walk.specs.Legs.{Leg, bare_leg, bare_legs}
+use Rattle.dn_walk.specs.Legs.{BareLeg, bare_leg, bare_legs}
 use Rattle.dn_walk.specs.Levels.{bare_meets, bare_onto, bare_extensions_by, bare_extensions, bare_still_walk, bare_still_walks, bare_level, bare_before, bare_walks}
 use Rattle.dn_walk.specs.Ways.{least_of, start_name, start_names, is_cyclic, bare_leads, level_leads, has_addr, meets_goal}
 use Rattle.dn_net.proofs.Cycles.{IsLed, HasName, comes_to_is_row, goes_on_is_row}
@@ -65,7 +65,7 @@ extensions_bare net w =
     ∙ ap (map (bare_onto (bare_walk w))) (met_bare w (legs_of (slice_get net w.to.node)))
     ∙ each_onto w (filter (meets w) (legs_of (slice_get net w.to.node)))
   where
-    told_on' : BareWalk → List Leg → List BareWalk
+    told_on' : BareWalk → List BareLeg → List BareWalk
     told_on' t ls = bare_extensions_by ls t
 
 flat_bare : (net : List NodeDecl) (ws : List Walk) → flat_map (bare_extensions (map bare_legs net)) (map bare_walk ws) ≡ map bare_walk (flat_map (extensions_of net) ws)

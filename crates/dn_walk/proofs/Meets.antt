@@ -4,12 +4,16 @@ use Rattle.std.proofs.lemmas.Bool.{ltb-false, leb-false, cases_lt}
 use Rattle.std.specs.List.{filter}
 use Rattle.std.specs.List.Sorted.{IsPartitionPoint}
 use Rattle.dn_base.proofs.Orders.{not_lt-le, lt-not_le}
-use Rattle.dn_net.specs.Walks.{greater_of, lesser_of}
+use Rattle.dn_net.specs.Walks.{greater_of, lesser_of, last_of_run}
 use Rattle.dn_interval.specs.declared.row.Seg.{Seg}
-use Rattle.dn_walk.specs.Legs.{Leg, leg_view}
+use Rattle.dn_walk.specs.Legs.{BareLeg, leg_view}
 use Rattle.dn_walk.specs.Rows.{BareWalk}
-use Rattle.dn_walk.specs.Levels.{bare_last_out, bare_meets}
+use Rattle.dn_walk.specs.Levels.{bare_meets, told_run}
 use Rattle.dn_walk.proofs.Picks.{between_is}
+
+-- the last address at which it comes out
+abbrev pub bare_last_out : BareWalk → ℕ
+bare_last_out t = last_of_run (told_run t)
 
 abbrev pub Ends : ℕ → List Seg → ℕ → Type 0
 Ends base legs i = IsPartitionPoint (λ s. ltb s.span.hi base ≡ true) (λ s. ltb s.span.hi base ≡ false) legs i
@@ -41,7 +45,7 @@ met_is t legs i j w v e b =
       over = λ k d l m. b.1 k d l m;
     }
 
-pub meets_parts : (t : BareWalk) (l : Leg) → IsTrue (bare_meets t l) → (t.base ≤ l.hi) × (l.lo ≤ bare_last_out t)
+pub meets_parts : (t : BareWalk) (l : BareLeg) → IsTrue (bare_meets t l) → (t.base ≤ l.hi) × (l.lo ≤ bare_last_out t)
 meets_parts t l h = by (nat_le t.base l.hi) (nat_le l.lo (bare_last_out t)) refl refl h
   where
     by : (a b : Bool) → nat_le t.base l.hi ≡ a → nat_le l.lo (bare_last_out t) ≡ b → IsTrue (a && b) → (t.base ≤ l.hi) × (l.lo ≤ bare_last_out t)

@@ -13,11 +13,11 @@ use Rattle.dn_net.specs.Rules.{KeepsNodeRules}
 use Rattle.dn_net.specs.Units.{has_plain_shape, has_plain_units}
 use Rattle.dn_net.specs.UnitRules.{unit_leads, unit_part_leads, unit_numbers, next_units, IsShallow, LeadsTo}
 use Rattle.dn_net.specs.Walks.{Walk, moved_name, live_walks}
-use Rattle.dn_net.proofs.Arrivals.{Arrives, arrival, departure, first_inside}
+use Rattle.dn_walk.proofs.Arrivals.{Arrives, arrival, departure, first_inside}
 use Rattle.dn_net.proofs.Least.{within_from, within_to}
 use Rattle.dn_net.proofs.Stops.{unit_stop}
 use Rattle.dn_net.proofs.Plain.{plain_at}
-use Rattle.dn_net.proofs.UnitRows.{leads_sound, leads_found, unit_of_number, unit_there}
+use Rattle.dn_walk.proofs.UnitRows.{leads_sound, leads_found, unit_of_number, unit_there}
 use Rattle.dn_net.proofs.Steps.{ports_at}
 use Rattle.dn_walk.specs.Rows.{BareWalk, bare_walk}
 use Rattle.dn_walk.specs.Units.{row_leads, AreLows, leads_by_lows, leads_by_rows, next_units_by, next_by_rows}

@@ -24,16 +24,20 @@ use Rattle.dn_net.proofs.Kept.{kept_at}
 use Rattle.dn_net.proofs.Latest.{place_blocks}
 use Rattle.dn_net.proofs.Legs.{leads_of_leg, leads_in_range, leads_within}
 use Rattle.dn_net.proofs.Members.{some_same}
-use Rattle.dn_net.proofs.Order.{legs_rise}
-use Rattle.dn_net.proofs.Pairs.{pairs_map, pairs_more, pairs_rise}
+use Rattle.dn_walk.proofs.Order.{legs_rise}
+use Rattle.dn_walk.proofs.Pairs.{pairs_map, pairs_more, pairs_rise}
 use Rattle.dn_net.proofs.Places.{length-map}
 use Rattle.dn_net.proofs.Steps.{node_at}
 use Rattle.dn_net.proofs.Stretch.{moved_same}
 use Rattle.dn_interval.specs.declared.span.Span.{Span}
 use Rattle.dn_interval.specs.Spans.{has, AreMaximal}
-use Rattle.dn_walk.specs.Legs.{Leg, bare_leg, bare_legs, dest_leg, bare_entry_legs, gap_leg, bare_gap_legs, leg_before, legs_by, gaps_by, span_view, IsLegOf, AreLegs}
+use Rattle.dn_walk.specs.Legs.{BareLeg, bare_leg, bare_legs, dest_leg, bare_entry_legs, gap_leg, bare_gap_legs, leg_before, gaps_by, span_view, IsLegOf, AreLegs}
 use Rattle.dn_walk.proofs.Holes.{spans_are_left}
 use Rattle.dn_walk.proofs.Sorting.{map_in_order}
+
+-- the legs of a node of these parts, made without choices
+abbrev pub legs_by : List Block → List Entry → Option ℕ → List BareLeg
+legs_by accepts entries over = in_order leg_before (bare_entry_legs entries ++ bare_gap_legs over (gaps_by accepts entries))
 
 bare_dests : (i j : ℕ) (b : Block) (ds : List Dest) → map bare_leg (dest_legs i j b ds) ≡ map (dest_leg b) ds
 bare_dests i j b [] = refl
@@ -57,17 +61,17 @@ legs_are n =
     ∙ ap (in_order leg_before) (map-append bare_leg (entry_legs 0 n.entries) (gap_legs n.over (gaps n)) ∙ ap (λ l. l ++ map bare_leg (gap_legs n.over (gaps n))) (bare_entries 0 n.entries) ∙ ap (λ l. bare_entry_legs n.entries ++ l) (bare_gaps n.over (gaps n)))
 
 -- the legs of one node more
-pub legs_at : (net : List NodeDecl) (i : ℕ) (ls : List Leg) → i < length net → option_map bare_legs (slice_get net i) ≡ Some ls → map bare_legs (take (i + 1) net) ≡ map bare_legs (take i net) ++ ls ∷ []
+pub legs_at : (net : List NodeDecl) (i : ℕ) (ls : List BareLeg) → i < length net → option_map bare_legs (slice_get net i) ≡ Some ls → map bare_legs (take (i + 1) net) ≡ map bare_legs (take i net) ++ ls ∷ []
 legs_at net i ls l e =
     let n = item_there net i l in
-    let s : ◌≡◌ {A = Option (List Leg)} (Some (bare_legs n.0)) (Some ls) = ap (option_map bare_legs) (sym n.1) ∙ e in
+    let s : ◌≡◌ {A = Option (List BareLeg)} (Some (bare_legs n.0)) (Some ls) = ap (option_map bare_legs) (sym n.1) ∙ e in
     let t : bare_legs n.0 ≡ ls = some_same (bare_legs n.0) ls s in
     ap (map bare_legs) (take_more net i n.0 l ∙ ap (λ x. take i net ++ x ∷ []) (get_or_from_slice_get net i n.0 n.0 n.1))
     ∙ map-append bare_legs (take i net) (n.0 ∷ [])
     ∙ ap (λ x. map bare_legs (take i net) ++ x ∷ []) t
 
 -- the legs of a node, from those of its entries and of its gaps in order
-pub legs_of_parts : (n : NodeDecl) (entries : List Entry) (made gaps : List Leg) → n.entries ≡ entries → bare_gap_legs n.over (gaps_by n.accepts n.entries) ≡ gaps → made ≡ in_order leg_before (bare_entry_legs entries ++ gaps) → bare_legs n ≡ made
+pub legs_of_parts : (n : NodeDecl) (entries : List Entry) (made gaps : List BareLeg) → n.entries ≡ entries → bare_gap_legs n.over (gaps_by n.accepts n.entries) ≡ gaps → made ≡ in_order leg_before (bare_entry_legs entries ++ gaps) → bare_legs n ≡ made
 legs_of_parts n entries made gaps e g m = legs_are n ∙ (λ i. in_order leg_before (bare_entry_legs (e i) ++ g i)) ∙ sym m
 
 -- the blocks and the entries of a node that keeps the rules
@@ -80,8 +84,8 @@ legs_of_node net rules i n at =
     let apart = node_apart net rules.each i n at in
     let rise = legs_rise n apart in
     record {
-      firsts = pairs_rise (λ (l : Leg). l.lo) (bare_legs n) (pairs_map (λ (l m : Leg). l.lo ≤ m.lo) bare_leg (legs n) (pairs_more (λ (l m : NetLeg). (l.block.lo ≤ m.block.lo) × (l.block.hi ≤ m.block.hi)) (λ (l m : NetLeg). l.block.lo ≤ m.block.lo) (legs n) (λ l m a b r. r.0) rise));
-      lasts = pairs_rise (λ (l : Leg). l.hi) (bare_legs n) (pairs_map (λ (l m : Leg). l.hi ≤ m.hi) bare_leg (legs n) (pairs_more (λ (l m : NetLeg). (l.block.lo ≤ m.block.lo) × (l.block.hi ≤ m.block.hi)) (λ (l m : NetLeg). l.block.hi ≤ m.block.hi) (legs n) (λ l m a b r. r.1) rise));
+      firsts = pairs_rise (λ (l : BareLeg). l.lo) (bare_legs n) (pairs_map (λ (l m : BareLeg). l.lo ≤ m.lo) bare_leg (legs n) (pairs_more (λ (l m : NetLeg). (l.block.lo ≤ m.block.lo) × (l.block.hi ≤ m.block.hi)) (λ (l m : NetLeg). l.block.lo ≤ m.block.lo) (legs n) (λ l m a b r. r.0) rise));
+      lasts = pairs_rise (λ (l : BareLeg). l.hi) (bare_legs n) (pairs_map (λ (l m : BareLeg). l.hi ≤ m.hi) bare_leg (legs n) (pairs_more (λ (l m : NetLeg). (l.block.lo ≤ m.block.lo) × (l.block.hi ≤ m.block.hi)) (λ (l m : NetLeg). l.block.hi ≤ m.block.hi) (legs n) (λ l m a b r. r.1) rise));
       each = λ k d l. member_is (get_or (bare_legs n) k d) (member_get_or (bare_legs n) k d l);
     }
   where
@@ -92,7 +96,7 @@ legs_of_node net rules i n at =
         let w = leads_within (length net) (Some n) (λ k e. node_at (refers_within (length net)) net i rules.closed k (at ∙ e)) l.choice l.block l.to f in
         record { order = r.0; low = r.1; node = w; reach = r.2 }
 
-    member_is : (l : Leg) → Member l (bare_legs n) → IsLegOf (length net) l
+    member_is : (l : BareLeg) → Member l (bare_legs n) → IsLegOf (length net) l
     member_is l m = let r = map_member bare_leg (legs n) l m in subst (λ k. IsLegOf (length net) k) r.2 (one r.0 r.1)
 
 pub all_legs : (net : List NodeDecl) → KeepsNodeRules net → All (AreLegs (length net)) (map bare_legs net)
@@ -105,7 +109,7 @@ all_legs net rules = λ k d l.
     map_length [] = refl
     map_length (n ∷ ns) = ap suc (map_length ns)
 
-    at : (k : ℕ) (d : List Leg) → k < length net → (u : Option NodeDecl) → slice_get net k ≡ u → AreLegs (length net) (get_or (map bare_legs net) k d)
+    at : (k : ℕ) (d : List BareLeg) → k < length net → (u : Option NodeDecl) → slice_get net k ≡ u → AreLegs (length net) (get_or (map bare_legs net) k d)
     at k d l None u = absurd (there net k l u)
       where
         there : (ns : List NodeDecl) (k : ℕ) → k < length ns → slice_get ns k ≡ None → ⊥
@@ -117,7 +121,7 @@ all_legs net rules = λ k d l.
         let g : get_or net k n ≡ n = cc in
         subst (λ x. AreLegs (length net) x) (sym (get_or-map bare_legs net k n d l ∙ ap bare_legs g)) (legs_of_node net rules k n u)
 
-pub all_legs_of : (net : List NodeDecl) → KeepsNodeRules net → (xs : List (List Leg)) → xs ≡ map bare_legs net → All (AreLegs (length xs)) xs
+pub all_legs_of : (net : List NodeDecl) → KeepsNodeRules net → (xs : List (List BareLeg)) → xs ≡ map bare_legs net → All (AreLegs (length xs)) xs
 all_legs_of net rules xs e = subst (λ x. All (AreLegs (length x)) x) (sym e) (subst (λ n. All (AreLegs n) (map bare_legs net)) (sym (length-map bare_legs net)) (all_legs net rules))
 
 blocks_in_range : (entries : List Entry) (accepts : List Block) → IsTrue (list_all entry_in_range entries) → IsTrue (list_all block_in_range accepts) → IsTrue (list_all block_in_range (map (λ e. e.block) entries ++ accepts))

@@ -18,10 +18,10 @@ use Rattle.dn_net.specs.Firsts.{or_else}
 use Rattle.dn_net.specs.Units.{has_plain_units}
 use Rattle.dn_net.specs.UnitRules.{IsShallow, unit_leads, unit_rows_from, unit_slots, slots_product, slots_limit, first_row, large_row, unit_rows, unit_numbers, next_units, first_chain}
 use Rattle.dn_net.proofs.Plain.{plain_at}
-use Rattle.dn_net.proofs.Arrivals.{nodes_there}
+use Rattle.dn_walk.proofs.Arrivals.{nodes_there}
 use Rattle.dn_base.proofs.Members.{map_member, member_map, member_get_or}
 use Rattle.dn_net.proofs.Members.{member_filter}
-use Rattle.dn_net.proofs.UnitRows.{rows-zero, rows-suc, first_chain_is, unit_of_number, unit_there}
+use Rattle.dn_walk.proofs.UnitRows.{rows-zero, rows-suc, first_chain_is, unit_of_number, unit_there}
 use Rattle.dn_walk.specs.declared.walks.WalkRow.{WalkRow}
 use Rattle.dn_walk.specs.Rows.{BareWalk, bare_walk, row_view}
 use Rattle.dn_walk.specs.Units.{first_over, chain_by, leads_by_rows, next_units_by, next_by_rows}

@@ -13,22 +13,22 @@ use Rattle.dn_net.specs.Names.{name_lt, name_eq}
 use Rattle.dn_net.specs.Rules.{KeepsNodeRules}
 use Rattle.dn_net.specs.UnitRules.{Fork as NetFork, least_fork, IsShallow, IsFork, IsLeastFork}
 use Rattle.dn_net.specs.Walks.{Walk, moved_name, live_walks}
-use Rattle.dn_net.proofs.Arrivals.{Arrives, arrival, departure, first_inside, as_many}
+use Rattle.dn_walk.proofs.Arrivals.{Arrives, arrival, departure, first_inside, as_many}
 use Rattle.dn_net.proofs.Firsts.{NoLater}
-use Rattle.dn_net.proofs.Forks.{fork_is_least}
+use Rattle.dn_walk.proofs.Forks.{fork_is_least}
 use Rattle.dn_net.proofs.Least.{within_from, within_to}
 use Rattle.dn_net.proofs.Resolution.{name_same, same_name}
 use Rattle.dn_net.proofs.Stops.{stop_unit, unit_stop, stop_still}
 use Rattle.dn_net.proofs.Ascending.{lower_is, transitive, not_itself}
 use Rattle.dn_net.proofs.Ways.{either_way}
-use Rattle.dn_walk.specs.declared.fork.Fork.{Fork}
+use Rattle.dn_walk.specs.declared.fork.FoundFork.{FoundFork}
 use Rattle.dn_walk.specs.declared.walks.WalkRow.{WalkRow}
 use Rattle.dn_walk.specs.Rows.{BareWalk, bare_walk, row_view}
 use Rattle.dn_walk.specs.Ways.{start_name}
 use Rattle.dn_walk.specs.Units.{shows_fork, fork_shown, fork_before, lesser_fork, with_shown, NoLaterFork, IsLeastForkOf, IsLeastShown}
 
 -- THE ORDER OF FORKS
-before_is : (f g : Fork) → fork_before f g ≡ true → NoLaterFork f g
+before_is : (f g : FoundFork) → fork_before f g ≡ true → NoLaterFork f g
 before_is f g h = elim (or_cases (name_lt f.name g.name) (name_eq f.name g.name && nat_lt f.unit g.unit) h) [
   | inl e ↦ inl e
   | inr e ↦ (
@@ -37,7 +37,7 @@ before_is f g h = elim (or_cases (name_lt f.name g.name) (name_eq f.name g.name 
       inr (name_same f.name g.name b.0, omega arith))
 ]
 
-not_before : (f g : Fork) → fork_before f g ≡ false → NoLaterFork g f
+not_before : (f g : FoundFork) → fork_before f g ≡ false → NoLaterFork g f
 not_before f g h = by (either_way f.name g.name)
   where
     b : (name_lt f.name g.name ≡ false) × ((name_eq f.name g.name && nat_lt f.unit g.unit) ≡ false)
@@ -51,13 +51,13 @@ not_before f g h = by (either_way f.name g.name)
       | inr n ↦ inr (e, ltb-false f.unit g.unit n)
     ]
 
-no_later_fork : (f g h : Fork) → NoLaterFork f g → NoLaterFork g h → NoLaterFork f h
+no_later_fork : (f g h : FoundFork) → NoLaterFork f g → NoLaterFork g h → NoLaterFork f h
 no_later_fork f g h (inl p) (inl q) = inl (transitive f.name g.name h.name p q)
 no_later_fork f g h (inl p) (inr e) = inl (subst (λ w. IsTrue (name_lt f.name w)) e.0 p)
 no_later_fork f g h (inr e) (inl q) = inl (subst (λ w. IsTrue (name_lt w h.name)) (sym e.0) q)
 no_later_fork f g h (inr e) (inr k) = let p = e.1 in let q = k.1 in inr (e.0 ∙ k.0, omega arith)
 
-one_fork : (f g : Fork) → NoLaterFork f g → NoLaterFork g f → (f.name ≡ g.name) × (f.unit ≡ g.unit)
+one_fork : (f g : FoundFork) → NoLaterFork f g → NoLaterFork g f → (f.name ≡ g.name) × (f.unit ≡ g.unit)
 one_fork f g (inl p) (inl q) = absurd (not_itself f.name f.name refl (transitive f.name g.name f.name p q))
 one_fork f g (inl p) (inr e) = absurd (not_itself f.name g.name (sym e.0) p)
 one_fork f g (inr e) (inl q) = absurd (not_itself g.name f.name (sym e.0) q)
@@ -65,10 +65,10 @@ one_fork f g (inr e) (inr k) = let p = e.1 in let q = k.1 in (e.0, omega arith)
 
 -- ROW BY ROW
 -- the least fork of rows and of one row more
-pub shown_more : (net : List NodeDecl) (rows : List BareWalk) (o : Option Fork) (t : BareWalk) → IsLeastShown net rows o → IsLeastShown net (rows ++ t ∷ []) (with_shown net o t)
+pub shown_more : (net : List NodeDecl) (rows : List BareWalk) (o : Option FoundFork) (t : BareWalk) → IsLeastShown net rows o → IsLeastShown net (rows ++ t ∷ []) (with_shown net o t)
 shown_more net rows o t = by (shows_fork net t) refl o
   where
-    older : (f : Fork) → IsLeastForkOf net rows f → ((shows_fork net t ≡ true) → NoLaterFork f (fork_shown t)) → IsLeastForkOf net (rows ++ t ∷ []) f
+    older : (f : FoundFork) → IsLeastForkOf net rows f → ((shows_fork net t ≡ true) → NoLaterFork f (fork_shown t)) → IsLeastForkOf net (rows ++ t ∷ []) f
     older f h k = record {
       shown = (h.shown.0, member_left rows (t ∷ []) h.shown.0 h.shown.1, h.shown.2, h.shown.3);
       least = λ u m s. elim (member_cases rows (t ∷ []) u m) [
@@ -88,11 +88,11 @@ shown_more net rows o t = by (shows_fork net t) refl o
       ];
     }
 
-    lesser : (f : Fork) → shows_fork net t ≡ true → IsLeastForkOf net rows f → (b : Bool) → fork_before (fork_shown t) f ≡ b → IsLeastForkOf net (rows ++ t ∷ []) (if b then fork_shown t else f)
+    lesser : (f : FoundFork) → shows_fork net t ≡ true → IsLeastForkOf net rows f → (b : Bool) → fork_before (fork_shown t) f ≡ b → IsLeastForkOf net (rows ++ t ∷ []) (if b then fork_shown t else f)
     lesser f e h true before = newer e (λ u m s. no_later_fork (fork_shown t) f (fork_shown u) (before_is (fork_shown t) f before) (h.least u m s))
     lesser f e h false before = older f h (λ s. not_before (fork_shown t) f before)
 
-    by : (b : Bool) → shows_fork net t ≡ b → (o : Option Fork) → IsLeastShown net rows o → IsLeastShown net (rows ++ t ∷ []) (if b then lesser_fork o (fork_shown t) else o)
+    by : (b : Bool) → shows_fork net t ≡ b → (o : Option FoundFork) → IsLeastShown net rows o → IsLeastShown net (rows ++ t ∷ []) (if b then lesser_fork o (fork_shown t) else o)
     by true e None h = newer e (λ u m s. let g : true ≡ false = sym s ∙ h u m in cc)
     by true e (Some f) h = lesser f e h (fork_before (fork_shown t) f) refl
     by false e None h = λ u m. elim (member_cases rows (t ∷ []) u m) [
@@ -104,7 +104,7 @@ shown_more net rows o t = by (shows_fork net t) refl o
 
 -- OF A NET
 -- a fork as the definitions of the net have it
-abbrev pub fork_view : Fork → NetFork
+abbrev pub fork_view : FoundFork → NetFork
 fork_view f = record { name = f.name; unit = f.unit }
 
 module _ (net : List NodeDecl) (checked : KeepsNodeRules net) (shallow : IsShallow net) (formed : IsTrue (list_all is_formed net)) where
@@ -170,10 +170,10 @@ module _ (net : List NodeDecl) (checked : KeepsNodeRules net) (shallow : IsShall
   no_lower x y n a (inl l) = elim (lower_is x y l) [ inl k ↦ absurd (omega arith) | inr k ↦ (let m = k.1 in absurd (omega arith)) ]
 
   -- the least fork that the live walks show is the one that is carried
-  pub shown_is_least : (rows : List BareWalk) → rows ≡ map bare_walk (live_walks net step_limit) → (o : Option Fork) → IsLeastShown net rows o → least_fork net ≡ option_map fork_view o
+  pub shown_is_least : (rows : List BareWalk) → rows ≡ map bare_walk (live_walks net step_limit) → (o : Option FoundFork) → IsLeastShown net rows o → least_fork net ≡ option_map fork_view o
   shown_is_least rows e o h = by o (subst (λ l. IsLeastShown net l o) e h) (least_fork net) refl
     where
-      by : (o : Option Fork) → IsLeastShown net (map bare_walk (live_walks net step_limit)) o → (p : Option NetFork) → least_fork net ≡ p → p ≡ option_map fork_view o
+      by : (o : Option FoundFork) → IsLeastShown net (map bare_walk (live_walks net step_limit)) o → (p : Option NetFork) → least_fork net ≡ p → p ≡ option_map fork_view o
       by None h None g = refl
       by None h (Some f) g =
           let l : IsLeastFork net f.name f.unit = (fork_is_least net checked shallow).0 f g in
@@ -185,15 +185,15 @@ module _ (net : List NodeDecl) (checked : KeepsNodeRules net) (shallow : IsShall
           absurd ((fork_is_least net checked shallow).1 g (start_name h.shown.0) h.shown.0.end k)
       by (Some f) h (Some g) at =
           let l : IsLeastFork net g.name g.unit = (fork_is_least net checked shallow).0 g at in
-          let there : IsFork net f.name f.unit = subst (λ (k : Fork). IsFork net k.name k.unit) h.shown.3 (row_fork h.shown.0 h.shown.1 h.shown.2) in
-          let one : Fork = record { name = g.name; unit = g.unit } in
+          let there : IsFork net f.name f.unit = subst (λ (k : FoundFork). IsFork net k.name k.unit) h.shown.3 (row_fork h.shown.0 h.shown.1 h.shown.2) in
+          let one : FoundFork = record { name = g.name; unit = g.unit } in
           let below : NoLaterFork one f = l.least f.name f.unit there in
           let r = fork_row g l.fork in
           let t : BareWalk = r.0 in
           let q : IsTrue (name_lt g.name (start_name t)) ⊎ ((g.name ≡ start_name t) × (g.unit ≤ t.end)) = l.least (start_name t) t.end (row_fork t r.1.row r.1.shows) in
           let first : g.name ≡ start_name t = no_lower g.name (start_name t) r.1.node r.1.addr (weaker g.name (start_name t) (g.unit ≤ t.end) q) in
           let above : NoLaterFork f (fork_shown t) = h.least t r.1.row r.1.shows in
-          let over : NoLaterFork f one = subst (λ (k : Fork). NoLaterFork f k) (λ i. record { name = sym first i; unit = r.1.unit i }) above in
+          let over : NoLaterFork f one = subst (λ (k : FoundFork). NoLaterFork f k) (λ i. record { name = sym first i; unit = r.1.unit i }) above in
           let same = one_fork one f below over in
           λ i. Some (record { name = same.0 i; unit = same.1 i })
         where
@@ -202,7 +202,7 @@ module _ (net : List NodeDecl) (checked : KeepsNodeRules net) (shallow : IsShall
           weaker x y P (inr e) = inr e.0
 
 -- the least fork of the rows up to a place and of the row there
-pub shown_at : (net : List NodeDecl) (rows : List WalkRow) (i : ℕ) (r : WalkRow) (o p : Option Fork) → i < length rows → r ≡ get_or rows i r → p ≡ with_shown net o (row_view r) → IsLeastShown net (map row_view (take i rows)) o → IsLeastShown net (map row_view (take (i + 1) rows)) p
+pub shown_at : (net : List NodeDecl) (rows : List WalkRow) (i : ℕ) (r : WalkRow) (o p : Option FoundFork) → i < length rows → r ≡ get_or rows i r → p ≡ with_shown net o (row_view r) → IsLeastShown net (map row_view (take i rows)) o → IsLeastShown net (map row_view (take (i + 1) rows)) p
 shown_at net rows i r o p l at e h =
     let more : map row_view (take (i + 1) rows) ≡ map row_view (take i rows) ++ row_view r ∷ [] =
     ap (map row_view) (take_more rows i r l ∙ ap (λ x. take i rows ++ x ∷ []) (sym at)) ∙ map-last row_view (take i rows) r in

@@ -6,7 +6,7 @@ use Rattle.std.specs.List.Sorted.{IsSortedBy, IsStableBy, ties}
 use Rattle.dn_base.proofs.Lists.{Each, each_implied}
 use Rattle.dn_net.specs.Chain.{Member}
 use Rattle.dn_net.specs.Walks.{put_in, in_order}
-use Rattle.dn_net.proofs.Pairs.{Pairwise}
+use Rattle.dn_walk.proofs.Pairs.{Pairwise}
 
 -- no item comes before one that stands in front of it
 abbrev pub Rises : {X : Type 0} → (X → X → Bool) → List X → Type 0

@@ -12,19 +12,19 @@ use Rattle.dn_net.specs.Names.{sorted_names}
 use Rattle.dn_net.specs.Walks.{in_order, level, live_walks, starts_before}
 use Rattle.dn_net.specs.WalkRules.{is_wide, has_loop, is_deep, walk_limit, endless_fault, counted_length, cycle_or_path, shortest_cycle, shortest_within, has_cycle, or_else, first_of, names_behind, way_by, comes_to, goes_on, cycle_from, cycle_names, path_from, path_names}
 use Rattle.dn_net.specs.Rules.{KeepsNodeRules}
-use Rattle.dn_net.proofs.Endless.{endless_fault_is}
+use Rattle.dn_walk.proofs.Endless.{endless_fault_is}
 use Rattle.dn_net.proofs.Places.{length-map}
 use Rattle.dn_walk.specs.declared.walks.WalkRow.{WalkRow}
 use Rattle.dn_walk.specs.declared.way.Goal.TheVariants.{Anywhere, To}
 use Rattle.dn_walk.specs.Rows.{BareWalk, bare_walk, row_view}
-use Rattle.dn_walk.specs.Legs.{Leg, bare_legs}
+use Rattle.dn_walk.specs.Legs.{BareLeg, bare_legs}
 use Rattle.dn_walk.specs.Levels.{bare_extensions, bare_level, bare_walks, bare_levels, bare_before}
 use Rattle.dn_walk.specs.Ways.{least_of, start_names, start_name, level_leads, walk_levels_lead, shown_cycle, shown_path}
 use Rattle.dn_walk.proofs.Bridge.{walks_bare, least_back, least_onward, leads_to_name, leads_anywhere}
 use Rattle.dn_walk.proofs.Keys.{before_weak}
 use Rattle.dn_walk.proofs.Least.{none_least}
 use Rattle.dn_walk.proofs.Onward.{step_in_range}
-use Rattle.dn_net.proofs.Pairs.{pairs_more, pairs_rise}
+use Rattle.dn_walk.proofs.Pairs.{pairs_more, pairs_rise}
 use Rattle.dn_net.proofs.Firsts.{shortest_is}
 use Rattle.dn_walk.proofs.Sorting.{in_order_pairs}
 use Rattle.dn_walk.proofs.BareWalks.{rise_back, level-suc, walks-suc, levels-suc, length_levels}
@@ -136,7 +136,7 @@ get_seam [] y j d e = ap (λ i. get_or (y ∷ []) i d) e
 get_seam (x ∷ xs) y zero d e = absurd (omega arith)
 get_seam (x ∷ xs) y (suc j) d e = get_seam xs y j d (omega arith)
 
-pub level_among : (legs : List (List Leg)) (n j : ℕ) (d : List BareWalk) → j < n → get_or (bare_levels legs n) j d ≡ in_order bare_before (bare_level legs j)
+pub level_among : (legs : List (List BareLeg)) (n j : ℕ) (d : List BareWalk) → j < n → get_or (bare_levels legs n) j d ≡ in_order bare_before (bare_level legs j)
 level_among legs zero j d l = absurd (omega arith)
 level_among legs (suc n) j d l = ap (λ x. get_or x j d) (levels-suc legs n) ∙ by (last j n l) (level_among legs n j d)
   where
@@ -217,7 +217,7 @@ deep_is net checked c names s a m told = by (least_of (start_names false (bare_l
         ∙ ap (option_map is_deep) (sym (path_names_are net checked c x e) ∙ told)
 
 -- levels behind an empty one are empty
-pub empty_on : (legs : List (List Leg)) (m n : ℕ) → bare_level legs m ≡ [] → m ≤ n → bare_level legs n ≡ []
+pub empty_on : (legs : List (List BareLeg)) (m n : ℕ) → bare_level legs m ≡ [] → m ≤ n → bare_level legs n ≡ []
 empty_on legs m zero e l = let s : 0 ≡ m = omega arith in ap (bare_level legs) s ∙ e
 empty_on legs m (suc n) e l = by (last m n l) (empty_on legs m n e)
   where
@@ -228,14 +228,14 @@ empty_on legs m (suc n) e l = by (last m n l) (empty_on legs m n e)
     by (inl s) ih = ap (bare_level legs) (sym s) ∙ e
     by (inr k) ih = level-suc legs n ∙ ap (flat_map (bare_extensions legs)) (ih k)
 
-nothing_more : (legs : List (List Leg)) (k : ℕ) → bare_level legs (suc k) ≡ [] → bare_walks legs (suc k) ≡ bare_walks legs k
+nothing_more : (legs : List (List BareLeg)) (k : ℕ) → bare_level legs (suc k) ≡ [] → bare_walks legs (suc k) ≡ bare_walks legs k
 nothing_more legs k e = walks-suc legs k ∙ ap (λ l. bare_walks legs k ++ in_order bare_before l) e ∙ none (bare_walks legs k)
   where
     none : (xs : List BareWalk) → xs ++ [] ≡ xs
     none [] = refl
     none (x ∷ xs) = ap (λ l. x ∷ l) (none xs)
 
-walks_on : (legs : List (List Leg)) (m n : ℕ) → bare_level legs (suc m) ≡ [] → m ≤ n → bare_walks legs n ≡ bare_walks legs m
+walks_on : (legs : List (List BareLeg)) (m n : ℕ) → bare_level legs (suc m) ≡ [] → m ≤ n → bare_walks legs n ≡ bare_walks legs m
 walks_on legs m zero e l = let s : 0 ≡ m = omega arith in ap (bare_walks legs) s
 walks_on legs m (suc n) e l = by (last m n l) (walks_on legs m n e)
   where
@@ -262,7 +262,7 @@ pub record Legal (net : List NodeDecl) (k : ℕ) : Type 0 where
 pub legal_is : (net : List NodeDecl) → KeepsNodeRules net → (k c : ℕ) → c ≡ suc k → Acyclic net k → k ≤ 64 → length (bare_walks (map bare_legs net) c) ≤ walk_limit → least_of (start_names false (bare_level (map bare_legs net) c)) ≡ None → Legal net k
 legal_is net checked k c s a l m e = record { none = none; rows = rows }
   where
-    legs : List (List Leg)
+    legs : List (List BareLeg)
     legs = map bare_legs net
 
     empty : bare_level legs (suc k) ≡ []
@@ -300,7 +300,7 @@ starts_rise rows = pairs_rise (λ (t : BareWalk). t.start) (in_order bare_before
     no_less t u (inr l) h = l
     no_less t u (inl l) h = let e : true ≡ false = sym (ap (λ b. b || ((u.start == t.start) && (nat_lt u.lo t.lo || ((u.lo == t.lo) && nat_lt u.hi t.hi)))) (lt-ltb u.start t.start l)) ∙ h in cc
 
-pub sorted_by_start : (legs : List (List Leg)) (n : ℕ) (sorted : List (List WalkRow)) → n ≡ length sorted → map (map row_view) sorted ≡ bare_levels legs n → All (λ level. IsNonDecreasingBy (λ (r : WalkRow). r.start) level) sorted
+pub sorted_by_start : (legs : List (List BareLeg)) (n : ℕ) (sorted : List (List WalkRow)) → n ≡ length sorted → map (map row_view) sorted ≡ bare_levels legs n → All (λ level. IsNonDecreasingBy (λ (r : WalkRow). r.start) level) sorted
 sorted_by_start legs n sorted s e k d l =
     let a : map row_view (get_or sorted k d) ≡ in_order bare_before (bare_level legs k) = sym (get_or-map (map row_view) sorted k d [] l) ∙ ap (λ x. get_or x k []) e ∙ level_among legs n k [] (omega arith) in
     rise_back row_view (λ (t : BareWalk). t.start) (get_or sorted k d) (subst (IsNonDecreasingBy (λ (t : BareWalk). t.start)) (sym a) (starts_rise (bare_level legs k)))

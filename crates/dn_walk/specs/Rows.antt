@@ -7,7 +7,7 @@ use Rattle.dn_net.specs.Decode.{step_limit, is_accepted}
 use Rattle.dn_net.specs.Legal.{IsLegalNet}
 use Rattle.dn_net.specs.Walks.{Walk, live_walks}
 use Rattle.dn_net.specs.WalkRules.{Broken, is_wide, has_loop, is_deep, has_fork, has_chain}
-use Rattle.dn_walk.specs.Legs.{Leg, bare_legs}
+use Rattle.dn_walk.specs.Legs.{BareLeg, bare_legs}
 use Rattle.dn_walk.specs.declared.walks.WalkRow.{WalkRow}
 use Rattle.dn_walk.specs.declared.fault.WalkFault.{WalkFault}
 use Rattle.dn_walk.specs.declared.fault.WalkFault.TheVariants.{Wide, Loop, Deep, Fork, Chain, OutOfMemory}
@@ -33,7 +33,7 @@ bare_walk w = record { start = w.start; lo = w.span.lo; hi = w.span.hi; end = w.
 pub record Table : Type 0 where
   pub rows : List WalkRow
   pub accepted : List (List Span)
-  pub legs : List (List Leg)
+  pub legs : List (List BareLeg)
 
 -- each set has what its node accepts
 pub record AreAccepted (net : List NodeDecl) (sets : List (List Span)) : Type 0 where

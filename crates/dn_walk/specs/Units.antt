@@ -9,7 +9,7 @@ use Rattle.dn_net.specs.Decode.{steps, unit_at}
 use Rattle.dn_net.specs.Names.{name_lt, name_eq}
 use Rattle.dn_net.specs.Firsts.{or_else}
 use Rattle.dn_net.specs.UnitRules.{unit_numbers, unit_rows_from, slots_product, first_row}
-use Rattle.dn_walk.specs.declared.fork.Fork.{Fork}
+use Rattle.dn_walk.specs.declared.fork.FoundFork.{FoundFork}
 use Rattle.dn_walk.specs.Rows.{BareWalk}
 use Rattle.dn_walk.specs.Ways.{start_name}
 
@@ -18,33 +18,33 @@ abbrev pub shows_fork : List NodeDecl → BareWalk → Bool
 shows_fork net t = is_some (unit_at net t.end) && nat_lt 1 (length (steps net (start_name t)))
 
 -- the fork that it shows
-abbrev pub fork_shown : BareWalk → Fork
+abbrev pub fork_shown : BareWalk → FoundFork
 fork_shown t = record { name = start_name t; unit = t.end }
 
 -- forks are ordered by their names, and then by their units
-abbrev pub fork_before : Fork → Fork → Bool
+abbrev pub fork_before : FoundFork → FoundFork → Bool
 fork_before f g = name_lt f.name g.name || (name_eq f.name g.name && nat_lt f.unit g.unit)
 
 -- the lesser of a fork that may be there and another
-abbrev pub lesser_fork : Option Fork → Fork → Option Fork
+abbrev pub lesser_fork : Option FoundFork → FoundFork → Option FoundFork
 lesser_fork None f = Some f
 lesser_fork (Some g) f = Some (if fork_before f g then f else g)
 
 -- the lesser of a fork that may be there and the one that a row shows, if it shows one
-abbrev pub with_shown : List NodeDecl → Option Fork → BareWalk → Option Fork
+abbrev pub with_shown : List NodeDecl → Option FoundFork → BareWalk → Option FoundFork
 with_shown net least t = if shows_fork net t then lesser_fork least (fork_shown t) else least
 
 -- one fork does not come after another
-abbrev pub NoLaterFork : Fork → Fork → Type 0
+abbrev pub NoLaterFork : FoundFork → FoundFork → Type 0
 NoLaterFork f g = IsTrue (name_lt f.name g.name) ⊎ ((f.name ≡ g.name) × (f.unit ≤ g.unit))
 
 -- some row shows the fork, and none shows one that comes before it
-pub record IsLeastForkOf (net : List NodeDecl) (rows : List BareWalk) (f : Fork) : Type 0 where
+pub record IsLeastForkOf (net : List NodeDecl) (rows : List BareWalk) (f : FoundFork) : Type 0 where
   pub shown : (t : BareWalk) × Member t rows × (shows_fork net t ≡ true) × (fork_shown t ≡ f)
   pub least : (t : BareWalk) → Member t rows → shows_fork net t ≡ true → NoLaterFork f (fork_shown t)
 
 -- the least fork that rows show; where there is none, no row shows one
-abbrev pub IsLeastShown : List NodeDecl → List BareWalk → Option Fork → Type 0
+abbrev pub IsLeastShown : List NodeDecl → List BareWalk → Option FoundFork → Type 0
 IsLeastShown net rows None = (t : BareWalk) → Member t rows → shows_fork net t ≡ false
 IsLeastShown net rows (Some f) = IsLeastForkOf net rows f
 

@@ -14,14 +14,14 @@ use dn_net::step::Step;
 
 /// A name with two or more destinations, and a unit that it reaches.
 #[derive(Clone, Copy)]
-pub(crate) struct Fork {
+pub(crate) struct FoundFork {
     pub name: Name,
     pub unit: u16,
 }
 
 /// The least fork that the rows show, by its name and then by its unit. The first address of a row
 /// has as many destinations as each other.
-pub(crate) fn least_fork(checked: CheckedNet, rows: &[WalkRow]) -> Option<Fork>
+pub(crate) fn least_fork(checked: CheckedNet, rows: &[WalkRow]) -> Option<FoundFork>
     requires starts { All (λ (r : WalkRow). r.start < length checked.net.now) rows.now }
     requires ends { All (λ (r : WalkRow). r.end < length checked.net.now) rows.now }
     ensures { IsLeastShown checked.entry.net.now (map row_view rows.now) result }
@@ -34,7 +34,7 @@ pub(crate) fn least_fork(checked: CheckedNet, rows: &[WalkRow]) -> Option<Fork>
 }
 
 /// The lesser of a fork and the one that the row shows, if it shows one.
-fn lesser_shown(checked: CheckedNet, least: Option<Fork>, row: &WalkRow) -> Option<Fork>
+fn lesser_shown(checked: CheckedNet, least: Option<FoundFork>, row: &WalkRow) -> Option<FoundFork>
     requires start { row.now.start < length checked.net.now }
     requires end { row.now.end < length checked.net.now }
     ensures { result ≡ with_shown checked.entry.net.now least (row_view row.now) }
@@ -44,7 +44,7 @@ fn lesser_shown(checked: CheckedNet, least: Option<Fork>, row: &WalkRow) -> Opti
     }
     lesser_fork(
         least,
-        Fork {
+        FoundFork {
             name: first_name(row),
             unit: row.end,
         },
@@ -81,7 +81,7 @@ fn first_name(row: &WalkRow) -> Name
 }
 
 /// The lesser of two forks.
-fn lesser_fork(least: Option<Fork>, fork: Fork) -> Option<Fork>
+fn lesser_fork(least: Option<FoundFork>, fork: FoundFork) -> Option<FoundFork>
     ensures { result ≡ lesser_fork least fork }
 {
     match least {
@@ -91,7 +91,7 @@ fn lesser_fork(least: Option<Fork>, fork: Fork) -> Option<Fork>
 }
 
 /// Whether a fork comes before another, by its name and then by its unit.
-fn comes_before(fork: Fork, other: Fork) -> bool
+fn comes_before(fork: FoundFork, other: FoundFork) -> bool
     ensures { result ≡ fork_before fork other }
 {
     is_before(fork.name, other.name) || (is_same(fork.name, other.name) && fork.unit < other.unit)

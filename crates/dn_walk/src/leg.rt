@@ -27,9 +27,9 @@ pub struct Legs {
 
 impl Model for Legs {
     ghost use Rattle.std.specs.Prelude.{List, map};
-    ghost use Rattle.dn_walk.specs.Legs.{Leg, leg_view};
+    ghost use Rattle.dn_walk.specs.Legs.{BareLeg, leg_view};
 
-    ghost Value = { List (List Leg) };
+    ghost Value = { List (List BareLeg) };
 
     ghost view = { λ l. map (map leg_view) l.nodes.items };
 }

@@ -5,7 +5,7 @@ ghost use Rattle.std.specs.List.{All, flat_map};
 ghost use Rattle.std.specs.List.Sorted.{IsNonDecreasingBy};
 ghost use Rattle.dn_interval.specs.declared.row.Seg.{Seg};
 ghost use Rattle.dn_net.specs.Terms.{in_order, walk_limit};
-ghost use Rattle.dn_walk.specs.Terms.{AreLegs, AreWalkLevels, IsRowOf, IsWideWhere, Leg, bare_before, bare_extensions, bare_meets, bare_onto, bare_still_walks, bare_walks, leg_view, row_view};
+ghost use Rattle.dn_walk.specs.Terms.{AreLegs, AreWalkLevels, IsRowOf, IsWideWhere, BareLeg, bare_before, bare_extensions, bare_meets, bare_onto, bare_still_walks, bare_walks, leg_view, row_view};
 
 use crate::fault::WalkFault;
 use crate::leg::Legs;
@@ -20,7 +20,7 @@ pub(crate) const WALK_LIMIT: usize = 1_048_576;
 
 /// The levels of walks that have been made, from that of the walks of no choice on.
 #[derive(Drop)]
-pub(crate) struct Levels {
+pub(crate) struct WalkLevels {
     /// Each level but the newest, by start and by the first and the last address of the span.
     pub sorted: Vec<Items<WalkRow>>,
     /// The newest level, in the order in which it was made.
@@ -29,14 +29,14 @@ pub(crate) struct Levels {
     pub room: usize,
 }
 
-impl Levels {
+impl WalkLevels {
     /// The level of the walks of no choice.
-    pub(crate) fn new(alloc: Global, nodes: u16) -> Result<Levels, AllocError>
+    pub(crate) fn new(alloc: Global, nodes: u16) -> Result<WalkLevels, AllocError>
         ensures begun { IfOk result (λ l. length l.sorted.items ≡ 0) }
-        ensures levels { IfOk result (λ l. (legs : List (List Leg)) → length legs ≡ nodes
+        ensures levels { IfOk result (λ l. (legs : List (List BareLeg)) → length legs ≡ nodes
             → AreWalkLevels legs l) }
     {
-        Ok(Levels {
+        Ok(WalkLevels {
             sorted: Vec::new(alloc),
             newest: still_rows(alloc, nodes)?,
             room: WALK_LIMIT,
@@ -44,7 +44,7 @@ impl Levels {
     }
 
     /// These levels and the next one. `Wide` exactly where there is no room for it.
-    pub(crate) fn with_next(self, alloc: Global, legs: &Legs) -> Result<Levels, WalkFault>
+    pub(crate) fn with_next(self, alloc: Global, legs: &Legs) -> Result<WalkLevels, WalkFault>
         requires legs { All (AreLegs (length legs.now)) legs.now }
         requires levels { AreWalkLevels legs.now self }
         requires shallow { length self.sorted.items ≤ 64 }
@@ -53,7 +53,7 @@ impl Levels {
         ensures wide { IfErr result (IsWideWhere
             (walk_limit < length (bare_walks legs.now (length self.sorted.items + 1)))) }
     {
-        let Levels {
+        let WalkLevels {
             mut sorted,
             newest,
             room,
@@ -62,7 +62,7 @@ impl Levels {
         let level = in_order(newest)?;
         sorted.push(level).or(Err(WalkFault::OutOfMemory))?;
         let room = room - next.len();
-        Ok(Levels {
+        Ok(WalkLevels {
             sorted,
             newest: next,
             room,

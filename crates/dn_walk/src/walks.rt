@@ -13,10 +13,10 @@ ghost use Rattle.dn_walk.specs.Terms.{AreWalksOf, bare_walk, row_view, shown_fau
 use crate::accepted::accepted_sets;
 use crate::chain::first_chain;
 use crate::fault::WalkFault;
-use crate::fork::{Fork, least_fork};
+use crate::fork::{FoundFork, least_fork};
 use crate::leads::unit_numbers;
 use crate::leg::{Legs, net_legs};
-use crate::level::{Levels, WALK_LIMIT};
+use crate::level::{WALK_LIMIT, WalkLevels};
 use crate::way::{Goal, least_start, way};
 use dn_base::items::Items;
 use dn_interval::{Seg, Span, SpanSet};
@@ -116,7 +116,7 @@ pub fn walks(alloc: Global, net: &Net) -> Result<WalkTable, WalkFault>
     net.facts();
     let checked = CheckedNet { net };
     let legs = net_legs(alloc, checked)?;
-    let mut levels = Levels::new(alloc, net.nodes())?;
+    let mut levels = WalkLevels::new(alloc, net.nodes())?;
     'levels: while levels.sorted.len() < LONGEST && !levels.newest.is_empty() {
         levels = levels.with_next(alloc, &legs)?;
         check_newest(alloc, checked, &levels, true)?;
@@ -136,7 +136,7 @@ pub fn walks(alloc: Global, net: &Net) -> Result<WalkTable, WalkFault>
 fn check_newest(
     alloc: Global,
     checked: CheckedNet,
-    levels: &Levels,
+    levels: &WalkLevels,
     back: bool,
 ) -> Result<(), WalkFault>
     requires there { All (λ (r : WalkRow). r.start < length checked.net.now)
@@ -162,7 +162,7 @@ fn check_newest(
 fn checked_rows(
     alloc: Global,
     checked: CheckedNet,
-    levels: Levels,
+    levels: WalkLevels,
 ) -> Result<Vec<Items<WalkRow>>, WalkFault>
     requires shallow { IsShallow checked.net.now }
     requires some { 0 < length levels.sorted.items }
@@ -175,7 +175,7 @@ fn checked_rows(
 {
     let units = unit_numbers(alloc, checked.net)?;
     if units.is_empty() {
-        let Levels { mut sorted, .. } = levels;
+        let WalkLevels { mut sorted, .. } = levels;
         let _still = sorted.remove(0);
         return Ok(sorted);
     }
@@ -203,7 +203,7 @@ fn check_units(
     ensures { Checks walk_fault_view result (unit_fault checked.entry.net.now) }
 {
     checked.net.facts();
-    if let Some(Fork { name, unit }) = least_fork(checked, rows) {
+    if let Some(FoundFork { name, unit }) = least_fork(checked, rows) {
         return Err(WalkFault::Fork { name, unit });
     }
     if let Some(units) = first_chain(alloc, checked, rows, units)? {
@@ -215,13 +215,13 @@ fn check_units(
 /// The rows of the sorted levels but the first. The levels are put one before the other, from the last
 /// row to the first, and each is let go once its rows were put, so that those of one level alone are held
 /// twice at a time.
-fn table_rows(alloc: Global, levels: Levels) -> Result<Vec<WalkRow>, AllocError>
+fn table_rows(alloc: Global, levels: WalkLevels) -> Result<Vec<WalkRow>, AllocError>
     requires some { 0 < length levels.sorted.items }
     requires room { levels.room ≤ WALK_LIMIT }
     ensures { IfOk result (λ rows. rows.items
         ≡ flat_map (λ x. x) (drop 1 levels.sorted.items)) }
 {
-    let Levels {
+    let WalkLevels {
         mut sorted,
         room,
         ..

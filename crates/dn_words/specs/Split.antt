@@ -2,7 +2,7 @@
 use Rattle.std.specs.Prelude.{ℕ, true, List, [], ◌∷◌, Option, Some, None, codes, option_map}
 use Rattle.clap.specs.Words.{App, Rule, first_value, new_app, new_rule, with_rule}
 use Rattle.clap.specs.declared.parser.matches.Found.{Found}
-use Rattle.dn_words.specs.declared.split.Parts.{Parts}
+use Rattle.dn_words.specs.declared.split.CommandWords.{CommandWords}
 
 -- the required word
 abbrev pub command_rule : Rule
@@ -27,7 +27,7 @@ abbrev pub Split : Type 0
 Split = List ℕ × Option (List ℕ)
 
 -- the bytes of the parts
-abbrev pub parts_view : Parts → Split
+abbrev pub parts_view : CommandWords → Split
 parts_view p = (p.command.now, option_map (λ s. s.now) p.number)
 
 -- one word, or two

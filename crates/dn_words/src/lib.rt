@@ -7,3 +7,5 @@
 mod number;
 mod split;
 pub mod words;
+
+pub use dn_base::OutOfMemory;

@@ -6,13 +6,14 @@ ghost use Rattle.std.specs.String.{string_bytes};
 ghost use Rattle.clap.specs.Words.{app_of, found_of};
 ghost use Rattle.dn_words.specs.Terms.{is_plain_word, parts_found, parts_of, parts_view, program};
 
+use crate::OutOfMemory;
 use clap::error::ErrorKind;
 use clap::{Arg, ArgMatches, Command};
-use std::alloc::{AllocError, Global};
+use std::alloc::Global;
 
 /// One word, or two.
 #[derive(Clone, Copy, Debug)]
-pub(crate) struct Parts<'a> {
+pub(crate) struct CommandWords<'a> {
     /// The first word.
     pub(crate) command: &'a str,
     /// The second word, where there is one.
@@ -21,7 +22,10 @@ pub(crate) struct Parts<'a> {
 
 /// Splits words of which none begins with `-`. `None` exactly where there is none, or there are more than
 /// two. `Err` is want of memory.
-pub(crate) fn split<'a>(alloc: Global, words: &'a [String]) -> Result<Option<Parts<'a>>, AllocError>
+pub(crate) fn split<'a>(
+    alloc: Global,
+    words: &'a [String],
+) -> Result<Option<CommandWords<'a>>, OutOfMemory>
     requires { IsTrue (list_all (λ s. is_plain_word (string_bytes s)) words.now) }
     ensures { IfOk result (λ parts. option_map parts_view parts
         ≡ parts_of (map (λ s. string_bytes s) words.entry.now)) }
@@ -29,14 +33,14 @@ pub(crate) fn split<'a>(alloc: Global, words: &'a [String]) -> Result<Option<Par
     match program(alloc)?.try_get_matches_from(words) {
         Ok(matches) => Ok(parts_found(&matches)),
         Err(error) => match error.kind() {
-            ErrorKind::OutOfMemory => Err(AllocError),
+            ErrorKind::OutOfMemory => Err(OutOfMemory),
             _ => Ok(None),
         },
     }
 }
 
 /// The command line of the program: a required word and an optional one, and no flag.
-fn program<'a>(alloc: Global) -> Result<Command<'a>, AllocError>
+fn program<'a>(alloc: Global) -> Result<Command<'a>, OutOfMemory>
     ensures { IfOk result (λ p. app_of p ≡ program) }
 {
     let command = Arg::new(alloc, "COMMAND").required(true);
@@ -49,11 +53,11 @@ fn program<'a>(alloc: Global) -> Result<Command<'a>, AllocError>
 }
 
 /// The words that were found.
-fn parts_found<'a>(matches: &ArgMatches<'a>) -> Option<Parts<'a>>
+fn parts_found<'a>(matches: &ArgMatches<'a>) -> Option<CommandWords<'a>>
     ensures { option_map parts_view result ≡ parts_found (found_of matches.now) }
 {
     let command = matches.get_str("COMMAND")?;
-    Some(Parts {
+    Some(CommandWords {
         command,
         number: matches.get_str("N"),
     })

@@ -5,9 +5,9 @@ ghost use Rattle.std.specs.List.{list_all};
 ghost use Rattle.std.specs.String.{string_bytes};
 ghost use Rattle.dn_words.specs.Terms.{HasAgents, is_plain_word, task_of, task_of_parts, task_of_word};
 
-use crate::split::Parts;
-use crate::{number, split};
-use std::alloc::{AllocError, Global};
+use crate::split::CommandWords;
+use crate::{OutOfMemory, number, split};
+use std::alloc::Global;
 use std::marker::Model;
 
 /// What the words ask for.
@@ -47,7 +47,7 @@ impl Words {
     }
 
     /// Appends a word. For want of memory the words are unchanged.
-    pub fn push(&mut self, word: &str) -> Result<(), AllocError>
+    pub fn push(&mut self, word: &str) -> Result<(), OutOfMemory>
         ensures ok { OnOk result (self.new ≡ self.old ++ word.now ∷ []) }
         ensures err { OnErr result (self.new ≡ self.old) }
     {
@@ -59,7 +59,7 @@ impl Words {
 
     /// What the words ask for. `None` exactly where they are of none of the forms: so it is where a word
     /// begins with `-`. `Err` is want of memory.
-    pub fn task(&self) -> Result<Option<Task>, AllocError>
+    pub fn task(&self) -> Result<Option<Task>, OutOfMemory>
         ensures task { IfOk result (λ task. task ≡ task_of self.now) }
         ensures agents { IfOk result HasAgents }
     {
@@ -85,7 +85,7 @@ fn are_plain(words: &[String]) -> bool
 }
 
 /// What a command and the word behind it ask for.
-fn task_of_parts(parts: &Parts) -> Option<Task>
+fn task_of_parts(parts: &CommandWords) -> Option<Task>
     ensures agents { HasAgents result }
     ensures task { result
         ≡ task_of_parts parts.now.command.now (option_map (λ s. s.now) parts.now.number) }

@@ -25,13 +25,15 @@ joins_part : (net : List NodeDecl) (slots : Slots) (rq : Request) (size : ℕ) (
 joins_part net slots rq size r hop hops l j = record {
   unit = j.unit;
   is_unit = j.is_unit;
-  node = j.node;
-  is_port = j.is_port;
-  agree = j.agree;
-  within = let w = j.within in omega (arith, l, w);
-  reached = let w = j.reached in omega (arith, l, w);
+  fits = record {
+    node = j.fits.node;
+    is_port = j.fits.is_port;
+    agree = j.fits.agree;
+    within = let w = j.fits.within in omega (arith, l, w);
+    reached = let w = j.fits.reached in omega (arith, l, w);
+  };
   usable = λ slot from to. j.usable slot from (let k = last_before j.unit size rq.size hop l in omega (arith, to, k));
-  meets = meets_part net rq size r j.node hop.y hops l j.meets;
+  meets = meets_part net rq size r j.fits.node hop.y hops l j.meets;
 }
 
 leads_part : (net : List NodeDecl) (slots : Slots) (rq : Request) (size : ℕ) (r : Rights) (hops : List Hop) → size ≤ rq.size → Leads net slots rq hops → Leads net slots (part rq size r) hops

@@ -1,9 +1,8 @@
 -- What the helpers of these tests carry from call to call.
-use Rattle.std.specs.Prelude.{◌≡◌, ◌≤◌, ◌+◌, ℕ, true, List, map, Some}
-use Rattle.std.specs.declared.alloc.Global.{Global}
-use Rattle.std.specs.declared.dyn_box.DynBox.{DynBox}
+use Rattle.std.specs.Prelude.{◌≡◌, ◌≤◌, ◌+◌, ℕ, true, List, Some}
 use Rattle.dn_base.specs.Device.{sizes_of}
 use Rattle.dn_net.specs.Decode.{top}
+use Rattle.dn_kind.specs.Kinded.{kinds_of}
 use Rattle.dn_kind.specs.declared.rights.Rights.{Rights}
 use Rattle.dn_kind.specs.Kind.{Meaning}
 use Rattle.dn_kind.specs.Units.{IsLegalWith}
@@ -14,7 +13,6 @@ use Rattle.dn_placement.specs.declared.request.Request.{Request}
 use Rattle.dn_placement.specs.Placement.{IsPlacement}
 use Rattle.dn_placement.specs.Slots.{slots_of_set}
 use Rattle.dn_book.specs.Tables.{IsKept}
-use Rattle.dn_view.specs.declared.system.System.{System}
 use Rattle.dn_view.specs.Systems.{IsSystem}
 use Rattle.test_grants.specs.declared.desk.Board.{Board}
 use Rattle.test_grants.specs.declared.desk.Desk.{Desk}
@@ -24,20 +22,16 @@ pub record IsBoard (kinds : List Meaning) (b : Board) : Type 0 where
   pub legal : IsLegalWith kinds b.net
   pub flat : AreFlats b.net b.flats
 
--- what the kinds of a system mean
-abbrev pub kinds_of : {K : Type 0} {V : K → Type 0} → (DynBox K Global V → Meaning) → System K V → List Meaning
-kinds_of means system = map means system.kinds.now.list.items
-
 -- a system with a book whose tables keep its grants while it is sound, and the device that has these tables
-pub record IsDesk {K : Type 0} {V : K → Type 0} (means : DynBox K Global V → Meaning) (d : Desk K V) : Type 0 where
+pub record IsDesk {K : Type 0} {V : K → Type 0} (means : (k : K) × V k → Meaning) (d : Desk K V) : Type 0 where
   pub system : IsSystem means d.system
-  pub kept : d.book.sound ≡ true → IsKept d.system.net.now (kinds_of means d.system) d.book.grants d.book.set
-  pub fits : FitsNet d.system.net.now (kinds_of means d.system) d.book.set
+  pub kept : d.book.unfailed ≡ true → IsKept d.system.on.net.now (kinds_of means d.system.on.kinds.now) d.book.grants d.book.set
+  pub fits : FitsNet d.system.on.net.now (kinds_of means d.system.on.kinds.now) d.book.set
   pub on_device : IsOnDevice d.book.set (sizes_of d.device.tables) (Some d.device.tables)
 
 -- a placement of the request in the slots as the tables of a desk leave them
-abbrev pub IsPlaced : {K : Type 0} {V : K → Type 0} → (DynBox K Global V → Meaning) → Desk K V → Request → Place → Type 0
-IsPlaced means d rq p = IsPlacement d.system.net.now (slots_of_set (kinds_of means d.system) d.book.set) rq p
+abbrev pub IsPlacedAt : {K : Type 0} {V : K → Type 0} → ((k : K) × V k → Meaning) → Desk K V → Request → Place → Type 0
+IsPlacedAt means d rq p = IsPlacement d.system.on.net.now (slots_of_set (kinds_of means d.system.on.kinds.now) d.book.set) rq p
 
 -- the buffer ends at the last address or before
 abbrev pub EndsWithin : Request → Type 0

@@ -1,18 +1,18 @@
 //! Boards and desks for tests.
 
-ghost use Rattle.std.specs.Prelude.{map, IfOk};
-ghost use Rattle.std.specs.List.{All};
+ghost use Rattle.std.specs.Prelude.{IfOk};
 ghost use Rattle.dn_net.specs.Terms.{IsLegalNet};
-ghost use Rattle.dn_kind.specs.Terms.{IsLawful};
+ghost use Rattle.dn_kind.specs.Terms.{AreKinds, kinds_of};
 ghost use Rattle.dn_flat.specs.Terms.{AreFlats};
 ghost use Rattle.dn_view.specs.Terms.{IsSystem};
 ghost use Rattle.test_grants.specs.Terms.{IsBoard, IsDesk};
 
 use crate::desk::{Board, Desk};
-use dn_base::device::MakeFault;
+use dn_base::device::DeviceOrMemory;
 use dn_base::memory_tables::MemTables;
 use dn_book::book::Book;
 use dn_flat::flats::{Flats, flatten_all};
+use dn_kind::kinded::KindedNet;
 use dn_kind::kinds::Kinds;
 use dn_net::net::Net;
 use dn_view::system::System;
@@ -23,8 +23,8 @@ use test_plans::{Plan, Unmade};
 
 /// The board of a plan.
 pub fn board_of(rt: &impl Abort, alloc: Global, kinds: &Kinds, plan: Plan) -> Board
-    requires { All (λ k. IsLawful (meaning (k.vtable, k.value))) kinds.now.list.items }
-    ensures { IsBoard (map (λ k. meaning (k.vtable, k.value)) kinds.now.list.items) result }
+    requires { AreKinds meaning kinds.now }
+    ensures { IsBoard (kinds_of meaning kinds.now) result }
 {
     let net = plan.net(alloc, kinds).expect(rt, "a net");
     let flats = flats_of(alloc, &net).expect(rt, "flats");
@@ -33,15 +33,16 @@ pub fn board_of(rt: &impl Abort, alloc: Global, kinds: &Kinds, plan: Plan) -> Bo
 
 /// The system of a board and its kinds.
 pub fn system_of<'a>(board: &'a Board, kinds: &'a Kinds) -> System<'a>
-    requires lawful { All (λ k. IsLawful (meaning (k.vtable, k.value))) kinds.now.list.items }
-    requires board { IsBoard
-        (map (λ k. meaning (k.vtable, k.value)) kinds.now.list.items) board.now }
-    ensures { IsSystem (λ k. meaning (k.vtable, k.value)) result }
+    requires kinds { AreKinds meaning kinds.now }
+    requires board { IsBoard (kinds_of meaning kinds.now) board.now }
+    ensures { IsSystem meaning result }
 {
     System {
-        net: &board.net,
+        on: KindedNet {
+            net: &board.net,
+            kinds,
+        },
         flats: &board.flats,
-        kinds,
     }
 }
 
@@ -61,13 +62,13 @@ pub fn desk_of<'a>(
     system: System<'a>,
     room: u32,
     failing: &[u32],
-) -> Result<Desk<'a>, MakeFault>
-    requires { IsSystem (λ k. meaning (k.vtable, k.value)) system }
-    ensures { IfOk result (IsDesk (λ k. meaning (k.vtable, k.value))) }
+) -> Result<Desk<'a>, DeviceOrMemory>
+    requires { IsSystem meaning system }
+    ensures { IfOk result (IsDesk meaning) }
 {
     let failing = failing.to_vec(alloc).expect(rt, "memory");
     let mut device = MemTables::new(alloc, room, failing).expect(rt, "a device");
-    let book = Book::make(alloc, system.net, system.kinds, &mut device)?;
+    let book = Book::make(alloc, system.on, &mut device)?;
     Ok(Desk {
         system,
         book,

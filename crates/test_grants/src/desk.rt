@@ -2,7 +2,7 @@
 
 ghost use Rattle.std.specs.Prelude.{◌≡◌, ◌≤◌, map, IfOk, IfSome, IsTrue};
 ghost use Rattle.dn_kind.specs.Terms.{are_rights};
-ghost use Rattle.test_grants.specs.Terms.{EndsWithin, IsDesk, IsPlaced, part};
+ghost use Rattle.test_grants.specs.Terms.{EndsWithin, IsDesk, IsPlacedAt, part};
 
 use crate::own::is_hop_free;
 use bitflags::Flags;
@@ -50,10 +50,10 @@ impl<'a> Desk<'a> {
         id: u32,
         request: &Request,
     ) -> Option<Result<u64, GrantFault>>
-        requires { IsDesk (λ k. meaning (k.vtable, k.value)) self.old }
-        ensures { IsDesk (λ k. meaning (k.vtable, k.value)) self.new }
+        requires { IsDesk meaning self.old }
+        ensures { IsDesk meaning self.new }
     {
-        if !self.book.is_sound() || !are_rights(request.rights) {
+        if !self.book.is_unfailed() || !are_rights(request.rights) {
             return None;
         }
         let system = self.system;
@@ -68,10 +68,10 @@ impl<'a> Desk<'a> {
         line: Name,
         node: u16,
     ) -> Option<Result<u64, RouteFault>>
-        requires { IsDesk (λ k. meaning (k.vtable, k.value)) self.old }
-        ensures { IsDesk (λ k. meaning (k.vtable, k.value)) self.new }
+        requires { IsDesk meaning self.old }
+        ensures { IsDesk meaning self.new }
     {
-        if !self.book.is_sound() {
+        if !self.book.is_unfailed() {
             return None;
         }
         let system = self.system;
@@ -90,14 +90,14 @@ impl<'a> Desk<'a> {
 
     /// Revokes the grant of an id. `None`, and nothing is done, where the book is not sound.
     pub fn revoke(&mut self, id: u32) -> Option<Result<(), RevokeFault>>
-        requires { IsDesk (λ k. meaning (k.vtable, k.value)) self.old }
-        ensures { IsDesk (λ k. meaning (k.vtable, k.value)) self.new }
+        requires { IsDesk meaning self.old }
+        ensures { IsDesk meaning self.new }
     {
-        if !self.book.is_sound() {
+        if !self.book.is_unfailed() {
             return None;
         }
-        let System { net, kinds, .. } = self.system;
-        Some(self.book.revoke(net, kinds, id, &mut self.device))
+        let on = self.system.on;
+        Some(self.book.revoke(on, id, &mut self.device))
     }
 
     /// Whether a placement of a request is admissible for its first so many addresses alone, with
@@ -110,9 +110,8 @@ impl<'a> Desk<'a> {
         size: u64,
         rights: Rights,
     ) -> Result<Option<bool>, Unmade>
-        requires desk { IsDesk (λ k. meaning (k.vtable, k.value)) self.now }
-        requires placed { IsPlaced (λ k. meaning (k.vtable, k.value))
-            self.now request.now placement.now }
+        requires desk { IsDesk meaning self.now }
+        requires placed { IsPlacedAt meaning self.now request.now placement.now }
     {
         if size == 0 || size > request.size || !are_rights(rights) {
             return Ok(None);
@@ -133,15 +132,13 @@ impl<'a> Desk<'a> {
         placement: &Placement,
         own: u8,
     ) -> Option<Placement>
-        requires desk { IsDesk (λ k. meaning (k.vtable, k.value)) self.now }
-        requires placed { IsPlaced (λ k. meaning (k.vtable, k.value))
-            self.now request.now placement.now }
-        ensures placed { IfSome result
-            (IsPlaced (λ k. meaning (k.vtable, k.value)) self.now request.now) }
+        requires desk { IsDesk meaning self.now }
+        requires placed { IsPlacedAt meaning self.now request.now placement.now }
+        ensures placed { IfSome result (IsPlacedAt meaning self.now request.now) }
     {
         let hops = placement.hops();
         let hop = *hops.get(usize::from(own))?;
-        if !is_hop_free(self.system.net, self.book.tables(), request, hop) {
+        if !is_hop_free(self.system.on.net, self.book.tables(), request, hop) {
             return None;
         }
         Some(Placement::new(alloc, placement.v(), hops, own))
@@ -156,12 +153,12 @@ impl<'a> Desk<'a> {
         request: &Request,
         at: Option<u64>,
     ) -> Result<Option<Placement>, Unmade>
-        requires desk { IsDesk (λ k. meaning (k.vtable, k.value)) self.now }
-        ensures placed { IfOk result (λ found. IfSome found
-            (IsPlaced (λ k. meaning (k.vtable, k.value)) self.now request.now)) }
+        requires desk { IsDesk meaning self.now }
+        ensures placed { IfOk result
+            (λ found. IfSome found (IsPlacedAt meaning self.now request.now)) }
     {
         let system = self.system;
-        if !is_agent(system.net, request.agent) || !is_formed(request) {
+        if !is_agent(system.on.net, request.agent) || !is_formed(request) {
             return Err(Unmade::Unformed);
         }
         let tables = self.book.tables();
@@ -170,10 +167,10 @@ impl<'a> Desk<'a> {
 
     /// What a name resolves to for an access under the tables. `Unformed` where its node is not there.
     pub fn resolved(&self, alloc: Global, name: Name, access: Access) -> Result<Names, Unmade>
-        requires { IsDesk (λ k. meaning (k.vtable, k.value)) self.now }
+        requires { IsDesk meaning self.now }
     {
         let system = self.system;
-        if name.node >= system.net.nodes() {
+        if name.node >= system.on.net.nodes() {
             return Err(Unmade::Unformed);
         }
         Ok(resolve(alloc, system, self.book.tables(), name, access)?)

@@ -45,7 +45,7 @@ fn add(
 }
 
 /// A unit's kind, by its number, and its shape.
-type Row = (u8, Shape);
+type ShapedUnit = (u8, Shape);
 
 /// Adds a unit in the same way. `None`, too, where there are not so many kinds.
 fn add_unit(
@@ -53,7 +53,7 @@ fn add_unit(
     net: &mut Net,
     count: usize,
     title: &str,
-    row: Row,
+    row: ShapedUnit,
 ) -> Result<Option<u16>, Fail>
     requires known { IsTrue (list_all (λ n. has_kind count n.unit) net.old) }
     ensures known { IsTrue (list_all (λ n. has_kind count n.unit) net.new) }
@@ -70,8 +70,8 @@ fn add_unit(
 fn checked(
     rt: &impl Abort,
     alloc: Global,
-    first: Row,
-    second: Row,
+    first: ShapedUnit,
+    second: ShapedUnit,
 ) -> Result<Result<(), UnitFault>, Fail> {
     let kinds = program_kinds!(alloc);
     let count = kinds.len();

@@ -5,6 +5,7 @@ ghost use Rattle.std.specs.List.{list_all};
 ghost use Rattle.dn_net.specs.Terms.{is_closed};
 ghost use Rattle.dn_kind.specs.Terms.{has_kind};
 
+use dn_kind::kinded::KindedNet;
 use dn_kind::kinds::Kinds;
 use dn_module::expand::expand;
 use dn_net::net::Net;
@@ -25,7 +26,13 @@ pub fn net_of(alloc: Global, text: &str) -> Result<Net, Unmade>
 pub fn printed(alloc: Global, text: &str) -> Result<Vec<u8>, Unmade> {
     let kinds = program_kinds!(alloc);
     let net = expanded(alloc, text, &kinds)?;
-    Ok(net_text(alloc, &net, &kinds)?)
+    Ok(net_text(
+        alloc,
+        KindedNet {
+            net: &net,
+            kinds: &kinds,
+        },
+    )?)
 }
 
 /// The net to which a text expands.

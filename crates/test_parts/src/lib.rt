@@ -4,9 +4,26 @@
 //! `answers/`.
 #![tactic(auto)]
 
+ghost use Rattle.std.specs.Prelude.{◌≡◌};
+
+use dn_interval::{Seg, Span};
+
 #[cfg(test)]
 mod rows;
 #[cfg(test)]
 mod span_sets;
 #[cfg(test)]
 mod tokens;
+
+/// The segment that leads the addresses of a span to a node's addresses from 0 on.
+pub fn seg_from_zero(span: Span, node: u16) -> Seg
+    ensures span { result.span ≡ span }
+    ensures node { result.node ≡ node }
+    ensures base { result.base ≡ 0 }
+{
+    Seg {
+        span,
+        node,
+        base: 0,
+    }
+}

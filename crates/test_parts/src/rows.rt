@@ -1,18 +1,14 @@
 //! The normal rows of segments: the row that has an address.
 
-use dn_interval::{Rows, Seg, Span};
+use crate::seg_from_zero;
+use dn_interval::{Rows, Span};
 
 #[test]
 fn rows_have_the_addresses_up_to_their_last(rt: HostRuntime) {
     let mut segs = Vec::new(rt.alloc());
     for (lo, hi, node) in [(0, 0xff, 0), (0x80, 0x8f, 1)] {
         let span = Span::new(lo, hi).expect(&rt, "a span");
-        segs.push(Seg {
-            span,
-            node,
-            base: 0,
-        })
-        .expect(&rt, "memory");
+        segs.push(seg_from_zero(span, node)).expect(&rt, "memory");
     }
     let rows = Rows::normal(rt.alloc(), segs.as_slice()).expect(&rt, "memory");
     assert_eq!(rt; rows.rows().len(), 3);

@@ -1,10 +1,10 @@
 //! Plans of nets.
 
-ghost use Rattle.std.specs.Prelude.{◌≡◌, ◌<◌, ◌&&◌, [], nat_lt, map, None, IfOk, IsTrue};
-ghost use Rattle.std.specs.List.{All, list_all};
+ghost use Rattle.std.specs.Prelude.{◌≡◌, ◌<◌, ◌&&◌, [], nat_lt, None, IfOk, IsTrue};
+ghost use Rattle.std.specs.List.{list_all};
 ghost use Rattle.std.specs.Option.{option_copied};
 ghost use Rattle.dn_net.specs.Terms.{is_bare, is_closed, is_formed, over_within, ports_within, refers_within};
-ghost use Rattle.dn_kind.specs.Terms.{IsLawful, IsLegalWith, has_kind};
+ghost use Rattle.dn_kind.specs.Terms.{AreKinds, IsLegalWith, has_kind, kinds_of};
 
 use crate::PAGES;
 use crate::unmade::Unmade;
@@ -152,9 +152,8 @@ impl Plan {
 
     /// The net of the nodes, where it keeps all rules.
     pub fn net(self, alloc: Global, kinds: &Kinds) -> Result<Net, Unmade>
-        requires { All (λ k. IsLawful (meaning (k.vtable, k.value))) kinds.now.list.items }
-        ensures { IfOk result (IsLegalWith
-            (map (λ k. meaning (k.vtable, k.value)) kinds.now.list.items)) }
+        requires { AreKinds meaning kinds.now }
+        ensures { IfOk result (IsLegalWith (kinds_of meaning kinds.now)) }
     {
         let net = closed_net(alloc, self.nodes, kinds.len())?;
         net.check_nodes(alloc)?;

@@ -7,10 +7,11 @@
 //! ends the run with its status, no call is made again or beside those that are needed, and words of
 //! no form read nothing (`faults`). Each call of the device fails in turn: where the units of a net
 //! are made (`devices`), in grants, routes and revokes (`stops`), and in a demonstration (`demos`).
-//! `outcome` runs the words over a text, `rows` compares what comes of it, and `words` has the words
+//! `failing` says which calls fail, `outcome` runs the words over a text, `rows` compares what comes of it, and `words` has the words
 //! of the faults of a text.
 #![tactic(auto)]
 
+pub mod failing;
 #[cfg(test)]
 mod outcome;
 #[cfg(test)]

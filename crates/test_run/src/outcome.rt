@@ -1,9 +1,9 @@
 //! What words over a text come to, with a source, a sink and a device in memory.
 
 ghost use Rattle.std.specs.Prelude.{◌≤◌, ◌<◌, length};
-ghost use Rattle.std.specs.List.{All};
-ghost use Rattle.dn_kind.specs.Terms.{IsLawful};
+ghost use Rattle.dn_kind.specs.Terms.{AreKinds};
 
+use crate::failing::Failing;
 use dn_base::memory::{MemSink, MemSource};
 use dn_base::memory_tables::MemTables;
 use dn_kind::kinds::Kinds;
@@ -15,14 +15,6 @@ use test_plans::sure_kinds;
 
 /// For how many events the device has room.
 const ROOM: u32 = 1000;
-
-/// Which calls of the source, of the sink and of the device fail, by their numbers from 0, in any order.
-#[derive(Clone, Copy)]
-pub struct Failing<'a> {
-    pub reads: &'a [u32],
-    pub writes: &'a [u32],
-    pub device: &'a [u32],
-}
 
 /// What a run came to: its status, the source with what is left, the sink with what was written, and the device with its
 /// words and its log.
@@ -72,7 +64,7 @@ fn answer_with(
 ) -> Outcome
     requires some { 0 < most }
     requires few { length kinds.now.list.items ≤ 255 }
-    requires lawful { All (λ k. IsLawful (meaning (k.vtable, k.value))) kinds.now.list.items }
+    requires kinds { AreKinds meaning kinds.now }
 {
     let bytes = text.to_vec(alloc).expect(rt, "memory");
     let reads = failing.reads.to_vec(alloc).expect(rt, "memory");

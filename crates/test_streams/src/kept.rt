@@ -1,7 +1,7 @@
 //! The words of each fault, and the lists and texts that structs keep.
 
 use dn_base::device::DeviceFault;
-use dn_base::device::MakeFault::{Device, OutOfMemory};
+use dn_base::device::DeviceOrMemory::{Device, OutOfMemory};
 use dn_base::items::Items;
 use dn_base::sink::WriteFault;
 use dn_base::source::ReadFault;

@@ -21,7 +21,7 @@ use Rattle.dn_tables.proofs.Fresh.{zero_words}
 use Rattle.dn_tables.proofs.Kept.{map_changed, sized_of, slot_room, table_of_unit, unit_of_slot}
 use Rattle.dn_image.specs.Image.{are_filled, is_filled}
 use Rattle.dn_image.proofs.Places.{unit_of_net}
-use Rattle.test_tables.specs.Slots.{CanHold}
+use Rattle.test_tables.specs.Slots.{IsHoldable}
 
 -- a slot of a unit of the net
 pub slot_there : (set : List NodeTable) (net : List NodeDecl) (i slot : ℕ) (o : Option UnitPart) → units_of set ≡ map (λ n. n.unit) net → option_map (λ d. d.unit) (slice_get net i) ≡ Some o → IsTrue (has_slot_by o slot) → IsTrue (has_slot set i slot)
@@ -60,7 +60,7 @@ unit_at_net (t ∷ ts) (n ∷ ns) zero u e is = let f : t.unit ≡ n.unit = cc i
 unit_at_net (t ∷ ts) (n ∷ ns) (suc i) u e is = let f : units_of ts ≡ map (λ n. n.unit) ns = cc in unit_at_net ts ns i u f is
 
 -- the kind of a unit may be asked for the words of a record that the unit can hold
-pub packable : (kinds : List Meaning) (set : List NodeTable) (net : List NodeDecl) (i : ℕ) (r : Record) → KeepsUnitShape kinds net → units_of set ≡ map (λ n. n.unit) net → ((u : UnitPart) → unit_in set i ≡ Some u → CanHold (unit_shape u) r) → IsPackableIn kinds set i r
+pub packable : (kinds : List Meaning) (set : List NodeTable) (net : List NodeDecl) (i : ℕ) (r : Record) → KeepsUnitShape kinds net → units_of set ≡ map (λ n. n.unit) net → ((u : UnitPart) → unit_in set i ≡ Some u → IsHoldable (unit_shape u) r) → IsPackableIn kinds set i r
 packable kinds set net i r shaped e holds = λ u kind is at.
     let h = holds u is in
     let s = and_parts (is_plain_unit_shape (unit_shape u)) (fits_shape (slice_get kinds u.kind) (unit_shape u)) (shaped.shaped i u (unit_at_net set net i u e is)) in

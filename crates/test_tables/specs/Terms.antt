@@ -1,2 +1,2 @@
 -- The words of the crate that clauses cite, from one place.
-pub use Rattle.test_tables.specs.Slots.{CanHold, CanHoldIn, IsBench, IsBoard}
+pub use Rattle.test_tables.specs.Slots.{IsHoldable, IsHoldableIn, IsBench}

@@ -1,17 +1,15 @@
 //! Lookups in images.
 
-ghost use Rattle.std.specs.List.{All};
-ghost use Rattle.dn_kind.specs.Terms.{IsLawful};
-ghost use Rattle.test_tables.specs.Terms.{IsBoard};
+ghost use Rattle.dn_kind.specs.Terms.{AreKinds, IsKinded};
 
 use crate::boards::{page_plan, port_plan};
 use crate::images::is_read;
 use dn_image::check::check;
 use dn_image::fault::ImageFault;
+use dn_kind::kinded::KindedNet;
 use dn_kind::kinds::Kinds;
 use dn_kind::rights::Access;
 use dn_lookup::lookup::{LookupFault, lookup};
-use dn_net::net::Net;
 use dn_net::node::Name;
 use std::alloc::Global;
 use std::process::Abort;
@@ -57,32 +55,30 @@ const PAGED: Name = Name {
 fn compare_both(
     rt: &impl Abort,
     alloc: Global,
-    net: &Net,
-    kinds: &Kinds,
+    on: KindedNet,
     image: &[u8],
     reading: Option<Name>,
     writing: Option<Name>,
 )
-    requires { IsBoard (λ k. meaning (k.vtable, k.value)) kinds.now.list.items net.now }
+    requires { IsKinded meaning on }
 {
-    compare(rt, alloc, net, kinds, image, ASKED, Access::Read, reading);
-    compare(rt, alloc, net, kinds, image, ASKED, Access::Write, writing);
+    compare(rt, alloc, on, image, ASKED, Access::Read, reading);
+    compare(rt, alloc, on, image, ASKED, Access::Write, writing);
 }
 
 /// Compares the one name, or none, to which an address of an agent comes.
 fn compare(
     rt: &impl Abort,
     alloc: Global,
-    net: &Net,
-    kinds: &Kinds,
+    on: KindedNet,
     image: &[u8],
     from: Name,
     access: Access,
     wanted: Option<Name>,
 )
-    requires { IsBoard (λ k. meaning (k.vtable, k.value)) kinds.now.list.items net.now }
+    requires { IsKinded meaning on }
 {
-    let names = lookup(alloc, net, kinds, image, from.node, from.addr, access);
+    let names = lookup(alloc, on, image, from.node, from.addr, access);
     let names = names.expect(rt, "names");
     assert_eq!(rt; names.list(), wanted.as_slice(), "{from:?} {access:?}");
 }
@@ -91,32 +87,32 @@ fn compare(
 fn compare_words(
     rt: &impl Abort,
     alloc: Global,
-    net: &Net,
-    kinds: &Kinds,
+    on: KindedNet,
     image: &[u8],
     unit: u16,
     words: &[u64],
 )
-    requires { IsBoard (λ k. meaning (k.vtable, k.value)) kinds.now.list.items net.now }
+    requires { IsKinded meaning on }
 {
-    assert_eq!(rt; check(net, kinds, image), Ok(2));
-    let given = is_read(alloc, net, kinds, image, unit, 2, words);
+    assert_eq!(rt; check(on, image), Ok(2));
+    let given = is_read(alloc, on, image, unit, 2, words);
     assert_eq!(rt; given, Ok(true));
 }
 
 /// What is looked up in images of the board with pages.
 pub fn look_up_pages(rt: &impl Abort, alloc: Global, kinds: &Kinds)
-    requires { All (λ k. IsLawful (meaning (k.vtable, k.value))) kinds.now.list.items }
+    requires { AreKinds meaning kinds.now }
 {
     let net = page_plan(rt, alloc).net(alloc, kinds).expect(rt, "a net");
-    follow_records(rt, alloc, &net, kinds);
-    ask_rights(rt, alloc, &net, kinds);
-    ask_without(rt, alloc, &net, kinds);
+    let on = KindedNet { net: &net, kinds };
+    follow_records(rt, alloc, on);
+    ask_rights(rt, alloc, on);
+    ask_without(rt, alloc, on);
 }
 
 /// An address goes by the record of its slot, and nowhere where the words spell none.
-fn follow_records(rt: &impl Abort, alloc: Global, net: &Net, kinds: &Kinds)
-    requires { IsBoard (λ k. meaning (k.vtable, k.value)) kinds.now.list.items net.now }
+fn follow_records(rt: &impl Abort, alloc: Global, on: KindedNet)
+    requires { IsKinded meaning on }
 {
     let there = Some(PAGED);
     for (word, wanted) in [
@@ -130,14 +126,14 @@ fn follow_records(rt: &impl Abort, alloc: Global, net: &Net, kinds: &Kinds)
         (0, None),
     ] {
         let image = page_image(2, word);
-        compare_words(rt, alloc, net, kinds, &image, 5, &page_words(word));
-        compare_both(rt, alloc, net, kinds, &image, wanted, wanted);
+        compare_words(rt, alloc, on, &image, 5, &page_words(word));
+        compare_both(rt, alloc, on, &image, wanted, wanted);
     }
 }
 
 /// A record lets through what its rights allow.
-fn ask_rights(rt: &impl Abort, alloc: Global, net: &Net, kinds: &Kinds)
-    requires { IsBoard (λ k. meaning (k.vtable, k.value)) kinds.now.list.items net.now }
+fn ask_rights(rt: &impl Abort, alloc: Global, on: KindedNet)
+    requires { IsKinded meaning on }
 {
     let there = Some(PAGED);
     for (version, word, reading, writing) in [
@@ -151,16 +147,17 @@ fn ask_rights(rt: &impl Abort, alloc: Global, net: &Net, kinds: &Kinds)
         (1, 0x8000401, there, there),
     ] {
         let image = page_image(version, word);
-        compare_both(rt, alloc, net, kinds, &image, reading, writing);
+        compare_both(rt, alloc, on, &image, reading, writing);
     }
 }
 
 /// A record sends to its port, and nowhere where the unit lacks the port or the page is past its
 /// reach.
 pub fn ask_ports(rt: &impl Abort, alloc: Global, kinds: &Kinds)
-    requires { All (λ k. IsLawful (meaning (k.vtable, k.value))) kinds.now.list.items }
+    requires { AreKinds meaning kinds.now }
 {
     let net = port_plan(rt, alloc).net(alloc, kinds).expect(rt, "a net");
+    let on = KindedNet { net: &net, kinds };
     let from = Name {
         node: 2,
         addr: 0x10,
@@ -177,14 +174,14 @@ pub fn ask_ports(rt: &impl Abort, alloc: Global, kinds: &Kinds)
     ] {
         let wanted = wanted.map(|(node, addr)| Name { node, addr });
         let image = port_image(word);
-        compare_words(rt, alloc, &net, kinds, &image, 3, &[word, 0, 0, 0]);
-        compare(rt, alloc, &net, kinds, &image, from, Access::Read, wanted);
+        compare_words(rt, alloc, on, &image, 3, &[word, 0, 0, 0]);
+        compare(rt, alloc, on, &image, from, Access::Read, wanted);
     }
 }
 
 /// Without an agent or an image there is no answer.
-fn ask_without(rt: &impl Abort, alloc: Global, net: &Net, kinds: &Kinds)
-    requires { IsBoard (λ k. meaning (k.vtable, k.value)) kinds.now.list.items net.now }
+fn ask_without(rt: &impl Abort, alloc: Global, on: KindedNet)
+    requires { IsKinded meaning on }
 {
     let image = page_image(2, 0);
     // The core reaches the memory through no unit.
@@ -193,16 +190,16 @@ fn ask_without(rt: &impl Abort, alloc: Global, net: &Net, kinds: &Kinds)
         addr: 0x8000_0000,
     };
     let wanted = Some(Name { node: 0, addr: 0 });
-    compare(rt, alloc, net, kinds, &image, from, Access::Read, wanted);
+    compare(rt, alloc, on, &image, from, Access::Read, wanted);
     // The bus is no agent, and there is no node 6. That is said whatever the bytes are.
     for (node, length) in [(2, 144), (2, 0), (6, 144), (6, 3)] {
         assert!(rt; length <= 144);
-        let given = lookup(alloc, net, kinds, &image[..length], node, 0, Access::Read);
+        let given = lookup(alloc, on, &image[..length], node, 0, Access::Read);
         assert_eq!(rt; given.err(), Some(LookupFault::NoAgent), "{node}");
     }
     for length in [143] {
         assert!(rt; length <= 144);
-        let given = lookup(alloc, net, kinds, &image[..length], 4, 0, Access::Read);
+        let given = lookup(alloc, on, &image[..length], 4, 0, Access::Read);
         let short = ImageFault::Short { at: 143 };
         assert_eq!(rt; given.err(), Some(LookupFault::Image(short)));
     }

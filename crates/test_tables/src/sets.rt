@@ -1,17 +1,17 @@
 //! Sets of tables: how they are made, and what their calls leave.
 
-ghost use Rattle.std.specs.List.{All};
-ghost use Rattle.dn_kind.specs.Terms.{IsLawful};
+ghost use Rattle.dn_kind.specs.Terms.{AreKinds};
 ghost use Rattle.test_tables.specs.Terms.{IsBench};
 
-use crate::bench::Bench;
+use crate::bench::{Bench, to_page};
 use crate::boards::{page_plan, two_units, vector_plan};
 use crate::slots::{
-    Place, add_use, are_words, bench_of, clear, device_words, end_use, put, record_of, to_page,
-    use_of, words,
+    Place, add_use, are_words, bench_of, clear, device_words, end_use, put, record_of, use_of,
+    words,
 };
-use dn_base::device::{DeviceFault, MakeFault, TableEvent};
+use dn_base::device::{DeviceFault, DeviceOrMemory, TableEvent};
 use dn_base::memory_tables::MemTables;
+use dn_kind::kinded::KindedNet;
 use dn_kind::kinds::Kinds;
 use dn_kind::unit_kind::Record;
 use dn_tables::set::TableSet;
@@ -20,7 +20,7 @@ use std::process::Abort;
 
 /// Each unit is made with words 0.
 pub fn make_two_units(rt: &impl Abort, alloc: Global, kinds: &Kinds)
-    requires { All (λ k. IsLawful (meaning (k.vtable, k.value))) kinds.now.list.items }
+    requires { AreKinds meaning kinds.now }
 {
     let bench = bench_of(rt, alloc, kinds, two_units(rt, alloc), 8, &[]);
     let (net, set) = (&bench.net, &bench.set);
@@ -45,21 +45,22 @@ fn made_with(
     alloc: Global,
     kinds: &Kinds,
     failing: u32,
-) -> (Option<MakeFault>, usize)
-    requires { All (λ k. IsLawful (meaning (k.vtable, k.value))) kinds.now.list.items }
+) -> (Option<DeviceOrMemory>, usize)
+    requires { AreKinds meaning kinds.now }
 {
     let net = two_units(rt, alloc).net(alloc, kinds).expect(rt, "a net");
+    let on = KindedNet { net: &net, kinds };
     let failing = [failing].to_vec(alloc).expect(rt, "memory");
     let mut device = MemTables::new(alloc, 8, failing).expect(rt, "a device");
-    let fault = TableSet::make(alloc, &net, kinds, &mut device).err();
+    let fault = TableSet::make(alloc, on, &mut device).err();
     (fault, device.log().len())
 }
 
 /// A make that fails stops at its unit.
 pub fn stop_at_makes(rt: &impl Abort, alloc: Global, kinds: &Kinds)
-    requires { All (λ k. IsLawful (meaning (k.vtable, k.value))) kinds.now.list.items }
+    requires { AreKinds meaning kinds.now }
 {
-    let device = Some(MakeFault::Device);
+    let device = Some(DeviceOrMemory::Device);
     for (failing, wanted) in [(0, (device, 0)), (1, (device, 1)), (2, (None, 2))] {
         assert_eq!(rt; made_with(rt, alloc, kinds, failing), wanted, "{failing}");
     }
@@ -75,7 +76,7 @@ fn compare(
     wanted: &[u64],
     held: Option<Record>,
 )
-    requires { IsBench (λ k. meaning (k.vtable, k.value)) kinds.now.list.items bench.now }
+    requires { IsBench meaning kinds.now bench.now }
 {
     let (net, set) = (&bench.net, &bench.set);
     assert!(rt; are_words(words(net, set, at.unit), wanted));
@@ -85,7 +86,7 @@ fn compare(
 
 /// A record is put and cleared.
 pub fn put_and_clear(rt: &impl Abort, alloc: Global, kinds: &Kinds)
-    requires { All (λ k. IsLawful (meaning (k.vtable, k.value))) kinds.now.list.items }
+    requires { AreKinds meaning kinds.now }
 {
     let mut bench = bench_of(rt, alloc, kinds, page_plan(rt, alloc), 0, &[]);
     let at = Place { unit: 5, slot: 3 };
@@ -103,7 +104,7 @@ pub fn put_and_clear(rt: &impl Abort, alloc: Global, kinds: &Kinds)
 
 /// The gate is opened last and shut first.
 pub fn watch_the_gate(rt: &impl Abort, alloc: Global, kinds: &Kinds)
-    requires { All (λ k. IsLawful (meaning (k.vtable, k.value))) kinds.now.list.items }
+    requires { AreKinds meaning kinds.now }
 {
     let mut bench = bench_of(rt, alloc, kinds, vector_plan(rt, alloc), 8, &[]);
     let at = Place { unit: 2, slot: 2 };
@@ -145,7 +146,7 @@ fn compare_left(
     given: Option<Result<(), DeviceFault>>,
     wanted: Left,
 )
-    requires { IsBench (λ k. meaning (k.vtable, k.value)) kinds.now.list.items bench.now }
+    requires { IsBench meaning kinds.now bench.now }
 {
     let (answer, left, held) = wanted;
     assert_eq!(rt; given, Some(answer));
@@ -156,7 +157,7 @@ fn compare_left(
 
 /// Compares what is left after a put, and then after a clear, over a device that fails at a call.
 fn compare_failing(rt: &impl Abort, alloc: Global, kinds: &Kinds, failing: u32, wanted: [Left; 2])
-    requires { All (λ k. IsLawful (meaning (k.vtable, k.value))) kinds.now.list.items }
+    requires { AreKinds meaning kinds.now }
 {
     let mut bench = bench_of(rt, alloc, kinds, vector_plan(rt, alloc), 0, &[failing]);
     let given = put(kinds, &mut bench, SLOT, to_page(0x20));
@@ -167,7 +168,7 @@ fn compare_failing(rt: &impl Abort, alloc: Global, kinds: &Kinds, failing: u32, 
 
 /// A fault leaves the words that were written before it.
 pub fn stop_at_writes(rt: &impl Abort, alloc: Global, kinds: &Kinds)
-    requires { All (λ k. IsLawful (meaning (k.vtable, k.value))) kinds.now.list.items }
+    requires { AreKinds meaning kinds.now }
 {
     let fault = Err(DeviceFault);
     // Call 0 makes the unit. A put that failed at its first write leaves the clear calls 2 and 3,
@@ -183,7 +184,7 @@ pub fn stop_at_writes(rt: &impl Abort, alloc: Global, kinds: &Kinds)
 
 /// Uses of slots are counted, and owners are kept.
 pub fn count_uses(rt: &impl Abort, alloc: Global, kinds: &Kinds)
-    requires { All (λ k. IsLawful (meaning (k.vtable, k.value))) kinds.now.list.items }
+    requires { AreKinds meaning kinds.now }
 {
     let mut bench = bench_of(rt, alloc, kinds, page_plan(rt, alloc), 0, &[]);
     let (net, set) = (&bench.net, &mut bench.set);

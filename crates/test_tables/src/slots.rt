@@ -1,16 +1,17 @@
 //! Calls on the slots of a set of tables, made where what they ask holds.
 
 ghost use Rattle.std.specs.Prelude.{◌≡◌, ◌==◌, map, IsTrue, IsSome};
-ghost use Rattle.std.specs.List.{All, list_all};
-ghost use Rattle.dn_kind.specs.Terms.{IsLawful, are_rights, unit_shape};
+ghost use Rattle.std.specs.List.{list_all};
+ghost use Rattle.dn_kind.specs.Terms.{AreKinds, are_rights, unit_shape};
 ghost use Rattle.dn_tables.specs.Terms.{IsEmpty, has_slot, unit_in, units_of};
-ghost use Rattle.test_tables.specs.Terms.{CanHold, CanHoldIn, IsBench};
+ghost use Rattle.test_tables.specs.Terms.{IsHoldable, IsHoldableIn, IsBench};
 
 use crate::bench::Bench;
 use bitflags::Flags;
 use dn_base::device::{DeviceFault, Tables};
 use dn_base::filled::Filled;
 use dn_base::memory_tables::MemTables;
+use dn_kind::kinded::KindedNet;
 use dn_kind::kinds::Kinds;
 use dn_kind::rights::Rights;
 use dn_kind::shape::shape_of;
@@ -27,15 +28,6 @@ use test_plans::Plan;
 pub struct Place {
     pub unit: u16,
     pub slot: u32,
-}
-
-/// A record of port 0 that allows both accesses.
-pub fn to_page(page: u64) -> Record {
-    Record {
-        port: 0,
-        page,
-        rights: Rights::both(),
-    }
 }
 
 /// Whether the slot is there.
@@ -77,7 +69,7 @@ fn are_zero(words: &[u64]) -> bool
 /// Whether the unit that a node is can hold a record.
 fn is_packable(net: &Net, set: &TableSet, node: u16, wanted: Record) -> bool
     requires units { units_of set.now ≡ map (λ n. n.unit) net.now }
-    ensures { IsTrue result → CanHoldIn set.now node wanted }
+    ensures { IsTrue result → IsHoldableIn set.now node wanted }
 {
     if node >= net.nodes() {
         return false;
@@ -90,7 +82,7 @@ fn is_packable(net: &Net, set: &TableSet, node: u16, wanted: Record) -> bool
 
 /// Whether a unit can hold a record.
 fn can_hold(unit: &Unit, wanted: Record) -> bool
-    ensures { IsTrue result → CanHold (unit_shape unit.now) wanted }
+    ensures { IsTrue result → IsHoldable (unit_shape unit.now) wanted }
 {
     if !unit.has_plain_shape() {
         return false;
@@ -114,13 +106,14 @@ pub fn bench_of(
     room: u32,
     failing: &[u32],
 ) -> Bench
-    requires { All (λ k. IsLawful (meaning (k.vtable, k.value))) kinds.now.list.items }
-    ensures { IsBench (λ k. meaning (k.vtable, k.value)) kinds.now.list.items result }
+    requires { AreKinds meaning kinds.now }
+    ensures { IsBench meaning kinds.now result }
 {
     let net = plan.net(alloc, kinds).expect(rt, "a net");
+    let on = KindedNet { net: &net, kinds };
     let failing = failing.to_vec(alloc).expect(rt, "memory");
     let mut device = MemTables::new(alloc, room, failing).expect(rt, "a device");
-    let set = TableSet::make(alloc, &net, kinds, &mut device).expect(rt, "tables");
+    let set = TableSet::make(alloc, on, &mut device).expect(rt, "tables");
     Bench { net, set, device }
 }
 
@@ -132,8 +125,8 @@ pub fn put(
     at: Place,
     wanted: Record,
 ) -> Option<Result<(), DeviceFault>>
-    requires { IsBench (λ k. meaning (k.vtable, k.value)) kinds.now.list.items bench.old }
-    ensures { IsBench (λ k. meaning (k.vtable, k.value)) kinds.now.list.items bench.new }
+    requires { IsBench meaning kinds.now bench.old }
+    ensures { IsBench meaning kinds.now bench.new }
 {
     if !is_there(&bench.net, &bench.set, at) {
         return None;
@@ -150,8 +143,8 @@ pub fn put(
 
 /// Clears a slot. `None`, and nothing is done, where it is not there.
 pub fn clear(kinds: &Kinds, bench: &mut Bench, at: Place) -> Option<Result<(), DeviceFault>>
-    requires { IsBench (λ k. meaning (k.vtable, k.value)) kinds.now.list.items bench.old }
-    ensures { IsBench (λ k. meaning (k.vtable, k.value)) kinds.now.list.items bench.new }
+    requires { IsBench meaning kinds.now bench.old }
+    ensures { IsBench meaning kinds.now bench.new }
 {
     let _kinds = kinds;
     if !is_there(&bench.net, &bench.set, at) {
@@ -162,7 +155,7 @@ pub fn clear(kinds: &Kinds, bench: &mut Bench, at: Place) -> Option<Result<(), D
 
 /// The record of a slot. `None` where it holds none, or is not there.
 pub fn record_of(kinds: &Kinds, bench: &Bench, at: Place) -> Option<Record>
-    requires { IsBench (λ k. meaning (k.vtable, k.value)) kinds.now.list.items bench.now }
+    requires { IsBench meaning kinds.now bench.now }
 {
     if !is_there(&bench.net, &bench.set, at) {
         return None;
@@ -183,7 +176,7 @@ pub fn words<'a>(net: &Net, set: &'a TableSet, unit: u16) -> Option<&'a Filled<u
 
 /// The words of a unit on the device of the set. `None` where it is not there.
 pub fn device_words<'a>(kinds: &Kinds, bench: &'a Bench, unit: u16) -> Option<&'a Filled<u64>>
-    requires { IsBench (λ k. meaning (k.vtable, k.value)) kinds.now.list.items bench.now }
+    requires { IsBench meaning kinds.now bench.now }
 {
     let _kinds = kinds;
     if is_there(&bench.net, &bench.set, Place { unit, slot: 0 }) {

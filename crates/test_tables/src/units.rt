@@ -1,17 +1,15 @@
 //! Bytes that are an image of a net of two units, or are not at one place each.
 
-ghost use Rattle.std.specs.List.{All};
-ghost use Rattle.dn_kind.specs.Terms.{IsLawful};
-ghost use Rattle.test_tables.specs.Terms.{IsBoard};
+ghost use Rattle.dn_kind.specs.Terms.{AreKinds, IsKinded};
 
 use crate::boards::two_units;
 use dn_image::check::check;
 use dn_image::fault::ImageFault;
 use dn_image::read::read;
+use dn_kind::kinded::KindedNet;
 use dn_kind::kinds::Kinds;
 use dn_kind::rights::Access;
 use dn_lookup::lookup::{LookupFault, lookup};
-use dn_net::net::Net;
 use std::alloc::Global;
 use std::process::Abort;
 use std::test::Fail;
@@ -21,17 +19,16 @@ use std::test::Fail;
 fn compare(
     rt: &impl Abort,
     alloc: Global,
-    net: &Net,
-    kinds: &Kinds,
+    on: KindedNet,
     bytes: &[u8],
     wanted: Result<u16, ImageFault>,
 )
-    requires { IsBoard (λ k. meaning (k.vtable, k.value)) kinds.now.list.items net.now }
+    requires { IsKinded meaning on }
 {
-    assert_eq!(rt; check(net, kinds, bytes), wanted);
-    let version = read(alloc, net, kinds, bytes).map(|image| image.version());
+    assert_eq!(rt; check(on, bytes), wanted);
+    let version = read(alloc, on, bytes).map(|image| image.version());
     assert_eq!(rt; version, wanted);
-    let fault = lookup(alloc, net, kinds, bytes, 3, 0, Access::Read).err();
+    let fault = lookup(alloc, on, bytes, 3, 0, Access::Read).err();
     assert_eq!(rt; fault, wanted.err().map(LookupFault::Image));
 }
 
@@ -46,41 +43,42 @@ const IMAGE: [u8; 56] = [
 
 /// Exactly the images of that net are taken.
 pub fn take_exactly_the_images(rt: &impl Abort, alloc: Global, kinds: &Kinds)
-    requires { All (λ k. IsLawful (meaning (k.vtable, k.value))) kinds.now.list.items }
+    requires { AreKinds meaning kinds.now }
 {
     let net = two_units(rt, alloc).net(alloc, kinds).expect(rt, "a net");
-    take_versions(rt, alloc, &net, kinds);
-    refuse_lengths(rt, alloc, &net, kinds);
-    name_fields(rt, alloc, &net, kinds);
+    let on = KindedNet { net: &net, kinds };
+    take_versions(rt, alloc, on);
+    refuse_lengths(rt, alloc, on);
+    name_fields(rt, alloc, on);
 }
 
 /// An image of each version is one.
-fn take_versions(rt: &impl Abort, alloc: Global, net: &Net, kinds: &Kinds)
-    requires { IsBoard (λ k. meaning (k.vtable, k.value)) kinds.now.list.items net.now }
+fn take_versions(rt: &impl Abort, alloc: Global, on: KindedNet)
+    requires { IsKinded meaning on }
 {
-    compare(rt, alloc, net, kinds, &IMAGE, Ok(2));
+    compare(rt, alloc, on, &IMAGE, Ok(2));
     let mut first = IMAGE;
     first[4] = 1;
-    compare(rt, alloc, net, kinds, &first, Ok(1));
+    compare(rt, alloc, on, &first, Ok(1));
 }
 
 /// An image that is cut at a byte is none, and neither is one with a byte too many.
-fn refuse_lengths(rt: &impl Abort, alloc: Global, net: &Net, kinds: &Kinds)
-    requires { IsBoard (λ k. meaning (k.vtable, k.value)) kinds.now.list.items net.now }
+fn refuse_lengths(rt: &impl Abort, alloc: Global, on: KindedNet)
+    requires { IsKinded meaning on }
 {
     for at in 0..56 {
         let wanted = Err(ImageFault::Short { at: at as u64 });
-        compare(rt, alloc, net, kinds, &IMAGE[..at], wanted);
+        compare(rt, alloc, on, &IMAGE[..at], wanted);
     }
     let mut longer = [0u8; 57];
     longer[..56].copy_from_slice(&IMAGE);
     let wanted = Err(ImageFault::Trailing { at: 56 });
-    compare(rt, alloc, net, kinds, &longer, wanted);
+    compare(rt, alloc, on, &longer, wanted);
 }
 
 /// The first wrong field is named.
-fn name_fields(rt: &impl Abort, alloc: Global, net: &Net, kinds: &Kinds)
-    requires { IsBoard (λ k. meaning (k.vtable, k.value)) kinds.now.list.items net.now }
+fn name_fields(rt: &impl Abort, alloc: Global, on: KindedNet)
+    requires { IsKinded meaning on }
 {
     for (at, byte, wanted) in [
         (0, b'd', ImageFault::Header { at: 0 }),
@@ -100,7 +98,7 @@ fn name_fields(rt: &impl Abort, alloc: Global, net: &Net, kinds: &Kinds)
         let mut changed = IMAGE;
         assert!(rt; at < 56);
         changed[at] = byte;
-        compare(rt, alloc, net, kinds, &changed, Err(wanted));
+        compare(rt, alloc, on, &changed, Err(wanted));
     }
 }
 

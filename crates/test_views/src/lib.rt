@@ -4,5 +4,16 @@
 //! its names resolve to by the judge there.
 #![tactic(auto)]
 
+ghost use Rattle.std.specs.Prelude.{◌≡◌};
+
+use dn_interval::End;
+
 #[cfg(test)]
 mod stages;
+
+/// The end of a row that goes on from a node's first address.
+pub fn first_end(node: u16) -> End
+    ensures { result ≡ record { node = node; base = 0 } }
+{
+    End { node, base: 0 }
+}

@@ -2,6 +2,7 @@
 
 ghost use Rattle.dn_net.specs.Terms.{IsLegalNet};
 
+use crate::first_end;
 use dn_flat::stage::Stage;
 use dn_interval::onward::follow;
 use dn_interval::{End, Row, Rows, Seg, Span, TOP};
@@ -27,7 +28,7 @@ fn sees_past_many_walks(rt: HostRuntime) {
     let machine = Machine::of_text(alloc, CROWD).expect(&rt, "a machine");
     let flat = machine.flat(alloc, 0).expect(&rt, "rows");
     // The nodes of the last level are these.
-    let ends = [End { node: 34, base: 0 }, End { node: 35, base: 0 }];
+    let ends = [first_end(34), first_end(35)];
     compare_one(&rt, flat.accepts.rows(), 0xff, &ends);
     assert!(rt; flat.stops.rows().is_empty());
 }
@@ -45,7 +46,7 @@ fn sees_what_stands_in_units(rt: HostRuntime) {
     for (node, hi) in [(1, TOP), (2, 0xffff)] {
         let flat = machine.flat(alloc, node).expect(&rt, "rows");
         assert!(rt; flat.accepts.rows().is_empty());
-        compare_one(&rt, flat.stops.rows(), hi, &[End { node: 1, base: 0 }]);
+        compare_one(&rt, flat.stops.rows(), hi, &[first_end(1)]);
     }
 }
 
@@ -68,7 +69,7 @@ fn compare_stage(rt: &impl Abort, alloc: Global, net: &Net)
     assert!(rt; net.nodes() > 0);
     assert!(rt; stage.done(0).accepts.rows().is_empty());
     // The nodes of the last level but one are these.
-    let ends = [End { node: 32, base: 0 }, End { node: 33, base: 0 }];
+    let ends = [first_end(32), first_end(33)];
     compare_one(rt, stage.go(0).rows(), 0xff, &ends);
 }
 

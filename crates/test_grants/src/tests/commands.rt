@@ -38,8 +38,8 @@ pub enum Outcome {
 
 /// Makes a command on a book. `None` where the book is not sound.
 pub fn made(alloc: Global, desk: &mut Desk<'_>, command: Command) -> Option<Outcome>
-    requires { IsDesk (λ k. meaning (k.vtable, k.value)) desk.old }
-    ensures { IsDesk (λ k. meaning (k.vtable, k.value)) desk.new }
+    requires { IsDesk meaning desk.old }
+    ensures { IsDesk meaning desk.new }
 {
     match command {
         Command::Grant(id, request) => {

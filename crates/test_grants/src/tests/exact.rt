@@ -1,8 +1,7 @@
 //! Placements at any address of an agent or at one, and whether one is admissible for parts of its buffer, for
 //! other rights, and with another of its hops for its own. The wanted answers are worked out by hand.
 
-ghost use Rattle.std.specs.List.{All};
-ghost use Rattle.dn_kind.specs.Terms.{IsLawful};
+ghost use Rattle.dn_kind.specs.Terms.{AreKinds};
 ghost use Rattle.test_grants.specs.Terms.{IsDesk};
 
 use crate::boards::{chain_plan, page_plan, port_plan, row_plan};
@@ -51,7 +50,7 @@ fn request_of(asked: Asked) -> Request {
 
 /// The first placement of a buffer.
 fn first_of(rt: &impl Abort, alloc: Global, desk: &Desk<'_>, asked: Asked) -> Option<Placement>
-    requires { IsDesk (λ k. meaning (k.vtable, k.value)) desk.now }
+    requires { IsDesk meaning desk.now }
 {
     let found = desk.first(alloc, &request_of(asked), asked.5);
     found.expect(rt, "an answer")
@@ -63,7 +62,7 @@ type First = (Asked, Option<(u64, u8, usize, u64)>);
 
 /// Compares the first placement of a buffer.
 fn compare_first(rt: &impl Abort, alloc: Global, desk: &Desk<'_>, first: First)
-    requires { IsDesk (λ k. meaning (k.vtable, k.value)) desk.now }
+    requires { IsDesk meaning desk.now }
 {
     let (asked, wanted) = first;
     let found = first_of(rt, alloc, desk, asked);
@@ -85,11 +84,11 @@ fn told(found: &Option<Placement>) -> Option<(u64, u8, usize, u64)> {
 
 /// A part of a buffer in the first placement of the whole: the number of its own hop, how many addresses it has, for
 /// what, and whether it shows exactly these. `None` where not all slots of that hop are free.
-type Part = (Asked, u8, u64, Wish, Option<bool>);
+type PartCase = (Asked, u8, u64, Wish, Option<bool>);
 
 /// Compares whether a part of a buffer is shown exactly.
-fn compare_part(rt: &impl Abort, alloc: Global, desk: &Desk<'_>, part: Part)
-    requires { IsDesk (λ k. meaning (k.vtable, k.value)) desk.now }
+fn compare_part(rt: &impl Abort, alloc: Global, desk: &Desk<'_>, part: PartCase)
+    requires { IsDesk meaning desk.now }
 {
     let (asked, own, size, wish, wanted) = part;
     let given = is_shown(rt, alloc, desk, asked, own, size, wish);
@@ -111,7 +110,7 @@ fn is_shown(
     size: u64,
     wish: Wish,
 ) -> Option<bool>
-    requires { IsDesk (λ k. meaning (k.vtable, k.value)) desk.now }
+    requires { IsDesk meaning desk.now }
 {
     let request = request_of(asked);
     let found = desk.first(alloc, &request, asked.5).expect(rt, "an answer");
@@ -126,12 +125,12 @@ fn is_shown(
 struct Table<'a> {
     granted: &'a [Asked],
     firsts: &'a [First],
-    parts: &'a [Part],
+    parts: &'a [PartCase],
 }
 
 /// Compares what is placed on a net.
 fn compare_on(rt: &impl Abort, alloc: Global, kinds: &Kinds, plan: Plan, table: Table<'_>)
-    requires { All (λ k. IsLawful (meaning (k.vtable, k.value))) kinds.now.list.items }
+    requires { AreKinds meaning kinds.now }
 {
     let board = board_of(rt, alloc, kinds, plan);
     let system = system_of(&board, kinds);
@@ -142,8 +141,8 @@ fn compare_on(rt: &impl Abort, alloc: Global, kinds: &Kinds, plan: Plan, table: 
 
 /// Grants buffers, with the ids 0, 1 and so on.
 fn grant_each(rt: &impl Abort, alloc: Global, desk: &mut Desk<'_>, granted: &[Asked])
-    requires { IsDesk (λ k. meaning (k.vtable, k.value)) desk.old }
-    ensures { IsDesk (λ k. meaning (k.vtable, k.value)) desk.new }
+    requires { IsDesk meaning desk.old }
+    ensures { IsDesk meaning desk.new }
 {
     let mut id = 0u32;
     for asked in granted {
@@ -155,7 +154,7 @@ fn grant_each(rt: &impl Abort, alloc: Global, desk: &mut Desk<'_>, granted: &[As
 
 /// Compares each row of a table.
 fn compare_table(rt: &impl Abort, alloc: Global, desk: &Desk<'_>, table: Table<'_>)
-    requires { IsDesk (λ k. meaning (k.vtable, k.value)) desk.now }
+    requires { IsDesk meaning desk.now }
 {
     for first in table.firsts {
         compare_first(rt, alloc, desk, *first);
@@ -190,7 +189,7 @@ const PAGE_FIRSTS: [First; 7] = [
 ];
 
 /// A record shows its whole page.
-const PAGE_PARTS: [Part; 5] = [
+const PAGE_PARTS: [PartCase; 5] = [
     (PAGE, 0, 0x1000, Write, Some(true)),
     (PAGE, 0, 0x800, Write, Some(false)),
     (PAGE, 0, 1, Read, Some(false)),
@@ -226,7 +225,7 @@ const PORT_FIRSTS: [First; 6] = [
 ];
 
 /// Each record shows two addresses.
-const PORT_PARTS: [Part; 4] = [
+const PORT_PARTS: [PartCase; 4] = [
     (FOUR, 0, 1, Read, Some(false)),
     (FOUR, 0, 2, Write, Some(true)),
     (FOUR, 0, 3, Both, Some(false)),
@@ -254,7 +253,7 @@ const ROW_FIRSTS: [First; 8] = [
 ];
 
 /// The outer unit shows two addresses, and both units together one.
-const ROW_PARTS: [Part; 7] = [
+const ROW_PARTS: [PartCase; 7] = [
     (LAST, 0, 2, Read, Some(true)),
     (LAST, 0, 1, Read, Some(false)),
     (INNER, 0, 1, Write, Some(true)),
@@ -266,7 +265,7 @@ const ROW_PARTS: [Part; 7] = [
 ];
 
 /// The slot of the outer unit is used by a live grant, so it may be shared, but not owned.
-const SHARED_PARTS: [Part; 2] = [
+const SHARED_PARTS: [PartCase; 2] = [
     ((4, 0, 1, 1, Read, Some(1)), 1, 1, Read, Some(true)),
     ((4, 0, 1, 1, Read, Some(1)), 0, 1, Read, None),
 ];
@@ -285,7 +284,7 @@ const CHAIN_FIRSTS: [First; 6] = [
 ];
 
 /// Each of the hops may be the own one.
-const CHAIN_PARTS: [Part; 4] = [
+const CHAIN_PARTS: [PartCase; 4] = [
     (DEEP, 0, 1, Read, Some(true)),
     (DEEP, 1, 1, Write, Some(true)),
     (DEEP, 2, 1, Both, Some(true)),
@@ -294,7 +293,7 @@ const CHAIN_PARTS: [Part; 4] = [
 
 /// Compares what is placed on four nets.
 pub fn place_and_compare(rt: &impl Abort, alloc: Global, kinds: &Kinds)
-    requires { All (λ k. IsLawful (meaning (k.vtable, k.value))) kinds.now.list.items }
+    requires { AreKinds meaning kinds.now }
 {
     let pages = Table {
         granted: &[],

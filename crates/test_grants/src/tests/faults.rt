@@ -1,14 +1,13 @@
 //! Each call of the device failed in turn: what the book and the device are left with.
 
-ghost use Rattle.std.specs.List.{All};
-ghost use Rattle.dn_kind.specs.Terms.{IsLawful};
+ghost use Rattle.dn_kind.specs.Terms.{AreKinds};
 ghost use Rattle.dn_view.specs.Terms.{IsSystem};
 ghost use Rattle.test_grants.specs.Terms.{IsDesk};
 
 use crate::calls::{board_of, desk_of, system_of};
 use crate::desk::Desk;
 use crate::tests::commands::{Choice, Command, Dice, Outcome, Small, made};
-use dn_base::device::{MakeFault, TableEvent};
+use dn_base::device::{DeviceOrMemory, TableEvent};
 use dn_kind::kinds::Kinds;
 use dn_kind::rights::Access;
 use dn_net::names::Names;
@@ -62,7 +61,7 @@ fn asked_of(rt: &impl Abort, alloc: Global, net: &Net, most: u64) -> Vec<Asked> 
 
 /// To what names resolve.
 fn views_of(rt: &impl Abort, alloc: Global, desk: &Desk<'_>, asked: &[Asked]) -> Vec<Names>
-    requires { IsDesk (λ k. meaning (k.vtable, k.value)) desk.now }
+    requires { IsDesk meaning desk.now }
 {
     let mut views = Vec::new(alloc);
     for each in asked {
@@ -74,9 +73,9 @@ fn views_of(rt: &impl Abort, alloc: Global, desk: &Desk<'_>, asked: &[Asked]) ->
 
 /// So many commands that look random, over a device that does not fail.
 fn script_of(rt: &impl Abort, alloc: Global, system: System<'_>, choice: Choice) -> Script
-    requires { IsSystem (λ k. meaning (k.vtable, k.value)) system }
+    requires { IsSystem meaning system }
 {
-    let asked = asked_of(rt, alloc, system.net, choice.most);
+    let asked = asked_of(rt, alloc, system.on.net, choice.most);
     let mut desk = desk_of(rt, alloc, system, 1000, &[]).expect(rt, "a desk");
     let views = views_of(rt, alloc, &desk, asked.as_slice());
     let turns = turns_of(rt, alloc, &mut desk, asked.as_slice(), choice);
@@ -97,7 +96,7 @@ fn turns_of(
     asked: &[Asked],
     choice: Choice,
 ) -> Vec<Turn>
-    requires { IsDesk (λ k. meaning (k.vtable, k.value)) desk.old }
+    requires { IsDesk meaning desk.old }
 {
     let mut dice = Dice::new(choice.seed);
     let mut turns = Vec::new(alloc);
@@ -125,7 +124,7 @@ fn compare_tables(
     before: &[Names],
     after: &[Names],
 )
-    requires { IsDesk (λ k. meaning (k.vtable, k.value)) desk.now }
+    requires { IsDesk meaning desk.now }
 {
     for ((each, before), after) in asked.iter().zip(before.iter()).zip(after.iter()) {
         let given = desk
@@ -138,7 +137,7 @@ fn compare_tables(
 
 /// Makes the commands of a script on a book until the device fails one. Answers whether it failed one.
 fn play(rt: &impl Abort, alloc: Global, desk: &mut Desk<'_>, script: &Script) -> bool
-    requires { IsDesk (λ k. meaning (k.vtable, k.value)) desk.old }
+    requires { IsDesk meaning desk.old }
 {
     let asked = script.asked.as_slice();
     let mut before = script.views.as_slice();
@@ -146,7 +145,7 @@ fn play(rt: &impl Abort, alloc: Global, desk: &mut Desk<'_>, script: &Script) ->
         let after = turn.views.as_slice();
         let outcome = made(alloc, desk, turn.command);
         if outcome == Some(Outcome::Failed) {
-            assert!(rt; !desk.book.is_sound());
+            assert!(rt; !desk.book.is_unfailed());
             compare_tables(rt, alloc, desk, asked, before, after);
             return true;
         }
@@ -159,11 +158,11 @@ fn play(rt: &impl Abort, alloc: Global, desk: &mut Desk<'_>, script: &Script) ->
 /// Makes the commands of a script over a device that fails at one call: what it was told before is what it is told
 /// where no call fails. Answers whether a call failed.
 fn stops(rt: &impl Abort, alloc: Global, system: System<'_>, script: &Script, call: u32) -> bool
-    requires { IsSystem (λ k. meaning (k.vtable, k.value)) system }
+    requires { IsSystem meaning system }
 {
     match desk_of(rt, alloc, system, 1000, &[call]) {
         Err(fault) => {
-            assert!(rt; fault == MakeFault::Device);
+            assert!(rt; fault == DeviceOrMemory::Device);
             true
         }
         Ok(mut desk) => {
@@ -178,7 +177,7 @@ fn stops(rt: &impl Abort, alloc: Global, system: System<'_>, script: &Script, ca
 
 /// Fails each call that the commands of a net make, the first, the second and so on, until none is left.
 fn fail_each(rt: &impl Abort, alloc: Global, kinds: &Kinds, small: Small)
-    requires { All (λ k. IsLawful (meaning (k.vtable, k.value))) kinds.now.list.items }
+    requires { AreKinds meaning kinds.now }
 {
     let board = board_of(rt, alloc, kinds, small.plan(rt, alloc));
     let system = system_of(&board, kinds);
@@ -188,7 +187,7 @@ fn fail_each(rt: &impl Abort, alloc: Global, kinds: &Kinds, small: Small)
 
 /// Fails each call of a script.
 fn fail_calls(rt: &impl Abort, alloc: Global, system: System<'_>, script: &Script)
-    requires { IsSystem (λ k. meaning (k.vtable, k.value)) system }
+    requires { IsSystem meaning system }
 {
     for call in 0..1000u32 {
         if !stops(rt, alloc, system, script, call) {
@@ -202,7 +201,7 @@ fn fail_calls(rt: &impl Abort, alloc: Global, system: System<'_>, script: &Scrip
 
 /// Leaves each address as before a command or after it, on three nets.
 pub fn fail_each_call(rt: &impl Abort, alloc: Global, kinds: &Kinds)
-    requires { All (λ k. IsLawful (meaning (k.vtable, k.value))) kinds.now.list.items }
+    requires { AreKinds meaning kinds.now }
 {
     for small in [Small::Row, Small::Chain, Small::Vectors] {
         fail_each(rt, alloc, kinds, small);

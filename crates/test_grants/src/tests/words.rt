@@ -1,6 +1,7 @@
 //! The words by which faults are named.
 
-use dn_book::book::{CommitFault, RevokeFault};
+use dn_base::device::DeviceOrMemory;
+use dn_book::book::RevokeFault;
 use dn_grant::fault::GrantFault;
 use dn_vector::fault::RouteFault;
 use std::test::Fail;
@@ -32,7 +33,7 @@ fn names_each_refusal_of_a_route(rt: HostRuntime) -> Result<(), Fail> {
 
 #[test]
 fn names_each_fault_of_a_book(rt: HostRuntime) -> Result<(), Fail> {
-    use CommitFault::{Device, OutOfMemory};
+    use DeviceOrMemory::{Device, OutOfMemory};
     let (none, failed) = (RevokeFault::NoGrant, RevokeFault::Device);
     let printed = format!(in rt.alloc(); "{Device} {OutOfMemory} {none} {failed}")?;
     assert_eq!(rt; printed.as_str(), "Device OutOfMemory NoGrant Device");

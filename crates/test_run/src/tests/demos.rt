@@ -1,7 +1,8 @@
 //! Tests of demonstrations: the line that is written, and runs that stop at a call of the device or
 //! of the sink.
 
-use crate::outcome::{Failing, Outcome, answer};
+use crate::failing::Failing;
+use crate::outcome::{Outcome, answer};
 use crate::tests::rows::front;
 use dn_base::source::Source;
 use dn_tool::run::{DEVICE_FAULT, DONE, WRITE_FAULT};

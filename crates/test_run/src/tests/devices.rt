@@ -1,6 +1,7 @@
 //! Tests of runs over a device: the units that are made, and a run that stops at one of them.
 
-use crate::outcome::{Failing, answer};
+use crate::failing::failing_calls;
+use crate::outcome::answer;
 use dn_base::device::TableEvent;
 use dn_tool::run::{DEVICE_FAULT, DONE, REFUSED};
 
@@ -16,15 +17,6 @@ resolve irt 1;
 
 /// What they are answered.
 const ANSWERED: &str = "nic@0x1: nothing\nirt@0x1: nothing\n";
-
-/// Only these calls of the device fail.
-fn failing_calls(calls: &[u32]) -> Failing<'_> {
-    Failing {
-        reads: &[],
-        writes: &[],
-        device: calls,
-    }
-}
 
 #[test]
 fn makes_each_unit_with_words_of_zero(rt: HostRuntime) {

@@ -1,7 +1,8 @@
 //! Tests of runs in which a read or a write fails, of those calls that no run makes, and of words with which nothing is
 //! read.
 
-use crate::outcome::{Failing, answer};
+use crate::failing::{Failing, failing_reads, failing_writes};
+use crate::outcome::answer;
 use crate::tests::rows::comes_to;
 use dn_base::sink::Sink;
 use dn_base::source::Source;
@@ -17,24 +18,6 @@ const ANSWERED: &str = "a@0x1: nothing\nb@0x2: no such node\n";
 
 /// The usage line, which is written with other words than `run` alone or `check` alone.
 const USAGE: &str = "usage: netconf COMMAND [N]\n";
-
-/// Only these reads fail.
-fn failing_reads(calls: &[u32]) -> Failing<'_> {
-    Failing {
-        reads: calls,
-        writes: &[],
-        device: &[],
-    }
-}
-
-/// Only these writes fail.
-fn failing_writes(calls: &[u32]) -> Failing<'_> {
-    Failing {
-        reads: &[],
-        writes: calls,
-        device: &[],
-    }
-}
 
 #[test]
 fn writes_nothing_where_a_read_fails(rt: HostRuntime) {

@@ -2,7 +2,8 @@
 
 ghost use Rattle.std.specs.Prelude.{◌<◌};
 
-use crate::outcome::{Failing, answer};
+use crate::failing::Failing;
+use crate::outcome::answer;
 use dn_base::device::TableEvent;
 use std::process::Abort;
 

@@ -1,15 +1,16 @@
 //! Tests of runs with grants, routes and revokes, of which each call of the device fails in turn.
 
-use crate::outcome::{Failing, Outcome, answer};
+use crate::failing::failing_calls;
+use crate::outcome::{Outcome, answer};
 use crate::tests::rows::front;
 use dn_base::device::TableEvent;
 use dn_tool::run::{DEVICE_FAULT, DONE};
 use std::alloc::Global;
 use std::process::Abort;
 
-/// The platform of a script.
+/// The board of a script.
 #[derive(Clone, Copy)]
-enum Platform {
+enum Board {
     /// A card behind `bridge`, node 2, and `smmu`, node 4.
     Card,
     /// A network card whose interrupts go through `irt`, node 2.
@@ -20,7 +21,7 @@ enum Platform {
 /// events.
 #[derive(Clone, Copy)]
 struct Script<'a> {
-    platform: Platform,
+    platform: Board,
     text: &'a str,
     replies: &'a str,
     events: &'a [TableEvent],
@@ -28,7 +29,7 @@ struct Script<'a> {
 
 /// A script with these replies and events.
 fn script_of<'a>(
-    platform: Platform,
+    platform: Board,
     text: &'a str,
     replies: &'a str,
     events: &'a [TableEvent],
@@ -83,17 +84,17 @@ fn word_in(events: &[TableEvent], unit: u16, word: u32) -> u64 {
 
 /// Where the words that events leave lead a page of the card or a line of the network card: to a
 /// page of the memory or to a vector, or nowhere.
-fn end_of(platform: Platform, events: &[TableEvent], input: u16) -> Option<u64> {
+fn end_of(platform: Board, events: &[TableEvent], input: u16) -> Option<u64> {
     let input = u32::from(input);
     match platform {
-        Platform::Card => {
+        Board::Card => {
             // Four pages are a slot of `bridge`, which may send them to the four slots of `smmu`
             // alone.
             let near = word_in(events, 2, input / 4);
             let far = word_in(events, 4, input % 4);
             (near == 1 && far % 256 == 1).then_some(far / 256)
         }
-        Platform::Network => {
+        Board::Network => {
             let vector = word_in(events, 2, 2 * input);
             let gate = word_in(events, 2, 2 * input + 1);
             (gate == 1).then_some(vector)
@@ -104,11 +105,7 @@ fn end_of(platform: Platform, events: &[TableEvent], input: u16) -> Option<u64> 
 /// Runs a script over a device of which one call fails.
 fn run_failing(rt: &impl Abort, alloc: Global, script: &Script<'_>, call: u32) -> Outcome {
     let calls = [call];
-    let failing = Failing {
-        reads: &[],
-        writes: &[],
-        device: &calls,
-    };
+    let failing = failing_calls(&calls);
     answer(rt, alloc, &["run"], script.text.as_bytes(), 4096, failing)
 }
 
@@ -203,7 +200,7 @@ fn stops_in_grants_and_revokes(rt: HostRuntime) {
         freed(2, 0),
         freed(4, 0),
     ];
-    let script = script_of(Platform::Card, CARD, GRANTED, &events);
+    let script = script_of(Board::Card, CARD, GRANTED, &events);
     // With both buffers the first pages lead to them, and no other page leads anywhere.
     for (page, end) in [
         (0, Some(4)),
@@ -213,7 +210,7 @@ fn stops_in_grants_and_revokes(rt: HostRuntime) {
         (4, None),
     ] {
         let granted = front(&events, 6);
-        assert_eq!(rt; end_of(Platform::Card, granted, page), end, "{page}");
+        assert_eq!(rt; end_of(Board::Card, granted, page), end, "{page}");
     }
     let turns = [
         (2, 0),
@@ -258,9 +255,9 @@ fn stops_in_routes(rt: HostRuntime) {
         written(2, 6, 0x20),
         written(2, 7, 1),
     ];
-    let script = script_of(Platform::Network, NETWORK, ROUTED, &events);
-    assert_eq!(rt; end_of(Platform::Network, front(&events, 3), 2), Some(0x20));
-    assert_eq!(rt; end_of(Platform::Network, front(&events, 3), 3), None);
+    let script = script_of(Board::Network, NETWORK, ROUTED, &events);
+    assert_eq!(rt; end_of(Board::Network, front(&events, 3), 2), Some(0x20));
+    assert_eq!(rt; end_of(Board::Network, front(&events, 3), 3), None);
     let turns = [(1, 0), (3, 15), (3, 34), (5, 45), (8, 60)].map(|(events, bytes)| Done {
         events,
         bytes,

@@ -1,7 +1,8 @@
-use Rattle.std.proofs.Common.{◌≡◌, ◌<◌, ◌≤◌, suc, sym, subst, rules, arith, map, List, [], ◌∷◌, true, false, is_err}
+use Rattle.std.proofs.Common.{◌≡◌, ◌<◌, ◌≤◌, suc, sym, subst, rules, arith, List, [], ◌∷◌, true, false, is_err}
 use Rattle.dn_base.proofs.Counts.{counted_none, counted_then}
 use Rattle.dn_base.specs.Outside.{IsCounted}
 use Rattle.dn_kind.specs.Kind.{Meaning}
+use Rattle.dn_kind.specs.Kinded.{kinds_of}
 use Rattle.dn_tables.specs.Set.{IsPackableIn}
 use Rattle.dn_tables.proofs.Slots.{all_of_map}
 use Rattle.dn_placement.specs.Records.{first_slot, last_slot}
@@ -13,9 +14,9 @@ use Rattle.dn_book.proofs.puts.put_slots.Goals as goal
 
 pub put_slot-requires : goal.put_slot-requires
 put_slot-requires g c =
-    let kinds : List Meaning = map (λ k. (goal.UnitKind-dyn g (k.vtable, k.value)).meaning k.value) c.args.kinds.now.list.items in
+    let kinds : List Meaning = kinds_of (λ k. (goal.UnitKind-dyn g k).meaning k.1) c.args.kinds.now in
     let hop : HopPuts kinds c.args.tables.now c.args.unit.now c.args.size c.args.rights c.args.hop.now = record {
-      lawful = all_of_map (λ k. (goal.UnitKind-dyn g (k.vtable, k.value)).meaning k.value) c.args.kinds.now.list.items c.requires.lawful;
+      lawful = all_of_map _ c.args.kinds.now.list.items c.requires.lawful;
       is_set = c.facts.ensures;
       fits = c.requires.fits;
       at = c.requires.is_unit;
@@ -38,7 +39,7 @@ put_slot-requires g c =
 
 pub returns-in_err-put_slot-clause-put : goal.returns-in_err-put_slot-clause-put
 returns-in_err-put_slot-clause-put g c =
-    let kinds : List Meaning = map (λ k. (goal.UnitKind-dyn g (k.vtable, k.value)).meaning k.value) c.args.kinds.now.list.items in
+    let kinds : List Meaning = kinds_of (λ k. (goal.UnitKind-dyn g k).meaning k.1) c.args.kinds.now in
     let low : first_slot c.args.unit.now c.args.hop.now ≤ c.loop-slot.slot = let a = c.loop-slot.auto.slot in let v = c.first_slot-slot.ensures.value in omega arith in
     let high : c.loop-slot.slot < suc (last_slot c.args.unit.now c.args.size c.args.hop.now) = let a = c.loop-slot-test.true in let v = c.end_slot-slot-end.ensures.value in omega arith in
     let failed : is_err c.from_residual.result ≡ true = search rules in
@@ -48,7 +49,7 @@ returns-in_err-put_slot-clause-put g c =
 
 pub loop-slot-preserved : goal.loop-slot-preserved
 loop-slot-preserved g c =
-    let kinds : List Meaning = map (λ k. (goal.UnitKind-dyn g (k.vtable, k.value)).meaning k.value) c.args.kinds.now.list.items in
+    let kinds : List Meaning = kinds_of (λ k. (goal.UnitKind-dyn g k).meaning k.1) c.args.kinds.now in
     let low : first_slot c.args.unit.now c.args.hop.now ≤ c.loop-slot.slot = let a = c.loop-slot.auto.slot in let v = c.first_slot-slot.ensures.value in omega arith in
     let high : c.loop-slot.slot < suc (last_slot c.args.unit.now c.args.size c.args.hop.now) = let a = c.loop-slot-test.true in let v = c.end_slot-slot-end.ensures.value in omega arith in
     let was : is_err c.put_slot.result ≡ false = search rules in
@@ -60,12 +61,12 @@ loop-slot-preserved g c =
 
 pub returns-clause-put : goal.returns-clause-put
 returns-clause-put g c =
-    let kinds : List Meaning = map (λ k. (goal.UnitKind-dyn g (k.vtable, k.value)).meaning k.value) c.args.kinds.now.list.items in
+    let kinds : List Meaning = kinds_of (λ k. (goal.UnitKind-dyn g k).meaning k.1) c.args.kinds.now in
     put_end kinds _ _ _ _ _ _ (so_far_all c.args.unit.now c.args.size c.args.rights c.args.hop.now c.loop-slot.slot (behind_last c.args.unit.now c.args.size c.args.hop.now c.first_slot-slot.result c.end_slot-slot-end.result c.loop-slot.slot c.requires.there c.first_slot-slot.ensures.value c.end_slot-slot-end.ensures.value c.loop-slot.auto.slot-end c.loop-slot-test.false)) c.loop-slot.invariant.put
 
 pub loop-slot-init : goal.loop-slot-init
 loop-slot-init g c =
-    let kinds : List Meaning = map (λ k. (goal.UnitKind-dyn g (k.vtable, k.value)).meaning k.value) c.args.kinds.now.list.items in
+    let kinds : List Meaning = kinds_of (λ k. (goal.UnitKind-dyn g k).meaning k.1) c.args.kinds.now in
     record {
       put = put_begin kinds _ (g.D.Tables.log c.args.device.now) c.args.tables.now (so_far_none c.args.unit.now c.args.rights c.args.hop.now c.first_slot-slot.result c.first_slot-slot.ensures.value);
       on_device = c.requires.on_device;

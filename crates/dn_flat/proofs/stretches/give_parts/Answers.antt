@@ -2,7 +2,7 @@
 use Rattle.std.proofs.Common.{ℕ, true}
 use Rattle.dn_interval.specs.declared.row.End.{End}
 use Rattle.dn_interval.specs.declared.row.Seg.{Seg}
-use Rattle.dn_flat.specs.declared.found.Part.TheVariants.{Accepts}
+use Rattle.dn_flat.specs.declared.found.Continuation.TheVariants.{Accepts}
 use Rattle.dn_flat.specs.Onward.{leads_by, seg_leads}
 use Rattle.dn_flat.proofs.Stretched.{all_given, more_given, none_given, not_given}
 use Rattle.dn_flat.proofs.stretches.give_parts.Goals as goal

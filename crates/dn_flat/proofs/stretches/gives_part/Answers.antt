@@ -4,7 +4,7 @@ use Rattle.std.specs.List.{list_all}
 use Rattle.dn_base.proofs.Booleans.{means_then}
 use Rattle.dn_interval.specs.declared.row.Seg.{Seg}
 use Rattle.dn_interval.specs.Strands.{segs_give}
-use Rattle.dn_flat.specs.declared.found.Part.TheVariants.{Accepts}
+use Rattle.dn_flat.specs.declared.found.Continuation.TheVariants.{Accepts}
 use Rattle.dn_flat.specs.Onward.{leads_by, seg_leads}
 use Rattle.dn_flat.specs.Stretches.{is_part}
 use Rattle.dn_flat.proofs.Lists.{means_along}

@@ -4,7 +4,7 @@ use Rattle.dn_interval.specs.declared.row.End.{End}
 use Rattle.dn_interval.specs.declared.row.Row.{Row}
 use Rattle.dn_interval.specs.Onward.{rows_go}
 use Rattle.dn_interval.specs.Spans.{in_span}
-use Rattle.dn_flat.specs.declared.found.Part.TheVariants.{Accepts}
+use Rattle.dn_flat.specs.declared.found.Continuation.TheVariants.{Accepts}
 use Rattle.dn_flat.specs.Onward.{leads_by}
 use Rattle.dn_flat.proofs.Stretched.{all_given, more_given, none_given, not_given}
 use Rattle.dn_flat.proofs.stretches.is_alone.Goals as goal

@@ -6,7 +6,7 @@ use Rattle.dn_interval.specs.declared.row.End.{End}
 use Rattle.dn_interval.specs.Spans.{in_span}
 use Rattle.dn_interval.specs.Strands.{segs_give, rows_give}
 use Rattle.dn_interval.specs.Onward.{rows_go}
-use Rattle.dn_flat.specs.declared.found.Part.TheVariants.{Accepts}
+use Rattle.dn_flat.specs.declared.found.Continuation.TheVariants.{Accepts}
 use Rattle.dn_flat.specs.Onward.{leads_by, segs_lead}
 use Rattle.dn_flat.specs.Stretches.{GivesAll}
 use Rattle.dn_flat.proofs.Going.{onward_same}

@@ -8,7 +8,7 @@ use Rattle.dn_interval.specs.Onward.{gives_by}
 use Rattle.dn_interval.specs.Rows.{AreNormal, SegmentsGive}
 use Rattle.dn_interval.specs.Strands.{segs_give}
 use Rattle.dn_net.specs.declared.node.NodeDecl.{NodeDecl}
-use Rattle.dn_flat.specs.declared.found.Part.TheVariants.{Accepts}
+use Rattle.dn_flat.specs.declared.found.Continuation.TheVariants.{Accepts}
 use Rattle.dn_flat.specs.declared.reach.Reach.{Reach}
 use Rattle.dn_flat.specs.Levels.{AreLevels, NearFrom}
 use Rattle.dn_flat.specs.Onward.{leads_by, levels_lead, seg_leads}

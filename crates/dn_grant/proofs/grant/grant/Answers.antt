@@ -1,17 +1,16 @@
-use Rattle.std.proofs.Common.{refl, map}
-use Rattle.dn_tables.proofs.Slots.{all_of_map}
+use Rattle.std.proofs.Common.{refl}
 use Rattle.dn_grant.proofs.Allowed.{allowed_is, allowed_within, allowed_grant, no_addition, still_faithful}
 use Rattle.dn_grant.proofs.grant.grant.Goals as goal
 
 pub first_in_book-requires-clause-request : goal.first_in_book-requires-clause-request
 first_in_book-requires-clause-request g c =
-    let is = allowed_is c.args.system.net.now c.args.book.now.grants c.args.id c.args.request.now (c.refusal.ensures.none c.in_default.is) in
-    let within = allowed_within c.args.system.net.now c.args.book.now.grants c.args.id c.args.request.now is in
+    let is = allowed_is c.args.system.on.net.now c.args.book.now.grants c.args.id c.args.request.now (c.refusal.ensures.none c.in_default.is) in
+    let within = allowed_within c.args.system.on.net.now c.args.book.now.grants c.args.id c.args.request.now is in
     record { agent = is.agent; rights = c.requires.rights; some = within.0; buffer = within.1 }
 
 pub commit-requires-clause-placed : goal.commit-requires-clause-placed
 commit-requires-clause-placed g c =
-    allowed_grant c.args.system.net.now c.args.book.now.grants c.args.id c.args.request.now c.in-Ok-Some.placement
+    allowed_grant c.args.system.on.net.now c.args.book.now.grants c.args.id c.args.request.now c.in-Ok-Some.placement
     (c.refusal.ensures.none c.in_default.is) c.requires.rights (rw c.in-Ok-Some.field-0-is at c.in-Ok-Some.ensures.first)
 
 pub returns-in-Err-Device-clause-stopped : goal.returns-in-Err-Device-clause-stopped
@@ -24,7 +23,15 @@ returns-in-Err-Device-clause-stopped g c =
 
 pub returns-in-Ok-None-clause-turn : goal.returns-in-Ok-None-clause-turn
 returns-in-Ok-None-clause-turn g c =
-    (record { allowed = c.refusal.ensures.none c.in_default.is; none = c.in-Ok-None.ensures.none c.in-Ok-None.field-0-is }, refl)
+    let allowed = c.refusal.ensures.none c.in_default.is in
+    let none = c.in-Ok-None.ensures.none c.in-Ok-None.field-0-is in (
+      record {
+        allowed = allowed;
+        none = none;
+        complete = λ one. no_addition c.args.system.on.net.now c.args.book.now.grants c.args.id c.args.request.now c.requires.system.kinded.legal.legal c.requires.kept.sound allowed c.requires.rights one none;
+      },
+      refl,
+    )
 
 pub returns-in-Ok-clause-turn : goal.returns-in-Ok-clause-turn
 returns-in-Ok-clause-turn g c =
@@ -37,7 +44,7 @@ returns-in-Ok-clause-turn g c =
 
 pub returns-in-Ok-clause-faithful : goal.returns-in-Ok-clause-faithful
 returns-in-Ok-clause-faithful g c =
-    still_faithful c.args.system.net.now c.args.book.now.grants _ c.args.id c.args.request.now c.in-Ok-Some.placement c.requires.system.legal.legal c.requires.kept.sound
+    still_faithful c.args.system.on.net.now c.args.book.now.grants _ c.args.id c.args.request.now c.in-Ok-Some.placement c.requires.system.kinded.legal.legal c.requires.kept.sound
     (c.refusal.ensures.none c.in_default.is) c.requires.rights (rw c.in-Ok-Some.field-0-is at c.in-Ok-Some.ensures.first) c.in-Ok.ensures.granted
 
 pub returns-in-Ok-clause-granted : goal.returns-in-Ok-clause-granted
@@ -46,10 +53,3 @@ returns-in-Ok-clause-granted g c = record {
   placed = record { allowed = c.refusal.ensures.none c.in_default.is; first = (rw c.in-Ok-Some.field-0-is at c.in-Ok-Some.ensures.first) };
   added = c.in-Ok.ensures.added (λ e. cc);
 }
-
-pub returns-in-Ok-None-clause-complete : goal.returns-in-Ok-None-clause-complete
-returns-in-Ok-None-clause-complete g c =
-    let ks = map (λ k. (goal.UnitKind-dyn g (k.vtable, k.value)).meaning k.value) c.args.system.kinds.now.list.items in
-    λ e one. no_addition c.args.system.net.now ks c.args.book.now.grants c.args.book.now.set c.args.id c.args.request.now c.requires.system.legal.legal
-    (all_of_map _ c.args.system.kinds.now.list.items c.requires.system.lawful) c.requires.kept (c.refusal.ensures.none c.in_default.is) c.requires.rights one
-    (c.in-Ok-None.ensures.none c.in-Ok-None.field-0-is)

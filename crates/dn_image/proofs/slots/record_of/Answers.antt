@@ -1,6 +1,8 @@
-use Rattle.std.proofs.Common.{◌≡◌, ◌∙◌, ◌*◌, ap, map, take, drop, length, List, ℕ, arith}
+use Rattle.std.proofs.Common.{◌≡◌, ◌∙◌, ◌*◌, ap, take, drop, length, List, ℕ, arith}
 use Rattle.std.proofs.lemmas.List.{take_rest, length-drop}
 use Rattle.dn_kind.specs.Kind.{Meaning}
+use Rattle.dn_kind.specs.Kinded.{kinds_of}
+use Rattle.dn_tables.proofs.Fresh.{kind_there}
 use Rattle.dn_image.specs.Bytes.{words_spelled}
 use Rattle.dn_image.specs.Image.{width_of}
 use Rattle.dn_image.proofs.Numbers.{length_spelled}
@@ -10,8 +12,8 @@ use Rattle.dn_image.proofs.slots.record_of.Goals.{After-from-width}
 use Rattle.dn_image.proofs.slots.record_of.Goals as goal
 
 -- where the words of the slot begin
-place_of : (g : Over) (c : After-from-width g) → IsPlace (width_of (map (λ k. (goal.UnitKind-dyn g (k.vtable, k.value)).meaning k.value) c.args.kinds.now.list.items) c.args.unit.now) c.args.unit.now.slots (length c.args.bytes.now) c.args.slot c.from-width.result
-place_of g c = slot_place (width_of (map (λ k. (goal.UnitKind-dyn g (k.vtable, k.value)).meaning k.value) c.args.kinds.now.list.items) c.args.unit.now) c.args.unit.now.slots (length c.args.bytes.now) c.args.slot c.from-width.result (c.from-width.ensures ∙ c.record_width.ensures.width) c.requires.slot c.requires.room
+place_of : (g : Over) (c : After-from-width g) → IsPlace (width_of (kinds_of (λ k. (goal.UnitKind-dyn g k).meaning k.1) c.args.kinds.now) c.args.unit.now) c.args.unit.now.slots (length c.args.bytes.now) c.args.slot c.from-width.result
+place_of g c = slot_place (width_of (kinds_of (λ k. (goal.UnitKind-dyn g k).meaning k.1) c.args.kinds.now) c.args.unit.now) c.args.unit.now.slots (length c.args.bytes.now) c.args.slot c.from-width.result (c.from-width.ensures ∙ c.record_width.ensures.width) c.requires.slot c.requires.room
 
 pub record_width-requires-clause-known : goal.record_width-requires-clause-known
 record_width-requires-clause-known g c = kind_known (λ k. (goal.UnitKind-dyn g (k.vtable, k.value)).meaning k.value) c.args.kinds.now.list.items c.args.unit.now c.requires.shaped
@@ -51,7 +53,7 @@ record_by-requires-clause-words g c = ap length c.read_slot-words.ensures ∙ le
 
 pub returns : goal.returns
 returns g c =
-    let kinds : List Meaning = map (λ k. (goal.UnitKind-dyn g (k.vtable, k.value)).meaning k.value) c.args.kinds.now.list.items in
+    let kinds : List Meaning = kinds_of (λ k. (goal.UnitKind-dyn g k).meaning k.1) c.args.kinds.now in
     let w : ℕ = width_of kinds c.args.unit.now in
     let width : c.from-width.result ≡ w = (place_of g (goal.at.returns g c).After-from-width).same in
     let first : ℕ = 8 * (c.args.slot * c.from-width.result) in
@@ -59,4 +61,5 @@ returns g c =
     c.read_slot-words.ensures
     ∙ ap (words_spelled c.from-width.result) (take_rest c.args.bytes.now first)
     ∙ ap (λ n. words_spelled n (drop (8 * (c.args.slot * n)) c.args.bytes.now)) width in
-    c.record_by.ensures ∙ record_said kinds c.args.unit.now c.args.slot c.args.bytes.now (take c.from-width.result c.read_slot-words.result) c.requires.slot read
+    let k = kind_there kinds c.args.unit.now c.requires.shaped in
+    c.record_by.ensures k.0 k.1 ∙ record_said kinds c.args.unit.now k.0 c.args.slot c.args.bytes.now (take c.from-width.result c.read_slot-words.result) k.1 c.requires.slot read

@@ -1,7 +1,8 @@
-use Rattle.std.proofs.Common.{◌∙◌, ◌++◌, ap, sym, map, List, ℕ}
+use Rattle.std.proofs.Common.{◌∙◌, ◌++◌, ap, sym, List, ℕ}
 use Rattle.std.specs.Option.{option_copied}
 use Rattle.dn_base.proofs.Told.{on_ok_then}
 use Rattle.dn_kind.specs.Kind.{Meaning}
+use Rattle.dn_kind.specs.Kinded.{kinds_of}
 use Rattle.dn_tables.specs.Set.{words_in}
 use Rattle.dn_image.specs.Bytes.{word_bytes}
 use Rattle.dn_image.specs.Image.{head_of, unit_bytes}
@@ -13,7 +14,7 @@ record_width-width-requires-clause-known g c = kind_within (λ k. (goal.UnitKind
 
 pub returns-in-Some : goal.returns-in-Some
 returns-in-Some g c =
-    let kinds : List Meaning = map (λ k. (goal.UnitKind-dyn g (k.vtable, k.value)).meaning k.value) c.args.kinds.now.list.items in
+    let kinds : List Meaning = kinds_of (λ k. (goal.UnitKind-dyn g k).meaning k.1) c.args.kinds.now in
     on_ok_then c.push_unit.result _ _ (λ e.
     e
     ∙ ap (λ (w : List ℕ). c.args.out.now.items ++ (head_of c.args.node c.record_width-width.result c.in-Some.unit.now.slots ++ word_bytes w)) c.words.ensures.value

@@ -1,6 +1,7 @@
-use Rattle.std.proofs.Common.{◌≡◌, ◌++◌, drop, length, map, IsTrue}
+use Rattle.std.proofs.Common.{◌≡◌, ◌++◌, drop, length, IsTrue}
 use Rattle.dn_net.specs.Decode.{is_accepted}
 use Rattle.dn_net.specs.Names.{each_step, passing_names}
+use Rattle.dn_kind.specs.Kinded.{kinds_of}
 use Rattle.dn_kind.specs.Tables.{steps_under}
 use Rattle.dn_kind.specs.Levels.{are_there}
 use Rattle.dn_lookup.specs.Lookup.{bytes_records}
@@ -8,10 +9,10 @@ use Rattle.dn_lookup.proofs.levels.next_level.Given as goal
 
 abbrev pub invariant-loop-name : goal.invariant-loop-name
 invariant-loop-name g l =
-    let kinds = map (λ k. (goal.UnitKind-dyn g (k.vtable, k.value)).meaning k.value) l.image.kinds.now.list.items in
-    let f = steps_under l.image.net.now (bytes_records l.image.net.now kinds l.image.bytes.now l.image.version l.access) in
+    let kinds = kinds_of (λ k. (goal.UnitKind-dyn g k).meaning k.1) l.image.on.kinds.now in
+    let f = steps_under l.image.on.net.now (bytes_records l.image.on.net.now kinds l.image.bytes.now l.image.version l.access) in
     record {
-      accepted : l.accepted.items ++ passing_names (is_accepted l.image.net.now) (drop l.name-index l.level) ≡ l.initial.accepted.items ++ passing_names (is_accepted l.image.net.now) l.level;
+      accepted : l.accepted.items ++ passing_names (is_accepted l.image.on.net.now) (drop l.name-index l.level) ≡ l.initial.accepted.items ++ passing_names (is_accepted l.image.on.net.now) l.level;
       next : l.next.items ++ each_step f (drop l.name-index l.level) ≡ each_step f l.level;
-      there : IsTrue (are_there (length l.image.net.now) (drop l.name-index l.level));
+      there : IsTrue (are_there (length l.image.on.net.now) (drop l.name-index l.level));
     }

@@ -1,5 +1,5 @@
 -- Round by round.
-use Rattle.std.proofs.Common.{rules, ◌≡◌, ◌∙◌, ◌+◌, ◌-◌, ◌++◌, ◌⊎◌, ◌↔◌, ℕ, [], ◌∷◌, ap, sym, subst, suc, map, length, List, arith, IsTrue}
+use Rattle.std.proofs.Common.{rules, ◌≡◌, ◌∙◌, ◌+◌, ◌-◌, ◌++◌, ◌⊎◌, ◌↔◌, ℕ, [], ◌∷◌, ap, sym, subst, suc, length, List, arith, IsTrue}
 use Rattle.std.specs.List.{All}
 use Rattle.dn_base.proofs.Booleans.{means_then}
 use Rattle.dn_net.specs.declared.node.Name.{Name}
@@ -7,6 +7,7 @@ use Rattle.dn_net.specs.declared.node.NodeDecl.{NodeDecl}
 use Rattle.dn_net.specs.Chain.{Member}
 use Rattle.dn_net.specs.Names.{sorted_names}
 use Rattle.dn_kind.specs.Kind.{IsLawful, Meaning}
+use Rattle.dn_kind.specs.Kinded.{kinds_of}
 use Rattle.dn_kind.specs.Levels.{are_there}
 use Rattle.dn_kind.specs.Tables.{Held, AreHeld, ResolvesUnder, resolved_names_under}
 use Rattle.dn_kind.proofs.Nodes.{resolved_under_there}
@@ -22,10 +23,10 @@ use Rattle.dn_lookup.proofs.levels.resolve_by.Goals as goal
 
 pub loop-init : goal.loop-init
 loop-init g c =
-    let kinds : List Meaning = map (λ k. (goal.UnitKind-dyn g (k.vtable, k.value)).meaning k.value) c.args.image.kinds.now.list.items in
-    let net = c.args.image.net.now in
-    let h : Held = bytes_records c.args.image.net.now (map (λ k. (goal.UnitKind-dyn g (k.vtable, k.value)).meaning k.value) c.args.image.kinds.now.list.items) c.args.image.bytes.now c.args.image.version c.args.access in
-    let lawful : All IsLawful kinds = all_of_map (λ k. (goal.UnitKind-dyn g (k.vtable, k.value)).meaning k.value) c.args.image.kinds.now.list.items c.requires.image.lawful in
+    let kinds : List Meaning = kinds_of (λ k. (goal.UnitKind-dyn g k).meaning k.1) c.args.image.on.kinds.now in
+    let net = c.args.image.on.net.now in
+    let h : Held = bytes_records c.args.image.on.net.now (kinds_of (λ k. (goal.UnitKind-dyn g k).meaning k.1) c.args.image.on.kinds.now) c.args.image.bytes.now c.args.image.version c.args.access in
+    let lawful : All IsLawful kinds = all_of_map _ c.args.image.on.kinds.now.list.items c.requires.image.on.lawful in
     let held : AreHeld net h = through_held net kinds c.args.image.bytes.now c.args.image.version c.args.access lawful in
     let round : c.push.new.self.items ≡ c.args.name ∷ [] = c.in_ok-push.ensures.items ∙ ap (λ (l : List Name). l ++ c.args.name ∷ []) c.new-round.ensures.items in
     record {
@@ -35,8 +36,8 @@ loop-init g c =
 
 pub loop-preserved : goal.loop-preserved
 loop-preserved g c =
-    let net = c.args.image.net.now in
-    let h : Held = bytes_records c.args.image.net.now (map (λ k. (goal.UnitKind-dyn g (k.vtable, k.value)).meaning k.value) c.args.image.kinds.now.list.items) c.args.image.bytes.now c.args.image.version c.args.access in
+    let net = c.args.image.on.net.now in
+    let h : Held = bytes_records c.args.image.on.net.now (kinds_of (λ k. (goal.UnitKind-dyn g k).meaning k.1) c.args.image.on.kinds.now) c.args.image.bytes.now c.args.image.version c.args.access in
     let same : c.as_slice.result.now ≡ c.loop.round.items = search rules in
     let accepted : AddsThose (IsResolvedOf net c.loop.round.items) c.loop.accepted.items c.push_round.new.accepted.items = subst (λ (l : List Name). AddsThose (IsResolvedOf net l) c.loop.accepted.items c.push_round.new.accepted.items) same c.in_ok-push_round.ensures.accepted in
     let sent : AddsThose (IsSentOf net h c.loop.round.items) [] c.push_round.new.next.items = subst (λ (l : List Name). AddsThose (IsSentOf net h c.loop.round.items) l c.push_round.new.next.items) c.new-next.ensures.items (subst (λ (l : List Name). AddsThose (IsSentOf net h l) c.new-next.result.items c.push_round.new.next.items) same c.in_ok-push_round.ensures.next) in
@@ -52,8 +53,8 @@ whole net h x known round left none is = names_are net h x known (λ z. no_round
 
 pub returns : goal.returns
 returns g c =
-    let net = c.args.image.net.now in
-    let h : Held = bytes_records c.args.image.net.now (map (λ k. (goal.UnitKind-dyn g (k.vtable, k.value)).meaning k.value) c.args.image.kinds.now.list.items) c.args.image.bytes.now c.args.image.version c.args.access in
+    let net = c.args.image.on.net.now in
+    let h : Held = bytes_records c.args.image.on.net.now (kinds_of (λ k. (goal.UnitKind-dyn g k).meaning k.1) c.args.image.on.kinds.now) c.args.image.bytes.now c.args.image.version c.args.access in
     let none : 4 - c.loop.counter ≡ 0 = (let t = c.loop-test.false in omega (arith, t)) in
     let all = whole net h c.args.name c.loop.accepted.items c.loop.round.items (4 - c.loop.counter) none c.loop.invariant.so_far in
     record {

@@ -3,7 +3,7 @@ use Rattle.std.proofs.Common.{◌≡◌, ◌∙◌, ◌+◌, ◌++◌, ◌∷◌
 use Rattle.std.specs.List.Sorted.{IsNonDecreasingBy, IsPermutation}
 use Rattle.dn_net.specs.declared.entries.Place.{Place}
 use Rattle.dn_net.specs.declared.node.Block.{Block}
-use Rattle.dn_net.specs.declared.spans.Span.{Span}
+use Rattle.dn_net.specs.declared.spans.NodeBlock.{NodeBlock}
 use Rattle.dn_net.specs.Rules.{block_in_range}
 use Rattle.dn_net.specs.Spans.{node_spans}
 use Rattle.dn_net.proofs.Blocks.{merged, merged_more, merged_all, merged_same, merged_sorted, merged_in_range}
@@ -15,7 +15,7 @@ loop-place-preserved c =
     let maps = c.args.maps.now in
     let z : Place = record { block = record { lo = 0; hi = 0 }; entry = 0 } in
     let place : Place = get_or maps c.loop-place.place-index z in
-    let span : Span = record { block = place.block; mapped = true } in
+    let span : NodeBlock = record { block = place.block; mapped = true } in
     let next = drop (c.loop-place.place-index + 1) maps in
     let spans = c.loop-place.spans.items in
     let rest = c.loop-place.rest.now in
@@ -34,7 +34,7 @@ pub returns-clause-same : goal.returns-clause-same
 returns-clause-same c = subst (λ l. IsPermutation (node_spans c.args.maps.now c.args.accepts.now) l) (sym (whole (goal.at.returns-clause-same c).In_ok-push_accepts-2)) (merged_same c.args.maps.now c.args.accepts.now)
 
 pub returns-clause-sorted : goal.returns-clause-sorted
-returns-clause-sorted c = subst (λ l. IsNonDecreasingBy (λ (s : Span). s.block.lo) l) (sym (whole (goal.at.returns-clause-sorted c).In_ok-push_accepts-2)) (merged_sorted c.args.maps.now c.args.accepts.now c.requires.maps c.requires.accepts)
+returns-clause-sorted c = subst (λ l. IsNonDecreasingBy (λ (s : NodeBlock). s.block.lo) l) (sym (whole (goal.at.returns-clause-sorted c).In_ok-push_accepts-2)) (merged_sorted c.args.maps.now c.args.accepts.now c.requires.maps c.requires.accepts)
 
 pub returns-clause-in_range : goal.returns-clause-in_range
-returns-clause-in_range c = subst (λ l. All (λ (s : Span). IsTrue (block_in_range s.block)) l) (sym (whole (goal.at.returns-clause-in_range c).In_ok-push_accepts-2)) (merged_in_range c.args.maps.now c.args.accepts.now c.requires.maps_in_range c.requires.accepts_in_range)
+returns-clause-in_range c = subst (λ l. All (λ (s : NodeBlock). IsTrue (block_in_range s.block)) l) (sym (whole (goal.at.returns-clause-in_range c).In_ok-push_accepts-2)) (merged_in_range c.args.maps.now c.args.accepts.now c.requires.maps_in_range c.requires.accepts_in_range)

@@ -1,14 +1,14 @@
 use Rattle.std.proofs.Common.{ℕ, ◌<◌, ◌+◌, ◌*◌, length, map}
 use Rattle.dn_token.specs.Cursor.{cursor_view}
-use Rattle.dn_parse.specs.declared.expressions.Row.{Row}
-use Rattle.dn_parse.specs.declared.expressions.Row.TheVariants.{Product, Sum}
+use Rattle.dn_parse.specs.declared.expressions.Operation.{Operation}
+use Rattle.dn_parse.specs.declared.expressions.Operation.TheVariants.{Product, Sum}
 use Rattle.dn_parse.specs.Views.{expr_view}
 use Rattle.dn_parse.specs.Rows.{next_member_at, members_at}
 use Rattle.dn_parse.proofs.Series.{Found}
 use Rattle.dn_parse.proofs.expressions.+expressions.Given as goal
 
 -- a sum is made of products, and these of factors
-abbrev pub height : Row → ℕ
+abbrev pub height : Operation → ℕ
 height Product = 1
 height Sum = 4
 

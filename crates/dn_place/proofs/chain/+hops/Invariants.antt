@@ -1,6 +1,7 @@
 use Rattle.std.proofs.Common.{◌≡◌, ◌+◌, ◌-◌, ◌*◌, ◌/◌, ◌%◌, ◌^◌, ◌≤◌, length, drop}
 use Rattle.dn_place.specs.Hops.{hops_view}
-use Rattle.dn_place.specs.Candidates.{NoneBelow, to_unit, to_port, to_output}
+use Rattle.dn_place.specs.Candidates.{to_unit, to_port, to_output}
+use Rattle.dn_place.proofs.Levels.{NoneBelow}
 use Rattle.dn_place.specs.Slots.{AreFreeTo}
 use Rattle.dn_place.proofs.Units.{Sifted}
 use Rattle.dn_place.proofs.Walks.{Walked}
@@ -37,14 +38,14 @@ abbrev pub invariant-by_unit-loop-port : goal.invariant-by_unit-loop-port
 invariant-by_unit-loop-port g l = NoneBelow (g.Q.Quest.sought l.quest) (to_unit l.stage.count (hops_view l.stage.chosen) l.unit) l.port
 
 abbrev pub invariant-by_rows-rows : goal.invariant-by_rows-rows
-invariant-by_rows-rows g l = Walked (g.Q.Quest.sought l.quest) (to_port l.stage.count (hops_view l.stage.chosen) l.unit l.port) l.rows (drop l.row-index l.rows)
+invariant-by_rows-rows g l = Walked (g.Q.Quest.sought l.quest) (to_port l.stage.count (hops_view l.stage.chosen) l.door.unit l.door.port) l.rows (drop l.row-index l.rows)
 
 abbrev pub invariant-by_inputs-inputs : goal.invariant-by_inputs-inputs
 invariant-by_inputs-inputs g l = record {
-  agree : l.x % 2 ^ l.translator.page ≡ l.y % 2 ^ l.translator.page;
+  agree : l.x % 2 ^ l.door.translator.now.page ≡ l.y % 2 ^ l.door.translator.now.page;
   few : l.x ≤ 2 ^ 60;
-  free : AreFreeTo (g.Q.Quest.sought l.quest).slots l.unit (l.x / 2 ^ l.translator.page) l.free;
-  below : NoneBelow (g.Q.Quest.sought l.quest) (to_output l.stage.count (hops_view l.stage.chosen) l.unit l.port l.y) l.x;
+  free : AreFreeTo (g.Q.Quest.sought l.quest).slots l.door.unit (l.x / 2 ^ l.door.translator.now.page) l.free;
+  below : NoneBelow (g.Q.Quest.sought l.quest) (to_output l.stage.count (hops_view l.stage.chosen) l.door.unit l.door.port l.y) l.x;
 }
 
 abbrev pub decreases-by_inputs-inputs : goal.decreases-by_inputs-inputs

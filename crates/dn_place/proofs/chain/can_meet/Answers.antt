@@ -1,4 +1,4 @@
-use Rattle.std.proofs.Common.{◌*◌, ◌^◌, ◌≤◌, arith}
+use Rattle.std.proofs.Common.{arith}
 use Rattle.dn_place.proofs.Pages.{input_bound}
 use Rattle.dn_place.proofs.chain.can_meet.Goals as goal
 

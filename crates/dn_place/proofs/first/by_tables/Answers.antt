@@ -1,9 +1,10 @@
-use Rattle.std.proofs.Common.{◌≡◌, ◌↔◌, ◌<◌, List, map, IfOk, IsTrue, subst, sym, ap}
+use Rattle.std.proofs.Common.{◌≡◌, ◌↔◌, ◌<◌, List, IfOk, IsTrue, subst, sym, ap}
 use Rattle.std.proofs.lemmas.Option.{slice_get_within}
 use Rattle.dn_net.specs.declared.node.NodeDecl.{NodeDecl}
 use Rattle.dn_net.specs.Decode.{unit_at}
 use Rattle.dn_flat.specs.Levels.{AreFlats}
 use Rattle.dn_kind.specs.Kind.{Meaning}
+use Rattle.dn_kind.specs.Kinded.{kinds_of}
 use Rattle.dn_placement.specs.Exposure.{IsAdmissible}
 use Rattle.dn_placement.specs.Placement.{IsPlacement}
 use Rattle.dn_place.specs.Hops.{hops_view}
@@ -13,16 +14,16 @@ use Rattle.dn_place.specs.Sought.{Sought, slot_count}
 use Rattle.dn_place.proofs.Readies.{slot_in_set}
 use Rattle.dn_place.proofs.first.by_tables.Goals as goal
 
-pub first_of-requires-clause-sound : goal.first_of-requires-clause-sound
-first_of-requires-clause-sound g c =
-    let kinds : List Meaning = map (λ k. (goal.UnitKind-dyn g (k.vtable, k.value)).meaning k.value) c.args.system.kinds.now.list.items in
-    let net : c.args.system.net.now ≡ g.A.Aim.sought.net = sym (ap (λ (s : Sought). s.net) c.requires.aim) in
+pub first_of-requires-clause-consistent : goal.first_of-requires-clause-consistent
+first_of-requires-clause-consistent g c =
+    let kinds : List Meaning = kinds_of (λ k. (goal.UnitKind-dyn g k).meaning k.1) c.args.system.on.kinds.now in
+    let net : c.args.system.on.net.now ≡ g.A.Aim.sought.net = sym (ap (λ (s : Sought). s.net) c.requires.aim) in
     record {
       is_net = net;
       is_request = sym (ap (λ (s : Sought). s.request) c.requires.aim);
       is_at = sym (ap (λ (s : Sought). s.at) c.requires.aim);
       flat = subst (λ (n : List NodeDecl). AreFlats n c.args.system.flats.now) net c.requires.system.flat;
-      can_ask = λ unit slot l. (c.requires.system.lawful, (c.requires.fits.wide, slot_in_set kinds c.args.system.net.now c.args.tables.now unit slot c.requires.fits (subst (λ (n : List NodeDecl). slot < slot_count (unit_at n unit)) (sym net) l)));
+      can_ask = λ unit slot l. (record { lawful = c.requires.system.kinded.lawful }, (c.requires.fits.wide, slot_in_set kinds c.args.system.on.net.now c.args.tables.now unit slot c.requires.fits (subst (λ (n : List NodeDecl). slot < slot_count (unit_at n unit)) (sym net) l)));
       is_met = λ unit slot found l posted. subst (λ (s : Sought). found ≡ slot_of s.slots unit slot) (sym c.requires.aim) posted;
       can_test = λ v hops own p. (c.requires.system, (c.requires.fits, (c.requires.rights, (slice_get_within (hops_view hops) own p.own p.is_own, subst (λ (s : Sought). IsPlacement s.net s.slots s.request (record { v = v; hops = hops_view hops; own = own })) c.requires.aim p))));
       is_tested = λ v hops own answer p posted. subst (λ (s : Sought). IfOk answer (λ yes. IsTrue yes ↔ IsAdmissible s.net s.slots.held s.request (record { v = v; hops = hops_view hops; own = own }))) (sym c.requires.aim) posted.1;

@@ -1,5 +1,6 @@
-use Rattle.std.proofs.Common.{List, map}
+use Rattle.std.proofs.Common.{List}
 use Rattle.dn_kind.specs.Kind.{Meaning}
+use Rattle.dn_kind.specs.Kinded.{kinds_of}
 use Rattle.dn_tables.proofs.Slots.{all_of_map}
 use Rattle.dn_tables.specs.Set.{IsSet}
 use Rattle.dn_view.proofs.Free.{free_empty}
@@ -9,9 +10,9 @@ use Rattle.dn_place.proofs.first.first_from.Goals as goal
 
 pub by_tables-requires-clause-ready : goal.by_tables-requires-clause-ready
 by_tables-requires-clause-ready g c =
-    let kinds : List Meaning = map (λ k. (goal.UnitKind-dyn g (k.vtable, k.value)).meaning k.value) c.args.system.kinds.now.list.items in
-    let net = c.args.system.net.now in
+    let kinds : List Meaning = kinds_of (λ k. (goal.UnitKind-dyn g k).meaning k.1) c.args.system.on.kinds.now in
+    let net = c.args.system.on.net.now in
     let set = c.args.tables.now in
-    let lawful = all_of_map _ c.args.system.kinds.now.list.items c.requires.system.lawful in
+    let lawful = all_of_map _ c.args.system.on.kinds.now.list.items c.requires.system.kinded.lawful in
     let is : IsSet set = record { few = c.facts.ensures.few; sized = c.facts.ensures.sized } in
-    ready net _ c.args.request.now c.args.reach.now.at c.requires.system.legal.legal (kept_are_held net kinds set lawful c.requires.fits) (free_empty net kinds set lawful c.requires.fits is) c.requires.request.rights c.requires.request.agent c.requires.request.some c.requires.request.buffer
+    ready net _ c.args.request.now c.args.reach.now.at c.requires.system.kinded.legal.legal (kept_are_held net kinds set lawful c.requires.fits) (free_empty net kinds set lawful c.requires.fits is) c.requires.request.rights c.requires.request.agent c.requires.request.some c.requires.request.buffer

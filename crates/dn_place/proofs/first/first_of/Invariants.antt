@@ -1,5 +1,5 @@
 use Rattle.std.proofs.Common.{[]}
-use Rattle.dn_place.specs.Candidates.{NoneBelow}
+use Rattle.dn_place.proofs.Levels.{NoneBelow}
 use Rattle.dn_place.proofs.first.first_of.Given as goal
 
 abbrev pub invariant-loop-count : goal.invariant-loop-count

@@ -1,5 +1,5 @@
-use Rattle.std.proofs.Common.{◌+◌, ◌-◌, ◌*◌, ◌/◌, ◌%◌, ◌<◌, ◌≤◌, arith}
-use Rattle.std.proofs.Math.Nat.{mod-le, mod-lt}
+use Rattle.std.proofs.Common.{◌-◌, ◌%◌, arith}
+use Rattle.std.proofs.Math.Nat.{mod-le}
 use Rattle.dn_place.proofs.Crowds.{past_by, within_by}
 use Rattle.dn_place.proofs.inputs.past_last.Goals as goal
 

@@ -1,4 +1,4 @@
-use Rattle.std.proofs.Common.{◌≡◌, ◌+◌, ◌<◌, ◌≤◌, ◌⊎◌, inl, inr, ℕ, true, IsTrue, arith, subst, ap, sym, ◌∙◌}
+use Rattle.std.proofs.Common.{inl, inr, IsTrue, arith, subst, ap, sym, ◌∙◌}
 use Rattle.std.proofs.lemmas.Bool.{cases_lt}
 use Rattle.dn_place.specs.Slots.{is_free_slot, slot_of}
 use Rattle.dn_place.proofs.slots.free_end.Goals as goal

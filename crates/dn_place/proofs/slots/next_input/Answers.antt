@@ -1,7 +1,7 @@
-use Rattle.std.proofs.Common.{◌+◌, ◌*◌, ◌/◌, ◌%◌, ◌^◌, ◌<◌, ◌≤◌, inl, inr, arith, subst, sym}
+use Rattle.std.proofs.Common.{◌+◌, ◌*◌, ◌/◌, ◌%◌, ◌^◌, ◌≤◌, inl, inr, arith, subst, sym}
 use Rattle.std.proofs.lemmas.Bool.{cases_lt}
 use Rattle.dn_view.proofs.Pages.{power_below}
-use Rattle.dn_place.specs.declared.slot.Slot.{Slot}
+use Rattle.dn_place.specs.declared.slot_state.SlotState.{SlotState}
 use Rattle.dn_place.specs.Slots.{AreFreeTo, AreShut, slot_of}
 use Rattle.dn_place.proofs.Nexts.{shut_bars}
 use Rattle.dn_place.proofs.Pages.{input_bound, past_bound, quotient_within}
@@ -12,7 +12,7 @@ use Rattle.dn_place.proofs.slots.next_input.Goals as goal
 -- the input past the slot is below a bound
 low : (g : Over) (c : After-past_slot-next g) → c.past_slot-next.result * 2 ^ c.args.translator.now.page + c.args.hop.x % 2 ^ c.args.translator.now.page ≤ 576460752303423488
 low g c =
-    let f = c.requires.ready.formed _ _ c.requires.within.unit in
+    let f = c.requires.ready.bounds _ _ c.requires.within.unit in
     past_bound c.past_slot-next.result c.args.translator.now.page c.args.translator.now.slots c.args.hop.x f.page f.few (omega (arith, c.slots_of_hop-slots.ensures.below, c.in-Some.ensures.up_to, c.past_slot-next.ensures.most))
 
 -- the slots from the first of the hop's on are free before the end
@@ -27,7 +27,7 @@ last_unusable-requires-clause-free g c = subst (λ n. AreFreeTo (g.Q.Quest.sough
 
 pub last_unusable-requires-clause-page : goal.last_unusable-requires-clause-page
 last_unusable-requires-clause-page g c =
-    let f = c.requires.ready.formed _ _ c.requires.within.unit in
+    let f = c.requires.ready.bounds _ _ c.requires.within.unit in
     omega (arith, quotient_within c.args.hop.y c.slots_of_hop-slots.result.page, power_below c.args.translator.now.reach f.reach, c.requires.reached)
 
 pub past_slot-next-requires-clause-few : goal.past_slot-next-requires-clause-few
@@ -45,12 +45,12 @@ returns-in-Some-clause-few g c = rw (c.from.ensures, c.slots_of_hop-slots.ensure
 pub returns-in-Some-clause-barred : goal.returns-in-Some-clause-barred
 returns-in-Some-clause-barred g c =
     let s = c.slots_of_hop-slots.ensures in
-    let met : AreShut (slot_of (g.Q.Quest.sought c.args.quest.now).slots c.args.hop.unit c.in-Some.slot) c.in-Some.slot c.slots_of_hop-slots.result.first c.past_slot-next.result c.args.hop.port (c.args.hop.y / c.slots_of_hop-slots.result.page) = subst (λ (z : Slot). AreShut z c.in-Some.slot c.slots_of_hop-slots.result.first c.past_slot-next.result c.args.hop.port (c.args.hop.y / c.slots_of_hop-slots.result.page)) c.slot-found.ensures c.past_slot-next.ensures.shut in
+    let met : AreShut (slot_of (g.Q.Quest.sought c.args.quest.now).slots c.args.hop.unit c.in-Some.slot) c.in-Some.slot c.slots_of_hop-slots.result.first c.past_slot-next.result c.args.hop.port (c.args.hop.y / c.slots_of_hop-slots.result.page) = subst (λ (z : SlotState). AreShut z c.in-Some.slot c.slots_of_hop-slots.result.first c.past_slot-next.result c.args.hop.port (c.args.hop.y / c.slots_of_hop-slots.result.page)) c.slot-found.ensures c.past_slot-next.ensures.shut in
     rw (c.from.ensures, s.page) (shut_bars (g.Q.Quest.sought c.args.quest.now) c.args.translator.now c.args.hop c.in-Some.slot c.past_slot-next.result c.requires.ready.some (rw s.first at c.in-Some.ensures.past) (rw s.last at c.in-Some.ensures.up_to) c.past_slot-next.ensures.most (rw (s.first, s.page) at met))
 
 pub returns-in-None-clause-few : goal.returns-in-None-clause-few
 returns-in-None-clause-few g c =
-    let f = c.requires.ready.formed _ _ c.requires.within.unit in
+    let f = c.requires.ready.bounds _ _ c.requires.within.unit in
     omega (arith, input_bound c.args.translator.now.slots c.args.translator.now.page f.page f.few, c.requires.within.ends)
 
 pub returns-in-Some-clause-free : goal.returns-in-Some-clause-free

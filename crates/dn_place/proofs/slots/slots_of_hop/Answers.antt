@@ -8,11 +8,11 @@ use Rattle.dn_place.proofs.slots.slots_of_hop.Goals as goal
 -- the slots fit the unit
 fits : (g : Over) (c : After-power-page g) → Fitting c.args.hop.x c.request-size.result.size c.args.translator.now.slots c.power-page.result
 fits g c =
-    let f = c.requires.ready.formed _ _ c.requires.within.unit in
+    let f = c.requires.ready.bounds _ _ c.requires.within.unit in
     fitting c.args.hop.x c.request-size.result.size (g.Q.Quest.sought c.args.quest.now).request.size c.args.translator.now.slots c.args.translator.now.page c.power-page.result c.power-page.ensures (ap (λ (r : Request). r.size) c.request-size.ensures) f.page f.few c.requires.ready.some c.requires.within.ends
 
 pub power-page-requires : goal.power-page-requires
-power-page-requires g c = let f = c.requires.ready.formed _ _ c.requires.within.unit in omega (arith, f.page)
+power-page-requires g c = let f = c.requires.ready.bounds _ _ c.requires.within.unit in omega (arith, f.page)
 
 pub overflow_cast-first : goal.overflow_cast-first
 overflow_cast-first g c = omega (arith, (fits g (goal.at.overflow_cast-first g c).After-power-page).first_few)

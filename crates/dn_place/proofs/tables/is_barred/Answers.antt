@@ -1,20 +1,17 @@
-use Rattle.std.proofs.Common.{◌≡◌, ◌/◌, ◌^◌, ◌<◌, ◌∙◌, ℕ, Some, sym, ap, arith, map, subst}
+use Rattle.std.proofs.Common.{◌≡◌, ◌/◌, ◌^◌, ◌∙◌, Some, sym, ap, arith}
 use Rattle.dn_net.specs.declared.node.Unit.{Unit as UnitPart}
+use Rattle.dn_kind.specs.Kinded.{kinds_of}
 use Rattle.dn_place.proofs.Pages.{slot_there}
-use Rattle.dn_place.proofs.Readies.{formed, slot_in_set}
-use Rattle.dn_place.specs.Slots.{slot_of}
+use Rattle.dn_place.proofs.Readies.{slot_in_set}
 use Rattle.dn_place.proofs.tables.is_barred.Goals as goal
 
-pub unit_in-requires : goal.unit_in-requires
-unit_in-requires g c = record { flat = c.requires.system.flat; formed = formed c.args.system.net.now c.requires.system.legal.legal }
-
 pub power-requires : goal.power-requires
-power-requires g c = omega (arith, c.in-Some.ensures.formed.page)
+power-requires g c = omega (arith, c.in-Some.ensures.bounds.page)
 
 pub slot_at-requires-clause-there : goal.slot_at-requires-clause-there
 slot_at-requires-clause-there g c =
-    let kinds = map (λ k. (goal.UnitKind-dyn g (k.vtable, k.value)).meaning k.value) c.args.system.kinds.now.list.items in
-    slot_in_set kinds c.args.system.net.now c.args.tables.now c.args.name.node _ c.requires.fits (slot_there c.args.system.net.now c.args.name.node _ c.in-Some.unit.now c.in-Some.ensures.some (omega (arith, c.from.ensures, c.if-slot-from.false)))
+    let kinds = kinds_of (λ k. (goal.UnitKind-dyn g k).meaning k.1) c.args.system.on.kinds.now in
+    slot_in_set kinds c.args.system.on.net.now c.args.tables.now c.args.name.node _ c.requires.fits (slot_there c.args.system.on.net.now c.args.name.node _ c.in-Some.unit.now c.in-Some.ensures.some (omega (arith, c.from.ensures, c.if-slot-from.false)))
 
 pub returns : goal.returns
 returns g c = λ yes u e l.

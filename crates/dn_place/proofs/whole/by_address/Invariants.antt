@@ -1,6 +1,7 @@
 use Rattle.std.proofs.Common.{length, ◌-◌, ◌≤◌}
 use Rattle.dn_place.specs.Hops.{hops_view}
-use Rattle.dn_place.specs.Candidates.{NoneBelow, to_address}
+use Rattle.dn_place.specs.Candidates.{to_address}
+use Rattle.dn_place.proofs.Levels.{NoneBelow}
 use Rattle.dn_place.proofs.whole.by_address.Given as goal
 
 abbrev pub invariant-pages : goal.invariant-pages

@@ -1,6 +1,7 @@
 use Rattle.std.proofs.Common.{length}
 use Rattle.dn_place.specs.Hops.{hops_view}
-use Rattle.dn_place.specs.Candidates.{NoneBelow, to_page}
+use Rattle.dn_place.specs.Candidates.{to_page}
+use Rattle.dn_place.proofs.Levels.{NoneBelow}
 use Rattle.dn_place.proofs.whole.by_page.Given as goal
 
 abbrev pub invariant-loop-back : goal.invariant-loop-back

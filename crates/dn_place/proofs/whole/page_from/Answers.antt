@@ -14,5 +14,5 @@ returns-then-best-eq41-clause-none g c = λ k h e. go k h e (cases_lt (hop_page 
     go k h e (inl l) = l
     go k h e (inr l) =
         let w : k < length (hops_view c.args.hops) = slice_get_within (hops_view c.args.hops) k h e in
-        let b = page_bound (g.Q.Quest.sought c.args.quest.now).net h c.requires.ready.formed in
+        let b = page_bound (g.Q.Quest.sought c.args.quest.now).net h c.requires.ready.bounds in
         omega (arith, c.loop-i.invariant.between k h (omega arith) e l)

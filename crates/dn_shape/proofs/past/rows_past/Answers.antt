@@ -9,7 +9,8 @@ use Rattle.dn_interval.specs.Strands.{segs_give}
 use Rattle.dn_walk.specs.declared.walks.WalkRow.{WalkRow}
 use Rattle.dn_walk.specs.Legs.{leg_view}
 use Rattle.dn_walk.specs.Rows.{bare_walk, row_view}
-use Rattle.dn_shape.specs.Past.{bare_give, walks_past}
+use Rattle.dn_shape.specs.Past.{bare_give}
+use Rattle.dn_shape.proofs.Walked.{walks_past}
 use Rattle.dn_shape.proofs.Walked.{past_bare, row_of_walk, rows_are_past, rows_far}
 use Rattle.dn_shape.proofs.past.rows_past.Goals as goal
 

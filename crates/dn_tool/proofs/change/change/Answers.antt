@@ -1,5 +1,6 @@
-use Rattle.std.proofs.Common.{◌≡◌, sym, List, ℕ, map}
+use Rattle.std.proofs.Common.{◌≡◌, sym, List, ℕ}
 use Rattle.dn_kind.specs.Kind.{Meaning}
+use Rattle.dn_kind.specs.Kinded.{kinds_of}
 use Rattle.dn_placement.specs.declared.request.Request.{Request}
 use Rattle.dn_tool.specs.State.{state_view}
 use Rattle.dn_tool.specs.Turn.{IsGrantTurn, IsRevokeTurn, IsRouteTurn, IsTurn, State, number_or_none, request_of}
@@ -8,8 +9,8 @@ use Rattle.dn_tool.proofs.change.change.Goals as goal
 
 pub returns-in-Grant-clause-changed : goal.returns-in-Grant-clause-changed
 returns-in-Grant-clause-changed g c =
-    let kinds : List Meaning = map (λ k. (goal.UnitKind-dyn g (k.vtable, k.value)).meaning k.value) c.args.machine.kinds.now.list.items in
-    let net = c.args.machine.net.now in
+    let kinds : List Meaning = kinds_of (λ k. (goal.UnitKind-dyn g k).meaning k.1) c.args.machine.on.kinds.now in
+    let net = c.args.machine.on.net.now in
     let s : State = state_view c.args.state.now in
     let asked : List ℕ × Request = (c.in-Grant.id, request_of c.in-Grant.from c.in-Grant.target c.in-Grant.base c.in-Grant.size c.in-Grant.mode) in
     let same : ◌≡◌ {A = List ℕ × Request} (c.as_str-id.result.now, c.request_of-request.result) asked = λ i. (c.as_str-id.ensures i, c.request_of-request.ensures.value i) in
@@ -17,8 +18,8 @@ returns-in-Grant-clause-changed g c =
 
 pub returns-in-Route-clause-changed : goal.returns-in-Route-clause-changed
 returns-in-Route-clause-changed g c =
-    let kinds : List Meaning = map (λ k. (goal.UnitKind-dyn g (k.vtable, k.value)).meaning k.value) c.args.machine.kinds.now.list.items in
-    let net = c.args.machine.net.now in
+    let kinds : List Meaning = kinds_of (λ k. (goal.UnitKind-dyn g k).meaning k.1) c.args.machine.on.kinds.now in
+    let net = c.args.machine.on.net.now in
     let s : State = state_view c.args.state.now in
     let asked : List ℕ × ℕ × ℕ = (c.in-Route.id, number_or_none c.in-Route.from.node, number_or_none c.in-Route.target.node) in
     let same : ◌≡◌ {A = List ℕ × ℕ × ℕ} (c.as_str-id-in-Route.result.now, c.number_or_none-agent.result, c.number_or_none-node.result) asked = λ i. (c.as_str-id-in-Route.ensures i, c.number_or_none-agent.ensures i, c.number_or_none-node.ensures i) in
@@ -26,7 +27,7 @@ returns-in-Route-clause-changed g c =
 
 pub returns-in-Revoke-clause-changed : goal.returns-in-Revoke-clause-changed
 returns-in-Revoke-clause-changed g c =
-    let kinds : List Meaning = map (λ k. (goal.UnitKind-dyn g (k.vtable, k.value)).meaning k.value) c.args.machine.kinds.now.list.items in
-    let net = c.args.machine.net.now in
+    let kinds : List Meaning = kinds_of (λ k. (goal.UnitKind-dyn g k).meaning k.1) c.args.machine.on.kinds.now in
+    let net = c.args.machine.on.net.now in
     let s : State = state_view c.args.state.now in
     changed_as (IsTurn kinds net s) _ _ _ _ _ _ (sym c.in-Revoke.is) (changed_as (IsRevokeTurn kinds net s) _ _ _ _ _ _ c.as_str.ensures c.revoke_change.ensures.changed)

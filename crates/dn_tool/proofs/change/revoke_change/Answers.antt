@@ -1,14 +1,15 @@
-use Rattle.std.proofs.Common.{rules, ◌≡◌, ◌∙◌, ap, sym, subst, refl, List, ℕ, map, Err, true, false}
+use Rattle.std.proofs.Common.{rules, ◌≡◌, ◌∙◌, ap, sym, subst, refl, List, ℕ, Err, true, false}
 use Rattle.dn_base.proofs.Booleans.{true_from_ne_false}
 use Rattle.dn_net.specs.declared.node.NodeDecl.{NodeDecl}
 use Rattle.dn_kind.specs.Kind.{Meaning}
+use Rattle.dn_kind.specs.Kinded.{kinds_of}
 use Rattle.dn_book.specs.declared.book.RevokeFault.TheVariants.{Device, NoGrant}
 use Rattle.dn_book.specs.Book.{has_id}
-use Rattle.dn_tool.specs.declared.halt.Halt.TheVariants.{DeviceFault}
+use Rattle.dn_tool.specs.declared.halt.RunHalt.TheVariants.{DeviceFault}
 use Rattle.dn_tool.specs.Changed.{revoked_text}
 use Rattle.dn_tool.specs.Ids.{id_number}
 use Rattle.dn_tool.specs.State.{IsChanged, state_view}
-use Rattle.dn_tool.specs.declared.state.State.{State as Kept}
+use Rattle.dn_tool.specs.declared.state.Session.{Session as Kept}
 use Rattle.dn_tool.specs.Turn.{IsRevokeTurn, State, state_with_id}
 use Rattle.dn_tool.proofs.Changes.{halted_after, not_revoked_turn, revoke_stopped, state_named, state_revoked, state_same}
 use Rattle.dn_tool.proofs.change.revoke_change.Given.{Over}
@@ -19,9 +20,9 @@ pub renew-requires-clause-faithful : goal.renew-requires-clause-faithful
 renew-requires-clause-faithful g c = c.in-Ok.ensures.faithful c.requires.ready.state.faithful
 
 -- the turn of the grant that was taken out
-made : (g : Over) (c : After-renew g) → IsChanged (IsRevokeTurn (map (λ k. (goal.UnitKind-dyn g (k.vtable, k.value)).meaning k.value) c.args.machine.kinds.now.list.items) c.args.machine.net.now (state_view c.args.state.now) c.args.id.now) (state_view c.renew.new.state) (revoked_text c.args.id.now) (g.D.Tables.log c.args.device.now) (g.D.Tables.log c.revoke.new.device)
+made : (g : Over) (c : After-renew g) → IsChanged (IsRevokeTurn (kinds_of (λ k. (goal.UnitKind-dyn g k).meaning k.1) c.args.machine.on.kinds.now) c.args.machine.on.net.now (state_view c.args.state.now) c.args.id.now) (state_view c.renew.new.state) (revoked_text c.args.id.now) (g.D.Tables.log c.args.device.now) (g.D.Tables.log c.revoke.new.device)
 made g c =
-    state_revoked (map (λ k. (goal.UnitKind-dyn g (k.vtable, k.value)).meaning k.value) c.args.machine.kinds.now.list.items) c.args.machine.net.now c.args.state.now c.renew.new.state c.args.id.now c.in_ok-number.number c.revoke.new.self _ _ c.in_ok-number.ensures.number (λ e. let x = c.in-Ok.ensures.unknown.1 e in cc) c.in-Ok.ensures.added c.in-Ok.ensures.revoked c.renew.ensures.still.book (c.renew.ensures.still.ids ∙ c.in_ok-number.ensures.ids) c.in-Ok.ensures.cleared
+    state_revoked (kinds_of (λ k. (goal.UnitKind-dyn g k).meaning k.1) c.args.machine.on.kinds.now) c.args.machine.on.net.now c.args.state.now c.renew.new.state c.args.id.now c.in_ok-number.number c.revoke.new.self _ _ c.in_ok-number.ensures.number (λ e. let x = c.in-Ok.ensures.unknown.1 e in cc) c.in-Ok.ensures.added c.in-Ok.ensures.revoked c.renew.ensures.still.book (c.renew.ensures.still.ids ∙ c.in_ok-number.ensures.ids) c.in-Ok.ensures.cleared
 
 pub returns-in_err-revoked_reply-in-Ok-clause-changed : goal.returns-in_err-revoked_reply-in-Ok-clause-changed
 returns-in_err-revoked_reply-in-Ok-clause-changed g c =
@@ -29,12 +30,12 @@ returns-in_err-revoked_reply-in-Ok-clause-changed g c =
 
 pub returns-in_ok-revoked_reply-in-Ok-clause-changed : goal.returns-in_ok-revoked_reply-in-Ok-clause-changed
 returns-in_ok-revoked_reply-in-Ok-clause-changed g c =
-    subst (λ (t : List ℕ). IsChanged (IsRevokeTurn (map (λ k. (goal.UnitKind-dyn g (k.vtable, k.value)).meaning k.value) c.args.machine.kinds.now.list.items) c.args.machine.net.now (state_view c.args.state.now) c.args.id.now) (state_view c.renew.new.state) t (g.D.Tables.log c.args.device.now) (g.D.Tables.log c.revoke.new.device)) (sym c.in_ok-revoked_reply-in-Ok.ensures) (made g (goal.at.returns-in_ok-revoked_reply-in-Ok-clause-changed g c).After-renew)
+    subst (λ (t : List ℕ). IsChanged (IsRevokeTurn (kinds_of (λ k. (goal.UnitKind-dyn g k).meaning k.1) c.args.machine.on.kinds.now) c.args.machine.on.net.now (state_view c.args.state.now) c.args.id.now) (state_view c.renew.new.state) t (g.D.Tables.log c.args.device.now) (g.D.Tables.log c.revoke.new.device)) (sym c.in_ok-revoked_reply-in-Ok.ensures) (made g (goal.at.returns-in_ok-revoked_reply-in-Ok-clause-changed g c).After-renew)
 
 pub returns-in_ok-refused_reply-in-Err-NoGrant-clause-changed : goal.returns-in_ok-refused_reply-in-Err-NoGrant-clause-changed
 returns-in_ok-refused_reply-in-Err-NoGrant-clause-changed g c =
-    let kinds : List Meaning = map (λ k. (goal.UnitKind-dyn g (k.vtable, k.value)).meaning k.value) c.args.machine.kinds.now.list.items in
-    let net : List NodeDecl = c.args.machine.net.now in
+    let kinds : List Meaning = kinds_of (λ k. (goal.UnitKind-dyn g k).meaning k.1) c.args.machine.on.kinds.now in
+    let net : List NodeDecl = c.args.machine.on.net.now in
     let state = c.args.state.now in
     let s : State = state_view state in
     let id : List ℕ = c.args.id.now in
@@ -48,21 +49,21 @@ returns-in_ok-refused_reply-in-Err-NoGrant-clause-changed g c =
 
 pub returns-in_ok-refused_reply-in-Err-NoGrant-clause-ready : goal.returns-in_ok-refused_reply-in-Err-NoGrant-clause-ready
 returns-in_ok-refused_reply-in-Err-NoGrant-clause-ready g c =
-    let kinds : List Meaning = map (λ k. (goal.UnitKind-dyn g (k.vtable, k.value)).meaning k.value) c.args.machine.kinds.now.list.items in
+    let kinds : List Meaning = kinds_of (λ k. (goal.UnitKind-dyn g k).meaning k.1) c.args.machine.on.kinds.now in
     let state = c.args.state.now in
     let same = c.revoke.ensures.unchanged (c.in-Err-NoGrant.is ∙ ap Err c.in-Err-NoGrant.field-0-is) in
     let after : Kept = record { book = c.revoke.new.self; ids = c.number.new.self; image = state.image; first = state.first; flats = state.flats; unmade = state.unmade } in
     record {
       machine = c.requires.ready.machine;
-      state = state_same kinds c.args.machine.net.now state after c.requires.ready.state same.0 refl c.requires.ready.state.first c.requires.ready.state.flat c.requires.ready.state.unmade;
+      state = state_same kinds c.args.machine.on.net.now state after c.requires.ready.state same.0 refl c.requires.ready.state.first c.requires.ready.state.flat c.requires.ready.state.unmade;
       on_device = c.revoke.ensures.on_device;
     }
 
 pub returns-in-Err-Device-clause-changed : goal.returns-in-Err-Device-clause-changed
 returns-in-Err-Device-clause-changed g c =
-    let kinds : List Meaning = map (λ k. (goal.UnitKind-dyn g (k.vtable, k.value)).meaning k.value) c.args.machine.kinds.now.list.items in
+    let kinds : List Meaning = kinds_of (λ k. (goal.UnitKind-dyn g k).meaning k.1) c.args.machine.on.kinds.now in
     let book = c.args.state.now.book.grants in
     let number = c.in_ok-number.ensures.number in
     let failed : c.revoke.result ≡ Err Device = c.in-Err-Device.is ∙ ap Err c.in-Err-Device.field-0-is in
     let has = subst (λ n. has_id n book ≡ true) number (true_from_ne_false (has_id c.in_ok-number.number book) (λ e. let x = c.revoke.ensures.unknown.1 e in let y = failed in cc)) in
-    revoke_stopped kinds c.args.machine.net.now (state_view c.args.state.now) (state_view c.args.state.now) c.args.id.now (Err DeviceFault) (g.D.Tables.log c.args.device.now) (g.D.Tables.log c.revoke.new.device) refl has (λ k m e. c.in-Err-Device.ensures.added k m (e ∙ sym number))
+    revoke_stopped kinds c.args.machine.on.net.now (state_view c.args.state.now) (state_view c.args.state.now) c.args.id.now (Err DeviceFault) (g.D.Tables.log c.args.device.now) (g.D.Tables.log c.revoke.new.device) refl has (λ k m e. c.in-Err-Device.ensures.added k m (e ∙ sym number))

@@ -1,5 +1,6 @@
-use Rattle.std.proofs.Common.{rules, ◌≡◌, map, List, None}
+use Rattle.std.proofs.Common.{rules, ◌≡◌, List, None}
 use Rattle.dn_kind.specs.Kind.{Meaning}
+use Rattle.dn_kind.specs.Kinded.{kinds_of}
 use Rattle.dn_kind.specs.Units.{shape_fault}
 use Rattle.dn_net.specs.Rules.{node_fault}
 use Rattle.dn_module.specs.Finish.{outcome_view}
@@ -29,7 +30,7 @@ walk_refusal-requires g c = walk_fault_within c.args.expanded.net _ c.requires.c
 
 pub returns-clause-answer : goal.returns-clause-answer
 returns-clause-answer g c =
-    let kinds : List Meaning = map (λ k. (goal.UnitKind-dyn g (k.vtable, k.value)).meaning k.value) c.args.kinds.now.list.items in
+    let kinds : List Meaning = kinds_of (λ k. (goal.UnitKind-dyn g k).meaning k.1) c.args.kinds.now in
     let checked : node_fault c.args.expanded.net ≡ None = search rules in
     let shaped : shape_fault kinds c.args.expanded.net ≡ None = search rules in
     c.fault_of-in-Err-walks.ensures _ (walks_refused kinds (outcome_view c.args.expanded) _ c.walk_refusal.result checked shaped c.in-Err-walks.ensures.checks c.walk_refusal.ensures)

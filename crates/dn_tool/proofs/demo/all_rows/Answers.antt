@@ -10,11 +10,11 @@ pub loop-node-preserved : goal.loop-node-preserved
 loop-node-preserved g c =
     c.in_ok-total.ensures
     ∙ ap (λ (n : ℕ). n + c.in_ok-rows.rows) c.loop-node.invariant
-    ∙ ap (λ (n : ℕ). sum_below (agent_rows c.args.machine.net.now c.args.state.now.book.grants) c.loop-node.node + n) c.in_ok-rows.ensures
-    ∙ sym (sum_more (agent_rows c.args.machine.net.now c.args.state.now.book.grants) c.loop-node.node)
+    ∙ ap (λ (n : ℕ). sum_below (agent_rows c.args.machine.on.net.now c.args.state.now.book.grants) c.loop-node.node + n) c.in_ok-rows.ensures
+    ∙ sym (sum_more (agent_rows c.args.machine.on.net.now c.args.state.now.book.grants) c.loop-node.node)
 
 pub returns : goal.returns
 returns g c =
-    let end : c.nodes-node-end.result ≡ length c.args.machine.net.now = c.nodes-node-end.ensures in
-    let all : c.loop-node.node ≡ length c.args.machine.net.now = omega (arith, end, c.loop-node-test.false, c.loop-node.auto.node-end) in
-    c.loop-node.invariant ∙ ap (sum_below (agent_rows c.args.machine.net.now c.args.state.now.book.grants)) all
+    let end : c.nodes-node-end.result ≡ length c.args.machine.on.net.now = c.nodes-node-end.ensures in
+    let all : c.loop-node.node ≡ length c.args.machine.on.net.now = omega (arith, end, c.loop-node-test.false, c.loop-node.auto.node-end) in
+    c.loop-node.invariant ∙ ap (sum_below (agent_rows c.args.machine.on.net.now c.args.state.now.book.grants)) all

@@ -4,6 +4,7 @@ use Rattle.dn_interval.specs.declared.row.Row.{Row}
 use Rattle.dn_interval.specs.Listed.{seen_view}
 use Rattle.dn_net.specs.declared.node.NodeDecl.{NodeDecl}
 use Rattle.dn_net.specs.Decode.{is_agent_at}
+use Rattle.dn_kind.specs.Kinded.{kinds_of}
 use Rattle.dn_kind.specs.declared.rights.Access.TheVariants.{Read as reading}
 use Rattle.dn_kind.specs.Kind.{Meaning}
 use Rattle.dn_kind.specs.Tables.{allowing}
@@ -16,8 +17,8 @@ use Rattle.dn_tool.proofs.demo.node_rows.Goals as goal
 
 pub returns : goal.returns
 returns g c =
-    let kinds : List Meaning = map (λ k. (goal.UnitKind-dyn g (k.vtable, k.value)).meaning k.value) c.args.machine.kinds.now.list.items in
-    let net : List NodeDecl = c.args.machine.net.now in
+    let kinds : List Meaning = kinds_of (λ k. (goal.UnitKind-dyn g k).meaning k.1) c.args.machine.on.kinds.now in
+    let net : List NodeDecl = c.args.machine.on.net.now in
     let book = c.args.state.now.book in
     let rows : List Row = c.in_ok-seen.seen in
     let normal : AreViewed net (allowing reading (record_kept kinds book.set)) c.args.node rows = subst (λ (s : List NodeTable). AreViewed net (allowing reading (record_kept kinds s)) c.args.node rows) c.tables.ensures c.in_ok-seen.ensures.rows in

@@ -1,9 +1,10 @@
-use Rattle.std.proofs.Common.{rules, ◌≡◌, ◌∙◌, ◌+◌, if◌then◌else◌, ap, sym, subst, map, List, Bool, false, length, ℕ, Err, arith}
+use Rattle.std.proofs.Common.{rules, ◌≡◌, ◌∙◌, ◌+◌, if◌then◌else◌, ap, sym, subst, List, Bool, false, length, ℕ, Err, arith}
 use Rattle.dn_base.proofs.Counts.{counted_none, counted_then}
 use Rattle.dn_kind.specs.Kind.{Meaning}
+use Rattle.dn_kind.specs.Kinded.{kinds_of}
 use Rattle.dn_book.specs.declared.grant.Grant.{Grant}
 use Rattle.dn_module.specs.declared.command.Command.{Command}
-use Rattle.dn_tool.specs.declared.halt.Halt.TheVariants.{NoMemory}
+use Rattle.dn_tool.specs.declared.halt.RunHalt.TheVariants.{NoMemory}
 use Rattle.dn_tool.specs.Demo.{has_granted, has_revoked}
 use Rattle.dn_tool.specs.Halt.{ending_status, is_device_halt, is_write_halt}
 use Rattle.dn_tool.specs.State.{state_view}
@@ -14,8 +15,8 @@ use Rattle.dn_tool.proofs.demo.play_all.Goals as goal
 
 pub commands-init : goal.commands-init
 commands-init g c =
-    let kinds : List Meaning = map (λ k. (goal.UnitKind-dyn g (k.vtable, k.value)).meaning k.value) c.args.machine.kinds.now.list.items in
-    let net = c.args.machine.net.now in
+    let kinds : List Meaning = kinds_of (λ k. (goal.UnitKind-dyn g k).meaning k.1) c.args.machine.on.kinds.now in
+    let net = c.args.machine.on.net.now in
     let cs : List Command = c.args.commands.now in
     let all : c.cursor-rest.result ≡ cs = search rules in
     let owed = machine_owed _ c.args.machine c.args.state.now c.requires.ready.machine c.requires.ready.state in
@@ -30,18 +31,18 @@ commands-init g c =
 
 pub returns-in_err-command-clause-shown : goal.returns-in_err-command-clause-shown
 returns-in_err-command-clause-shown g c =
-    let kinds : List Meaning = map (λ k. (goal.UnitKind-dyn g (k.vtable, k.value)).meaning k.value) c.args.machine.kinds.now.list.items in
+    let kinds : List Meaning = kinds_of (λ k. (goal.UnitKind-dyn g k).meaning k.1) c.args.machine.on.kinds.now in
     let cs : List Command = c.args.commands.now in
     let ended : c.from_residual.result ≡ Err NoMemory = search rules in
-    λ log made. shown_unread kinds c.args.machine.net.now c.args.agents cs (place cs c.commands.rest) (state_view c.commands.state) c.from_residual.result _ _ _ _ c.commands.granted c.commands.revoked ended (omega arith) (c.commands.invariant.tallied log made)
+    λ log made. shown_unread kinds c.args.machine.on.net.now c.args.agents cs (place cs c.commands.rest) (state_view c.commands.state) c.from_residual.result _ _ _ _ c.commands.granted c.commands.revoked ended (omega arith) (c.commands.invariant.tallied log made)
 
 pub returns-in_err-ended-clause-shown : goal.returns-in_err-ended-clause-shown
 returns-in_err-ended-clause-shown g c =
-    let kinds : List Meaning = map (λ k. (goal.UnitKind-dyn g (k.vtable, k.value)).meaning k.value) c.args.machine.kinds.now.list.items in
+    let kinds : List Meaning = kinds_of (λ k. (goal.UnitKind-dyn g k).meaning k.1) c.args.machine.on.kinds.now in
     let cs : List Command = c.args.commands.now in
     let at : IsNext cs c.commands.rest c.next.new.self c.in-Some.command = told_next cs _ _ _ _ c.commands.invariant.behind c.in_ok-command.ensures.next c.in-Some.is in
     let ended : c.from_residual-in_err-ended.result ≡ Err c.in_err-ended.field-0.0 = search rules in
-    λ log made. shown_halted kinds c.args.machine.net.now c.args.agents cs (place cs c.commands.rest) c.in-Some.command (state_view c.commands.state) (state_view c.play-ended.new.state) c.play-ended.result c.in_err-ended.field-0.0 c.from_residual-in_err-ended.result _ _ _ _ _ c.commands.granted c.commands.revoked c.in_err-ended.was ended c.play-ended.ensures.halted.no_write at.within at.at (c.commands.invariant.tallied log made) c.play-ended.ensures.through
+    λ log made. shown_halted kinds c.args.machine.on.net.now c.args.agents cs (place cs c.commands.rest) c.in-Some.command (state_view c.commands.state) (state_view c.play-ended.new.state) c.play-ended.result c.in_err-ended.field-0.0 c.from_residual-in_err-ended.result _ _ _ _ _ c.commands.granted c.commands.revoked c.in_err-ended.was ended c.play-ended.ensures.halted.no_write at.within at.at (c.commands.invariant.tallied log made) c.play-ended.ensures.through
 
 pub returns-in_err-command-clause-halted : goal.returns-in_err-command-clause-halted
 returns-in_err-command-clause-halted g c =
@@ -63,8 +64,8 @@ returns-in_err-ended-clause-halted g c =
 
 pub commands-preserved : goal.commands-preserved
 commands-preserved g c =
-    let kinds : List Meaning = map (λ k. (goal.UnitKind-dyn g (k.vtable, k.value)).meaning k.value) c.args.machine.kinds.now.list.items in
-    let net = c.args.machine.net.now in
+    let kinds : List Meaning = kinds_of (λ k. (goal.UnitKind-dyn g k).meaning k.1) c.args.machine.on.kinds.now in
+    let net = c.args.machine.on.net.now in
     let cs : List Command = c.args.commands.now in
     let i : ℕ = place cs c.commands.rest in
     let at : IsNext cs c.commands.rest c.next.new.self c.in-Some.command = told_next cs _ _ _ _ c.commands.invariant.behind c.in_ok-command.ensures.next c.in-Some.is in
@@ -98,8 +99,8 @@ commands-preserved g c =
 
 pub returns-in_err-write_summary-clause-shown : goal.returns-in_err-write_summary-clause-shown
 returns-in_err-write_summary-clause-shown g c =
-    let kinds : List Meaning = map (λ k. (goal.UnitKind-dyn g (k.vtable, k.value)).meaning k.value) c.args.machine.kinds.now.list.items in
-    let net = c.args.machine.net.now in
+    let kinds : List Meaning = kinds_of (λ k. (goal.UnitKind-dyn g k).meaning k.1) c.args.machine.on.kinds.now in
+    let net = c.args.machine.on.net.now in
     let cs : List Command = c.args.commands.now in
     let i : ℕ = place cs c.commands.rest in
     let over : i ≡ length cs = told_end cs c.commands.rest _ _ c.in_ok-command.ensures.next c.in_default.is in
@@ -118,8 +119,8 @@ returns-in_err-write_summary-clause-halted g c =
 
 pub returns-clause-shown : goal.returns-clause-shown
 returns-clause-shown g c =
-    let kinds : List Meaning = map (λ k. (goal.UnitKind-dyn g (k.vtable, k.value)).meaning k.value) c.args.machine.kinds.now.list.items in
-    let net = c.args.machine.net.now in
+    let kinds : List Meaning = kinds_of (λ k. (goal.UnitKind-dyn g k).meaning k.1) c.args.machine.on.kinds.now in
+    let net = c.args.machine.on.net.now in
     let cs : List Command = c.args.commands.now in
     let i : ℕ = place cs c.commands.rest in
     let over : i ≡ length cs = told_end cs c.commands.rest _ _ c.in_ok-command.ensures.next c.in_default.is in

@@ -1,5 +1,6 @@
-use Rattle.std.proofs.Common.{◌≡◌, ◌≤◌, false, map, drop, length}
+use Rattle.std.proofs.Common.{◌≡◌, ◌≤◌, false, drop, length}
 use Rattle.dn_base.specs.Outside.{IsCounted}
+use Rattle.dn_kind.specs.Kinded.{kinds_of}
 use Rattle.dn_tool.specs.State.{IsReadyOn, state_view}
 use Rattle.dn_tool.proofs.Places.{place}
 use Rattle.dn_tool.proofs.Demos.{IsTalliedOn}
@@ -11,7 +12,7 @@ invariant-commands g l = record {
   few_granted : l.granted ≤ place l.commands l.rest;
   few_revoked : l.revoked ≤ place l.commands l.rest;
   ready : IsReadyOn (λ k. (goal.UnitKind-dyn g k).meaning k.1) l.fn.machine l.state (g.D.Tables.units l.device) (g.D.Tables.words l.device);
-  tallied : IsTalliedOn (map (λ k. (goal.UnitKind-dyn g (k.vtable, k.value)).meaning k.value) l.fn.machine.kinds.now.list.items) l.fn.machine.net.now l.commands (place l.commands l.rest) (state_view l.state) (g.D.Tables.log l.fn.device) (g.D.Tables.log l.device) l.granted l.revoked;
+  tallied : IsTalliedOn (kinds_of (λ k. (goal.UnitKind-dyn g k).meaning k.1) l.fn.machine.on.kinds.now) l.fn.machine.on.net.now l.commands (place l.commands l.rest) (state_view l.state) (g.D.Tables.log l.fn.device) (g.D.Tables.log l.device) l.granted l.revoked;
   device_counted : IsCounted (g.D.Tables.faults l.fn.device) (g.D.Tables.faults l.device) false;
 }
 

@@ -1,6 +1,7 @@
-use Rattle.std.proofs.Common.{◌≡◌, ◌∙◌, ap, subst, map, length, List, ℕ, IfOk}
+use Rattle.std.proofs.Common.{◌≡◌, ◌∙◌, ap, subst, length, List, ℕ, IfOk}
 use Rattle.dn_net.specs.declared.node.NodeDecl.{NodeDecl}
 use Rattle.dn_kind.specs.Kind.{Meaning}
+use Rattle.dn_kind.specs.Kinded.{kinds_of}
 use Rattle.dn_kind.specs.Tables.{record_held}
 use Rattle.dn_tables.specs.declared.table.NodeTable.{NodeTable}
 use Rattle.dn_tables.specs.Set.{words_of}
@@ -13,8 +14,8 @@ use Rattle.dn_tool.proofs.demo.summary_line.Goals as goal
 
 pub returns : goal.returns
 returns g c =
-    let kinds : List Meaning = map (λ k. (goal.UnitKind-dyn g (k.vtable, k.value)).meaning k.value) c.args.machine.kinds.now.list.items in
-    let net : List NodeDecl = c.args.machine.net.now in
+    let kinds : List Meaning = kinds_of (λ k. (goal.UnitKind-dyn g k).meaning k.1) c.args.machine.on.kinds.now in
+    let net : List NodeDecl = c.args.machine.on.net.now in
     let book = c.args.state.now.book.grants in
     let tables : List (List ℕ) = tables_of net kinds book in
     let words : words_of c.tables-tables.result.now ≡ tables = ap (λ (s : List NodeTable). words_of s) c.tables-tables.ensures ∙ c.requires.ready.state.kept.words in

@@ -1,9 +1,10 @@
 -- One statement more, or a stop before it or in it.
-use Rattle.std.proofs.Common.{rules, ◌≡◌, ◌∙◌, ◌<◌, ap, sym, refl, map, drop, length, slice_get, ◌+◌, ◌++◌, List, ℕ, arith}
+use Rattle.std.proofs.Common.{rules, ◌≡◌, ◌∙◌, ◌<◌, ap, sym, refl, drop, length, slice_get, ◌+◌, ◌++◌, List, ℕ, arith}
 use Rattle.std.specs.List.{flat_map}
 use Rattle.dn_base.proofs.Counts.{counted_none, counted_then}
 use Rattle.dn_net.specs.declared.node.NodeDecl.{NodeDecl}
 use Rattle.dn_kind.specs.Kind.{Meaning}
+use Rattle.dn_kind.specs.Kinded.{kinds_of}
 use Rattle.dn_print.specs.Statement.{net_text, statement_text, statement_text_at}
 use Rattle.dn_tool.proofs.Written.{begun, ended, gone_on, next_text, no_text, stopped_here, stopped_there}
 use Rattle.dn_tool.proofs.output.write_net.Goals as goal
@@ -16,16 +17,16 @@ first_text kinds net i text l is =
 
 pub loop-node-init : goal.loop-node-init
 loop-node-init g c =
-    let kinds : List Meaning = map (λ k. (goal.UnitKind-dyn g (k.vtable, k.value)).meaning k.value) c.args.kinds.now.list.items in
-    record { so_far = begun _ (net_text kinds c.args.net.now); counted = counted_none _ }
+    let kinds : List Meaning = kinds_of (λ k. (goal.UnitKind-dyn g k).meaning k.1) c.args.on.kinds.now in
+    record { so_far = begun _ (net_text kinds c.args.on.net.now); counted = counted_none _ }
 
 pub returns-in_err-text : goal.returns-in_err-text
 returns-in_err-text g c = let s = stopped_here c.from_residual.result _ _ _ _ _ _ (search rules) (search rules) (search rules) c.loop-node.invariant.so_far c.loop-node.invariant.counted in record { written = s.0; halted = s.1 }
 
 pub loop-node-preserved : goal.loop-node-preserved
 loop-node-preserved g c =
-    let kinds : List Meaning = map (λ k. (goal.UnitKind-dyn g (k.vtable, k.value)).meaning k.value) c.args.kinds.now.list.items in
-    let first = first_text kinds c.args.net.now c.loop-node.node c.as_bytes.result.now (omega (arith, c.nodes-node-end.ensures, c.loop-node-test.true)) (c.as_bytes.ensures.value ∙ c.in_ok-text.ensures) in
+    let kinds : List Meaning = kinds_of (λ k. (goal.UnitKind-dyn g k).meaning k.1) c.args.on.kinds.now in
+    let first = first_text kinds c.args.on.net.now c.loop-node.node c.as_bytes.result.now (omega (arith, c.nodes-node-end.ensures, c.loop-node-test.true)) (c.as_bytes.ensures.value ∙ c.in_ok-text.ensures) in
     record {
       so_far = gone_on _ _ _ c.as_bytes.result.now _ _ _ c.loop-node.invariant.so_far first (c.in_ok-write_output.ensures.written.whole refl);
       counted = counted_then _ _ _ _ c.loop-node.invariant.counted c.in_ok-write_output.ensures.halted.counted;
@@ -33,15 +34,15 @@ loop-node-preserved g c =
 
 pub returns-in_err-write_output : goal.returns-in_err-write_output
 returns-in_err-write_output g c =
-    let kinds : List Meaning = map (λ k. (goal.UnitKind-dyn g (k.vtable, k.value)).meaning k.value) c.args.kinds.now.list.items in
-    let first = first_text kinds c.args.net.now c.loop-node.node c.as_bytes.result.now (omega (arith, c.nodes-node-end.ensures, c.loop-node-test.true)) (c.as_bytes.ensures.value ∙ c.in_ok-text.ensures) in
+    let kinds : List Meaning = kinds_of (λ k. (goal.UnitKind-dyn g k).meaning k.1) c.args.on.kinds.now in
+    let first = first_text kinds c.args.on.net.now c.loop-node.node c.as_bytes.result.now (omega (arith, c.nodes-node-end.ensures, c.loop-node-test.true)) (c.as_bytes.ensures.value ∙ c.in_ok-text.ensures) in
     let s = stopped_there c.from_residual-in_err-write_output.result c.write_output.result _ _ _ _ _ _ _ _ _ _ (search rules) (search rules) (search rules) (search rules) c.loop-node.invariant.so_far first c.write_output.ensures.written c.loop-node.invariant.counted c.write_output.ensures.halted.counted in
     record { written = s.0; halted = s.1 }
 
 pub returns-clause-written : goal.returns-clause-written
 returns-clause-written g c =
-    let kinds : List Meaning = map (λ k. (goal.UnitKind-dyn g (k.vtable, k.value)).meaning k.value) c.args.kinds.now.list.items in
-    ended _ _ _ _ c.loop-node.invariant.so_far (no_text (statement_text kinds c.args.net.now) c.args.net.now c.loop-node.node (omega (arith, c.nodes-node-end.ensures, c.loop-node-test.false)))
+    let kinds : List Meaning = kinds_of (λ k. (goal.UnitKind-dyn g k).meaning k.1) c.args.on.kinds.now in
+    ended _ _ _ _ c.loop-node.invariant.so_far (no_text (statement_text kinds c.args.on.net.now) c.args.on.net.now c.loop-node.node (omega (arith, c.nodes-node-end.ensures, c.loop-node-test.false)))
 
 pub returns-clause-halted : goal.returns-clause-halted
 returns-clause-halted g c = record { no_device = refl; counted = c.loop-node.invariant.counted }

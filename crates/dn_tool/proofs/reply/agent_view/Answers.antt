@@ -1,8 +1,9 @@
-use Rattle.std.proofs.Common.{subst, map, is_ok, List}
+use Rattle.std.proofs.Common.{subst, is_ok, List}
 use Rattle.dn_base.specs.Outside.{IsWritten}
 use Rattle.dn_interval.specs.declared.row.Row.{Row}
 use Rattle.dn_net.specs.declared.node.NodeDecl.{NodeDecl}
 use Rattle.dn_net.proofs.Stops.{agent_there}
+use Rattle.dn_kind.specs.Kinded.{kinds_of}
 use Rattle.dn_kind.specs.declared.rights.Access.{Access}
 use Rattle.dn_kind.specs.Kind.{Meaning}
 use Rattle.dn_kind.specs.Tables.{allowing}
@@ -16,30 +17,30 @@ use Rattle.dn_tool.proofs.Seen.{fixed_is_owed, seen_is_owed}
 use Rattle.dn_tool.proofs.reply.agent_view.Goals as goal
 
 pub keep_first-requires-clause-there : goal.keep_first-requires-clause-there
-keep_first-requires-clause-there g c = agent_there c.args.machine.net.now c.args.node c.requires.agent
+keep_first-requires-clause-there g c = agent_there c.args.machine.on.net.now c.args.node c.requires.agent
 
 pub returns-in-Some-clause-written : goal.returns-in-Some-clause-written
 returns-in-Some-clause-written g c =
-    fixed_is_owed c.args.machine.net.now _ c.args.state.now (access_of c.args.mode) c.args.node c.in-Some.rows.now
-    (λ r. IsWritten (g.K.Sink.written c.args.sink.now) (g.K.Sink.written c.write_view.new.sink) (is_ok c.write_view.result) (is_write_halt c.write_view.result) (viewed_text c.args.machine.net.now c.args.text.now c.args.mode r))
+    fixed_is_owed c.args.machine.on.net.now _ c.args.state.now (access_of c.args.mode) c.args.node c.in-Some.rows.now
+    (λ r. IsWritten (g.K.Sink.written c.args.sink.now) (g.K.Sink.written c.write_view.new.sink) (is_ok c.write_view.result) (is_write_halt c.write_view.result) (viewed_text c.args.machine.on.net.now c.args.text.now c.args.mode r))
     c.requires.ready.state c.requires.agent c.in-Some.ensures.rows c.write_view.ensures.written
 
 pub shared_rows-requires-clause-there : goal.shared_rows-requires-clause-there
-shared_rows-requires-clause-there g c = agent_there c.args.machine.net.now c.args.node c.requires.agent
+shared_rows-requires-clause-there g c = agent_there c.args.machine.on.net.now c.args.node c.requires.agent
 
 pub returns-in-Some-shared_rows-clause-written : goal.returns-in-Some-shared_rows-clause-written
 returns-in-Some-shared_rows-clause-written g c =
-    fixed_is_owed c.args.machine.net.now _ c.args.state.now (access_of c.args.mode) c.args.node c.in-Some-shared_rows.rows.now
-    (λ r. IsWritten (g.K.Sink.written c.args.sink.now) (g.K.Sink.written c.write_view-in-Some-shared_rows.new.sink) (is_ok c.write_view-in-Some-shared_rows.result) (is_write_halt c.write_view-in-Some-shared_rows.result) (viewed_text c.args.machine.net.now c.args.text.now c.args.mode r))
+    fixed_is_owed c.args.machine.on.net.now _ c.args.state.now (access_of c.args.mode) c.args.node c.in-Some-shared_rows.rows.now
+    (λ r. IsWritten (g.K.Sink.written c.args.sink.now) (g.K.Sink.written c.write_view-in-Some-shared_rows.new.sink) (is_ok c.write_view-in-Some-shared_rows.result) (is_write_halt c.write_view-in-Some-shared_rows.result) (viewed_text c.args.machine.on.net.now c.args.text.now c.args.mode r))
     c.requires.ready.state c.requires.agent c.in-Some-shared_rows.ensures.rows c.write_view-in-Some-shared_rows.ensures.written
 
 pub view-requires-clause-there : goal.view-requires-clause-there
-view-requires-clause-there g c = agent_there c.args.machine.net.now c.args.node c.requires.agent
+view-requires-clause-there g c = agent_there c.args.machine.on.net.now c.args.node c.requires.agent
 
 pub returns-clause-written : goal.returns-clause-written
 returns-clause-written g c =
-    let kinds : List Meaning = map (λ k. (goal.UnitKind-dyn g (k.vtable, k.value)).meaning k.value) c.args.machine.kinds.now.list.items in
-    let net : List NodeDecl = c.args.machine.net.now in
+    let kinds : List Meaning = kinds_of (λ k. (goal.UnitKind-dyn g k).meaning k.1) c.args.machine.on.kinds.now in
+    let net : List NodeDecl = c.args.machine.on.net.now in
     let state = c.args.state.now in
     let access : Access = access_of c.args.mode in
     let rows : List Row = c.in_ok-rows.rows in

@@ -9,13 +9,13 @@ use Rattle.dn_tool.proofs.reply.resolve_reply.Goals as goal
 pub returns-in_default-clause-reply : goal.returns-in_default-clause-reply
 returns-in_default-clause-reply g c =
     let q = c.args.question in
-    let is : resolved_text c.args.machine.net.now c.args.state.now.book.grants (access_of q.mode) q.target.now.node q.addr ≡ codes "no such node" = search rules in
+    let is : resolved_text c.args.machine.on.net.now c.args.state.now.book.grants (access_of q.mode) q.target.now.node q.addr ≡ codes "no such node" = search rules in
     subst (λ (t : List ℕ). IfOk c.asked_text.result (λ s. string_bytes s ≡ asked_text q.target.now q.addr q.mode t)) (sym is) c.asked_text.ensures
 
 pub returns-clause-reply : goal.returns-clause-reply
 returns-clause-reply g c =
     let q = c.args.question in
-    let net = c.args.machine.net.now in
+    let net = c.args.machine.on.net.now in
     let book = c.args.state.now.book.grants in
     let node : q.target.now.node ≡ Some c.in-Some.node = search rules in
     let name : Name = record { node = c.in-Some.node; addr = q.addr } in

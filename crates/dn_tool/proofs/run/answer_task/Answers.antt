@@ -2,10 +2,10 @@ use Rattle.dn_tool.proofs.Kept.{platform_machine}
 use Rattle.dn_tool.proofs.run.answer_task.Goals as goal
 
 pub run_script-requires-clause-machine : goal.run_script-requires-clause-machine
-run_script-requires-clause-machine g c = platform_machine _ _ c.requires.lawful (rw (← c.platform.view_is) at c.requires.shaped) c.platform.invariant.walked
+run_script-requires-clause-machine g c = platform_machine _ _ c.requires.kinds.lawful (rw (← c.platform.view_is) at c.requires.shaped) c.platform.invariant.walked
 
 pub print_net-requires : goal.print_net-requires
-print_net-requires g c = record { machine = platform_machine _ _ c.requires.lawful (rw (← c.platform.view_is) at c.requires.shaped) c.platform.invariant.walked }
+print_net-requires g c = record { machine = platform_machine _ _ c.requires.kinds.lawful (rw (← c.platform.view_is) at c.requires.shaped) c.platform.invariant.walked }
 
 pub run_demo-requires-clause-machine : goal.run_demo-requires-clause-machine
-run_demo-requires-clause-machine g c = platform_machine _ _ c.requires.lawful (rw (← c.platform.view_is) at c.requires.shaped) c.platform.invariant.walked
+run_demo-requires-clause-machine g c = platform_machine _ _ c.requires.kinds.lawful (rw (← c.platform.view_is) at c.requires.shaped) c.platform.invariant.walked

@@ -1,5 +1,6 @@
-use Rattle.std.proofs.Common.{◌≡◌, sym, subst, map, List, ℕ, false, refl}
+use Rattle.std.proofs.Common.{◌≡◌, sym, subst, List, ℕ, false, refl}
 use Rattle.dn_kind.specs.Kind.{Meaning}
+use Rattle.dn_kind.specs.Kinded.{kinds_of}
 use Rattle.dn_words.specs.declared.words.Task.TheVariants.{Demo}
 use Rattle.dn_tool.specs.Answer.{Answer, IsAnswered, demo_answer, is_script, text_answer}
 use Rattle.dn_tool.specs.Halt.{ending_status}
@@ -8,7 +9,7 @@ use Rattle.dn_tool.proofs.run.demo.Goals as goal
 
 pub returns-in-Ok-clause-answered : goal.returns-in-Ok-clause-answered
 returns-in-Ok-clause-answered g c =
-    let kinds : List Meaning = map (λ k. (goal.UnitKind-dyn g (k.vtable, k.value)).meaning k.value) c.args.kinds.now.list.items in
+    let kinds : List Meaning = kinds_of (λ k. (goal.UnitKind-dyn g k).meaning k.1) c.args.kinds.now in
     let P : ℕ → Answer → Type 0 = λ status a. IsAnswered kinds a status (g.K.Sink.written c.args.sink.now) (g.K.Sink.written c.answer_text.new.sink) (g.D.Tables.log c.args.device.now) (g.D.Tables.log c.answer_text.new.device) (g.D.Tables.words c.answer_text.new.device) in
     let told : P (ending_status c.answer_text.result) (text_answer (Demo c.args.agents) kinds c.in-Ok.text.items) = rw (← c.deref.ensures.value) c.answer_text.ensures.answered in
     let made : P (ending_status c.answer_text.result) (demo_answer c.args.agents kinds) = subst (λ (t : List ℕ). P (ending_status c.answer_text.result) (text_answer (Demo c.args.agents) kinds t)) c.in-Ok.ensures told in
@@ -16,7 +17,7 @@ returns-in-Ok-clause-answered g c =
 
 pub returns-in-Ok-clause-untouched : goal.returns-in-Ok-clause-untouched
 returns-in-Ok-clause-untouched g c =
-    let kinds : List Meaning = map (λ k. (goal.UnitKind-dyn g (k.vtable, k.value)).meaning k.value) c.args.kinds.now.list.items in
+    let kinds : List Meaning = kinds_of (λ k. (goal.UnitKind-dyn g k).meaning k.1) c.args.kinds.now in
     let P : Answer → Type 0 = λ a. is_script a ≡ false → c.answer_text.new.device ≡ c.args.device.now in
     let told : P (text_answer (Demo c.args.agents) kinds c.in-Ok.text.items) = rw (← c.deref.ensures.value) c.answer_text.ensures.untouched in
     subst (λ (t : List ℕ). P (text_answer (Demo c.args.agents) kinds t)) c.in-Ok.ensures told

@@ -1,6 +1,7 @@
-use Rattle.std.proofs.Common.{rules, ◌≡◌, ◌∙◌, ◌<◌, sym, subst, ℕ, length, map, List, Some, true, false, true≢false, refl}
+use Rattle.std.proofs.Common.{rules, ◌≡◌, ◌∙◌, ◌<◌, sym, subst, ℕ, length, List, Some, true, false, true≢false, refl}
 use Rattle.dn_base.specs.Outside.{AtEnd, input_limit}
 use Rattle.dn_kind.specs.Kind.{Meaning}
+use Rattle.dn_kind.specs.Kinded.{kinds_of}
 use Rattle.dn_words.specs.Words.{task_of}
 use Rattle.dn_tool.specs.Answer.{Answer, IsAnswered, IsInput, answer, is_script, task_reads, text_answer}
 use Rattle.dn_tool.specs.Halt.{ending_status}
@@ -11,9 +12,9 @@ use Rattle.dn_tool.proofs.run.run.Goals.{In-Ok}
 use Rattle.dn_tool.proofs.run.run.Goals as goal
 
 -- what holds of the answer to what was read holds of the answer to the whole text
-whole : (g : Over) (c : In-Ok g) (text : List ℕ) → IsInput c.args.words.now (g.S.Source.left c.args.source.now) text → (P : Answer → Type 0) → P (text_answer c.in-Ok-Some.task (map (λ k. (goal.UnitKind-dyn g (k.vtable, k.value)).meaning k.value) c.args.kinds.now.list.items) c.in-Ok.text.items) → P (answer c.args.words.now (map (λ k. (goal.UnitKind-dyn g (k.vtable, k.value)).meaning k.value) c.args.kinds.now.list.items) text)
+whole : (g : Over) (c : In-Ok g) (text : List ℕ) → IsInput c.args.words.now (g.S.Source.left c.args.source.now) text → (P : Answer → Type 0) → P (text_answer c.in-Ok-Some.task (kinds_of (λ k. (goal.UnitKind-dyn g k).meaning k.1) c.args.kinds.now) c.in-Ok.text.items) → P (answer c.args.words.now (kinds_of (λ k. (goal.UnitKind-dyn g k).meaning k.1) c.args.kinds.now) text)
 whole g c text input P told =
-    let kinds : List Meaning = map (λ k. (goal.UnitKind-dyn g (k.vtable, k.value)).meaning k.value) c.args.kinds.now.list.items in
+    let kinds : List Meaning = kinds_of (λ k. (goal.UnitKind-dyn g k).meaning k.1) c.args.kinds.now in
     let task = c.in-Ok-Some.task in
     let asked : task_of c.args.words.now ≡ Some task = sym c.in-Ok-Some.ensures.task ∙ c.in-Ok-Some.field-0-is in
     let read : task_reads task ≡ true = task_is_read task c.in_default.not-Demo in
@@ -25,7 +26,7 @@ returns-in-Err-clause-answered g c text input = unanswered _ _ 7 _ _ _ _ _ refl 
 
 pub returns-in-Err-Failed-clause-answered : goal.returns-in-Err-Failed-clause-answered
 returns-in-Err-Failed-clause-answered g c text input =
-    let kinds : List Meaning = map (λ k. (goal.UnitKind-dyn g (k.vtable, k.value)).meaning k.value) c.args.kinds.now.list.items in
+    let kinds : List Meaning = kinds_of (λ k. (goal.UnitKind-dyn g k).meaning k.1) c.args.kinds.now in
     let asked : task_of c.args.words.now ≡ Some c.in-Ok-Some.task = sym c.in-Ok-Some.ensures.task ∙ c.in-Ok-Some.field-0-is in
     let read = asked_reads c.args.words.now c.in-Ok-Some.task asked (task_is_read c.in-Ok-Some.task c.in_default.not-Demo) in
     unanswered _ _ 2 _ _ _ _ _ refl refl refl (λ e. absurd (true≢false (sym e ∙ read_is_not_shown c.args.words.now kinds text read))) refl refl
@@ -35,7 +36,7 @@ returns-in-Err-OutOfMemory-clause-answered g c text input = unanswered _ _ 7 _ _
 
 pub returns-clause-answered : goal.returns-clause-answered
 returns-clause-answered g c text input =
-    let kinds : List Meaning = map (λ k. (goal.UnitKind-dyn g (k.vtable, k.value)).meaning k.value) c.args.kinds.now.list.items in
+    let kinds : List Meaning = kinds_of (λ k. (goal.UnitKind-dyn g k).meaning k.1) c.args.kinds.now in
     let P : ℕ → Answer → Type 0 = λ status a. IsAnswered kinds a status (g.K.Sink.written c.args.sink.now) (g.K.Sink.written c.answer_text.new.sink) (g.D.Tables.log c.args.device.now) (g.D.Tables.log c.answer_text.new.device) (g.D.Tables.words c.answer_text.new.device) in
     let told : P (ending_status c.answer_text.result) (text_answer c.in-Ok-Some.task kinds c.in-Ok.text.items) = rw (← c.deref.ensures.value) c.answer_text.ensures.answered in
     whole g (goal.at.returns-clause-answered g c).In-Ok text input (P c.status_of-2.result) (subst (λ (n : ℕ). P n (text_answer c.in-Ok-Some.task kinds c.in-Ok.text.items)) (sym c.status_of-2.ensures) told)

@@ -1,25 +1,26 @@
-use Rattle.std.proofs.Common.{rules, ◌≡◌, ◌∙◌, sym, subst, map, List, length, IsTrue, ℕ, Err, false, refl, arith}
+use Rattle.std.proofs.Common.{rules, ◌≡◌, ◌∙◌, sym, subst, List, length, IsTrue, ℕ, Err, false, refl, arith}
 use Rattle.std.specs.List.{list_all}
 use Rattle.dn_base.proofs.Counts.{counted_none, counted_then}
 use Rattle.dn_base.proofs.Told.{if_some_then}
 use Rattle.dn_kind.specs.Kind.{Meaning}
-use Rattle.dn_tables.specs.Set.{tables_of_set}
+use Rattle.dn_kind.specs.Kinded.{kinds_of}
+use Rattle.dn_tables.specs.Set.{device_tables, tables_of_set}
+use Rattle.dn_tables.proofs.Devices.{device_told}
 use Rattle.dn_book.specs.Tables.{tables_of}
 use Rattle.dn_module.specs.declared.command.Command.{Command}
 use Rattle.dn_module.specs.Commands.{names_within}
-use Rattle.dn_tool.specs.declared.halt.Halt.TheVariants.{NoMemory}
+use Rattle.dn_tool.specs.declared.halt.RunHalt.TheVariants.{NoMemory}
 use Rattle.dn_tool.specs.Halt.{is_device_halt, is_write_halt}
-use Rattle.dn_tool.specs.Played.{device_tables}
 use Rattle.dn_tool.specs.State.{state_view}
 use Rattle.dn_tool.proofs.Kept.{machine_owed}
 use Rattle.dn_tool.proofs.Places.{IsNext, first_place, first_rest, known_next, place, told_end, told_next}
-use Rattle.dn_tool.proofs.Played.{IsGone, device_told, gone_start, gone_turned, halted_by, halted_unmade, played_whole}
+use Rattle.dn_tool.proofs.Played.{IsGone, gone_start, gone_turned, halted_by, halted_unmade, played_whole}
 use Rattle.dn_tool.proofs.script.answer_all.Goals as goal
 
 pub commands-init : goal.commands-init
 commands-init g c =
-    let kinds : List Meaning = map (λ k. (goal.UnitKind-dyn g (k.vtable, k.value)).meaning k.value) c.args.machine.kinds.now.list.items in
-    let net = c.args.machine.net.now in
+    let kinds : List Meaning = kinds_of (λ k. (goal.UnitKind-dyn g k).meaning k.1) c.args.machine.on.kinds.now in
+    let net = c.args.machine.on.net.now in
     let cs : List Command = c.args.commands.now in
     let all : c.cursor-rest.result ≡ cs = search rules in
     let owed = machine_owed _ c.args.machine c.args.state.now c.requires.ready.machine c.requires.ready.state in
@@ -34,10 +35,10 @@ commands-init g c =
 
 pub returns-in_err-command-clause-played : goal.returns-in_err-command-clause-played
 returns-in_err-command-clause-played g c =
-    let kinds : List Meaning = map (λ k. (goal.UnitKind-dyn g (k.vtable, k.value)).meaning k.value) c.args.machine.kinds.now.list.items in
+    let kinds : List Meaning = kinds_of (λ k. (goal.UnitKind-dyn g k).meaning k.1) c.args.machine.on.kinds.now in
     let cs : List Command = c.args.commands.now in
     let ended : c.from_residual.result ≡ Err NoMemory = search rules in
-    λ log made. halted_unmade kinds c.args.machine.net.now cs (place cs c.commands.rest) (state_view c.commands.state) c.from_residual.result _ _ _ _ _ ended (omega arith) (c.commands.invariant.gone log made)
+    λ log made. halted_unmade kinds c.args.machine.on.net.now cs (place cs c.commands.rest) (state_view c.commands.state) c.from_residual.result _ _ _ _ _ ended (omega arith) (c.commands.invariant.gone log made)
 
 pub returns-in_err-command-clause-halted : goal.returns-in_err-command-clause-halted
 returns-in_err-command-clause-halted g c =
@@ -50,11 +51,11 @@ returns-in_err-command-clause-halted g c =
 
 pub returns-in_err-ended-clause-played : goal.returns-in_err-ended-clause-played
 returns-in_err-ended-clause-played g c =
-    let kinds : List Meaning = map (λ k. (goal.UnitKind-dyn g (k.vtable, k.value)).meaning k.value) c.args.machine.kinds.now.list.items in
+    let kinds : List Meaning = kinds_of (λ k. (goal.UnitKind-dyn g k).meaning k.1) c.args.machine.on.kinds.now in
     let cs : List Command = c.args.commands.now in
     let at : IsNext cs c.commands.rest c.next.new.self c.in-Some.command = told_next cs _ _ _ _ c.commands.invariant.behind c.in_ok-command.ensures.next c.in-Some.is in
     let ended : c.from_residual-in_err-ended.result ≡ Err c.in_err-ended.field-0.0 = search rules in
-    λ log made. halted_by kinds c.args.machine.net.now cs (place cs c.commands.rest) c.in-Some.command (state_view c.commands.state) (state_view c.answer-ended.new.state) c.answer-ended.result c.in_err-ended.field-0.0 c.from_residual-in_err-ended.result _ _ _ _ _ _ _ c.in_err-ended.was ended at.within at.at (c.commands.invariant.gone log made) c.answer-ended.ensures.through
+    λ log made. halted_by kinds c.args.machine.on.net.now cs (place cs c.commands.rest) c.in-Some.command (state_view c.commands.state) (state_view c.answer-ended.new.state) c.answer-ended.result c.in_err-ended.field-0.0 c.from_residual-in_err-ended.result _ _ _ _ _ _ _ c.in_err-ended.was ended at.within at.at (c.commands.invariant.gone log made) c.answer-ended.ensures.through
 
 pub returns-in_err-ended-clause-halted : goal.returns-in_err-ended-clause-halted
 returns-in_err-ended-clause-halted g c =
@@ -67,8 +68,8 @@ returns-in_err-ended-clause-halted g c =
 
 pub commands-preserved : goal.commands-preserved
 commands-preserved g c =
-    let kinds : List Meaning = map (λ k. (goal.UnitKind-dyn g (k.vtable, k.value)).meaning k.value) c.args.machine.kinds.now.list.items in
-    let net = c.args.machine.net.now in
+    let kinds : List Meaning = kinds_of (λ k. (goal.UnitKind-dyn g k).meaning k.1) c.args.machine.on.kinds.now in
+    let net = c.args.machine.on.net.now in
     let cs : List Command = c.args.commands.now in
     let i : ℕ = place cs c.commands.rest in
     let at : IsNext cs c.commands.rest c.next.new.self c.in-Some.command = told_next cs _ _ _ _ c.commands.invariant.behind c.in_ok-command.ensures.next c.in-Some.is in
@@ -85,8 +86,8 @@ commands-preserved g c =
 
 pub returns-clause-played : goal.returns-clause-played
 returns-clause-played g c =
-    let kinds : List Meaning = map (λ k. (goal.UnitKind-dyn g (k.vtable, k.value)).meaning k.value) c.args.machine.kinds.now.list.items in
-    let net = c.args.machine.net.now in
+    let kinds : List Meaning = kinds_of (λ k. (goal.UnitKind-dyn g k).meaning k.1) c.args.machine.on.kinds.now in
+    let net = c.args.machine.on.net.now in
     let cs : List Command = c.args.commands.now in
     let i : ℕ = place cs c.commands.rest in
     let over : i ≡ length cs = told_end cs c.commands.rest _ _ c.in_ok-command.ensures.next c.in_default.is in

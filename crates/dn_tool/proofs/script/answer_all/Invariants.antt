@@ -1,6 +1,7 @@
-use Rattle.std.proofs.Common.{◌≡◌, IsTrue, false, map, drop, length}
+use Rattle.std.proofs.Common.{◌≡◌, IsTrue, false, drop, length}
 use Rattle.std.specs.List.{list_all}
 use Rattle.dn_base.specs.Outside.{IsCounted}
+use Rattle.dn_kind.specs.Kinded.{kinds_of}
 use Rattle.dn_module.specs.Commands.{names_within}
 use Rattle.dn_tool.specs.State.{IsReadyOn, state_view}
 use Rattle.dn_tool.proofs.Places.{place}
@@ -10,9 +11,9 @@ use Rattle.dn_tool.proofs.script.answer_all.Given as goal
 abbrev pub invariant-commands : goal.invariant-commands
 invariant-commands g l = record {
   behind : l.rest ≡ drop (place l.commands l.rest) l.commands;
-  known : IsTrue (list_all (names_within (length l.fn.machine.net.now)) l.rest);
+  known : IsTrue (list_all (names_within (length l.fn.machine.on.net.now)) l.rest);
   ready : IsReadyOn (λ k. (goal.UnitKind-dyn g k).meaning k.1) l.fn.machine l.state (g.D.Tables.units l.device) (g.D.Tables.words l.device);
-  gone : IsGoneOn (map (λ k. (goal.UnitKind-dyn g (k.vtable, k.value)).meaning k.value) l.fn.machine.kinds.now.list.items) l.fn.machine.net.now l.commands (place l.commands l.rest) (state_view l.state) (g.K.Sink.written l.fn.sink) (g.K.Sink.written l.sink) (g.D.Tables.log l.fn.device) (g.D.Tables.log l.device);
+  gone : IsGoneOn (kinds_of (λ k. (goal.UnitKind-dyn g k).meaning k.1) l.fn.machine.on.kinds.now) l.fn.machine.on.net.now l.commands (place l.commands l.rest) (state_view l.state) (g.K.Sink.written l.fn.sink) (g.K.Sink.written l.sink) (g.D.Tables.log l.fn.device) (g.D.Tables.log l.device);
   sink_counted : IsCounted (g.K.Sink.faults l.fn.sink) (g.K.Sink.faults l.sink) false;
   device_counted : IsCounted (g.D.Tables.faults l.fn.device) (g.D.Tables.faults l.device) false;
 }

@@ -1,5 +1,4 @@
-use Rattle.std.proofs.Common.{refl, map}
-use Rattle.dn_tables.proofs.Slots.{all_of_map}
+use Rattle.std.proofs.Common.{refl}
 use Rattle.dn_vector.specs.Route.{IsPlacedRoute}
 use Rattle.dn_vector.proofs.Allowed.{allowed_is, no_addition, placed_grant, placed_logged, placed_made, still_faithful}
 use Rattle.dn_vector.proofs.route.route.Given.{Over}
@@ -7,7 +6,7 @@ use Rattle.dn_vector.proofs.route.route.Goals.{In-Ok-Some}
 use Rattle.dn_vector.proofs.route.route.Goals as goal
 
 -- the least free vector that has a placement, and where
-placed : (g : Over) (c : In-Ok-Some g) → IsPlacedRoute c.args.system.net.now c.args.book.now.grants c.args.id c.args.agent c.args.line c.args.node c.in-Ok-Some.found.vector c.in-Ok-Some.found.placement
+placed : (g : Over) (c : In-Ok-Some g) → IsPlacedRoute c.args.system.on.net.now c.args.book.now.grants c.args.id c.args.agent c.args.line c.args.node c.in-Ok-Some.found.vector c.in-Ok-Some.found.placement
 placed g c = record {
   allowed = c.refusal.ensures.none c.in_default.is;
   placed = (rw c.in-Ok-Some.field-0-is at c.in-Ok-Some.ensures.found);
@@ -15,45 +14,46 @@ placed g c = record {
 
 pub least_vector-requires : goal.least_vector-requires
 least_vector-requires g c =
-    let is = allowed_is c.args.system.net.now c.args.book.now.grants c.args.id c.args.agent c.args.node (c.refusal.ensures.none c.in_default.is) in
+    let is = allowed_is c.args.system.on.net.now c.args.book.now.grants c.args.id c.args.agent c.args.node (c.refusal.ensures.none c.in_default.is) in
     record { asked = record { system = c.requires.ready.is_system; kept = c.requires.ready.kept; agent = is.agent_is; target = is.target } }
 
 pub commit-requires-clause-placed : goal.commit-requires-clause-placed
 commit-requires-clause-placed g c =
-    placed_grant c.args.system.net.now c.args.book.now.grants c.args.id c.args.agent c.args.line c.args.node c.in-Ok-Some.found.vector c.in-Ok-Some.found.placement
+    placed_grant c.args.system.on.net.now c.args.book.now.grants c.args.id c.args.agent c.args.line c.args.node c.in-Ok-Some.found.vector c.in-Ok-Some.found.placement
     c.grant-grant.result c.grant-grant.ensures (placed g (goal.at.commit-requires-clause-placed g c).In-Ok-Some)
 
 pub returns-in-Ok-None-clause-turn : goal.returns-in-Ok-None-clause-turn
 returns-in-Ok-None-clause-turn g c =
-    (record { allowed = c.refusal.ensures.none c.in_default.is; none = c.in-Ok-None.ensures.none c.in-Ok-None.field-0-is }, refl)
+    let allowed = c.refusal.ensures.none c.in_default.is in
+    let none = c.in-Ok-None.ensures.none c.in-Ok-None.field-0-is in (
+      record {
+        allowed = allowed;
+        none = none;
+        complete = no_addition c.args.system.on.net.now c.args.book.now.grants c.args.id c.args.agent c.args.line c.args.node c.requires.ready.is_system.kinded.legal.legal c.requires.ready.kept.sound allowed none;
+      },
+      refl,
+    )
 
 pub returns-in-Err-Device-clause-stopped : goal.returns-in-Err-Device-clause-stopped
 returns-in-Err-Device-clause-stopped g c =
-    λ e. placed_logged c.args.system.net.now _ c.args.book.now.grants _ c.args.id c.args.agent c.args.line c.args.node c.in-Ok-Some.found.vector c.in-Ok-Some.found.placement
+    λ e. placed_logged c.args.system.on.net.now _ c.args.book.now.grants _ c.args.id c.args.agent c.args.line c.args.node c.in-Ok-Some.found.vector c.in-Ok-Some.found.placement
     c.grant-grant.result _ _ _ c.grant-grant.ensures (placed g (goal.at.returns-in-Err-Device-clause-stopped g c).In-Ok-Some)
     (c.in-Err-Device.ensures.added (λ m. let device = c.in-Err-Device.field-0-is in cc))
 
 pub returns-in-Ok-clause-turn : goal.returns-in-Ok-clause-turn
 returns-in-Ok-clause-turn g c =
-    placed_made c.args.system.net.now c.args.book.now.grants _ c.args.id c.args.agent c.args.line c.args.node c.in-Ok-Some.found.vector c.in-Ok-Some.found.placement
+    placed_made c.args.system.on.net.now c.args.book.now.grants _ c.args.id c.args.agent c.args.line c.args.node c.in-Ok-Some.found.vector c.in-Ok-Some.found.placement
     c.grant-grant.result c.grant-grant.ensures (placed g (goal.at.returns-in-Ok-clause-turn g c).In-Ok-Some)
     c.in-Ok.ensures.granted
 
 pub returns-in-Ok-clause-faithful : goal.returns-in-Ok-clause-faithful
 returns-in-Ok-clause-faithful g c =
-    still_faithful c.args.system.net.now c.args.book.now.grants _ c.args.id c.args.agent c.args.line c.args.node c.in-Ok-Some.found.vector c.in-Ok-Some.found.placement
-    c.grant-grant.result c.grant-grant.ensures c.requires.ready.is_system.legal.legal c.requires.ready.kept.sound (placed g (goal.at.returns-in-Ok-clause-faithful g c).In-Ok-Some)
+    still_faithful c.args.system.on.net.now c.args.book.now.grants _ c.args.id c.args.agent c.args.line c.args.node c.in-Ok-Some.found.vector c.in-Ok-Some.found.placement
+    c.grant-grant.result c.grant-grant.ensures c.requires.ready.is_system.kinded.legal.legal c.requires.ready.kept.sound (placed g (goal.at.returns-in-Ok-clause-faithful g c).In-Ok-Some)
     c.in-Ok.ensures.granted
 
 pub returns-in-Ok-clause-routed : goal.returns-in-Ok-clause-routed
 returns-in-Ok-clause-routed g c =
-    placed_logged c.args.system.net.now _ c.args.book.now.grants _ c.args.id c.args.agent c.args.line c.args.node c.in-Ok-Some.found.vector c.in-Ok-Some.found.placement
+    placed_logged c.args.system.on.net.now _ c.args.book.now.grants _ c.args.id c.args.agent c.args.line c.args.node c.in-Ok-Some.found.vector c.in-Ok-Some.found.placement
     c.grant-grant.result _ _ _ c.grant-grant.ensures (placed g (goal.at.returns-in-Ok-clause-routed g c).In-Ok-Some)
     (c.in-Ok.ensures.added (λ e. cc))
-
-pub returns-in-Ok-None-clause-complete : goal.returns-in-Ok-None-clause-complete
-returns-in-Ok-None-clause-complete g c =
-    let ks = map (λ k. (goal.UnitKind-dyn g (k.vtable, k.value)).meaning k.value) c.args.system.kinds.now.list.items in
-    λ e. no_addition c.args.system.net.now ks c.args.book.now.grants c.args.book.now.set c.args.id c.args.agent c.args.line c.args.node c.requires.ready.is_system.legal.legal
-    (all_of_map _ c.args.system.kinds.now.list.items c.requires.ready.is_system.lawful) c.requires.ready.kept (c.refusal.ensures.none c.in_default.is)
-    (c.in-Ok-None.ensures.none c.in-Ok-None.field-0-is)

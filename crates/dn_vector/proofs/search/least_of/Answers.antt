@@ -7,7 +7,7 @@ use Rattle.dn_vector.proofs.search.least_of.Goals as goal
 
 pub loop-vector-preserved : goal.loop-vector-preserved
 loop-vector-preserved g c =
-    let net = c.args.asked.system.net.now in
+    let net = c.args.asked.system.on.net.now in
     let book = c.args.asked.book.now.grants in
     let here : HasNoPlace net book c.args.asked.agent c.args.asked.line c.args.asked.node c.loop-vector.vector =
     subst (λ rq. NoneSuited net (slots_of net book) rq (Some c.args.asked.line)) c.vector_request-request.ensures
@@ -19,7 +19,7 @@ loop-vector-preserved g c =
 
 pub returns-in-Some-clause-found : goal.returns-in-Some-clause-found
 returns-in-Some-clause-found g c =
-    let net = c.args.asked.system.net.now in
+    let net = c.args.asked.system.on.net.now in
     let book = c.args.asked.book.now.grants in
     record {
       from = c.loop-vector.auto.vector;

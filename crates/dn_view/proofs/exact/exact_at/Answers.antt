@@ -20,38 +20,38 @@ use Rattle.dn_view.proofs.exact.exact_at.Goals.{In_ok-shown}
 use Rattle.dn_view.proofs.exact.exact_at.Goals as goal
 
 -- what is shown newly is what is added
-added : (g : Over) (c : In_ok-shown g) (a : ℕ) (z : End) → a ≤ TOP → (segs_give c.in_ok-shown.shown.items a z ≡ true) ↔ IsAdded c.args.trial.system.net.now (trial_records (λ k. (goal.UnitKind-dyn g (k.vtable, k.value)).meaning k.value) c.args.trial) c.args.trial.request.now c.args.trial.placement.now c.args.trial.access (record { node = c.args.node; addr = a }) (name_of_end z)
+added : (g : Over) (c : In_ok-shown g) (a : ℕ) (z : End) → a ≤ TOP → (segs_give c.in_ok-shown.shown.items a z ≡ true) ↔ IsAdded c.args.trial.system.on.net.now (trial_records (λ k. (goal.UnitKind-dyn g k).meaning k.1) c.args.trial) c.args.trial.request.now c.args.trial.placement.now c.args.trial.access (record { node = c.args.node; addr = a }) (name_of_end z)
 added g c =
-    let there : c.args.node < length c.args.trial.system.flats.now.nodes = subst (λ n. c.args.node < n) (sym c.requires.system.flat.every) (agent_there c.args.trial.system.net.now c.args.node (sym c.if-not-is_agent.ensures)) in
-    added_is c.args.trial.system.net.now (trial_records (λ k. (goal.UnitKind-dyn g (k.vtable, k.value)).meaning k.value) c.args.trial) c.args.trial.request.now c.args.trial.placement.now c.args.trial.access c.args.node c.args.trial.system.flats.now c.requires.system.flat there c.in_ok-stops.stops.items c.in_ok-shown.shown.items c.in_ok-stops.ensures c.in_ok-shown.ensures
+    let there : c.args.node < length c.args.trial.system.flats.now.nodes = subst (λ n. c.args.node < n) (sym c.requires.system.flat.every) (agent_there c.args.trial.system.on.net.now c.args.node (sym c.if-not-is_agent.ensures)) in
+    added_is c.args.trial.system.on.net.now (trial_records (λ k. (goal.UnitKind-dyn g k).meaning k.1) c.args.trial) c.args.trial.request.now c.args.trial.placement.now c.args.trial.access c.args.node c.args.trial.system.flats.now c.requires.system.flat there c.in_ok-stops.stops.items c.in_ok-shown.shown.items c.in_ok-stops.ensures c.in_ok-shown.ensures
 
 pub returns-then-not-is_agent : goal.returns-then-not-is_agent
 returns-then-not-is_agent g c =
-    no_agent c.args.trial.system.net.now (IsExactIn (λ k. (goal.UnitKind-dyn g (k.vtable, k.value)).meaning k.value) c.args.trial) c.args.node (sym c.if-not-is_agent.ensures)
+    no_agent c.args.trial.system.on.net.now (IsExactIn (λ k. (goal.UnitKind-dyn g k).meaning k.1) c.args.trial) c.args.node (sym c.if-not-is_agent.ensures)
 
 pub returns-then-is_untouched : goal.returns-then-is_untouched
 returns-then-is_untouched g c =
-    an_agent c.args.trial.system.net.now (IsExactIn (λ k. (goal.UnitKind-dyn g (k.vtable, k.value)).meaning k.value) c.args.trial) c.args.node (sym c.if-not-is_agent.ensures) ((λ _. c.if-is_untouched.ensures refl (trial_records (λ k. (goal.UnitKind-dyn g (k.vtable, k.value)).meaning k.value) c.args.trial)), (λ _. refl))
+    an_agent c.args.trial.system.on.net.now (IsExactIn (λ k. (goal.UnitKind-dyn g k).meaning k.1) c.args.trial) c.args.node (sym c.if-not-is_agent.ensures) ((λ _. c.if-is_untouched.ensures refl (trial_records (λ k. (goal.UnitKind-dyn g k).meaning k.1) c.args.trial)), (λ _. refl))
 
 pub returns-then-is_asked : goal.returns-then-is_asked
 returns-then-is_asked g c =
-    let h = trial_records (λ k. (goal.UnitKind-dyn g (k.vtable, k.value)).meaning k.value) c.args.trial in
+    let h = trial_records (λ k. (goal.UnitKind-dyn g k).meaning k.1) c.args.trial in
     let rq = c.args.trial.request.now in
     let p = c.args.trial.placement.now in
     let shown = c.in_ok-shown.shown.items in
     let asked = and_parts (nat_eq c.args.node rq.agent) (allows rq.rights c.args.trial.access) (sym c.if-is_asked.ensures) in
-    let exact = exact_buffer c.args.trial.system.net.now h rq p c.args.trial.access c.args.node shown (eqb-true c.args.node rq.agent asked.0) asked.1 (added g (goal.at.returns-then-is_asked g c).In_ok-shown) in
-    IfOk-weaker c.show_buffer.result (λ show. (show ≡ true) ↔ ((a : ℕ) (z : End) → a ≤ TOP → (segs_give c.as_slice-segs.result.now a z ≡ true) ↔ IsAskedAt rq c.v.result a z)) (λ show. (show ≡ true) ↔ (IsTrue (is_agent_at (slice_get c.args.trial.system.net.now c.args.node)) → IsExactIn (λ k. (goal.UnitKind-dyn g (k.vtable, k.value)).meaning k.value) c.args.trial c.args.node))
-    (λ show f. an_agent c.args.trial.system.net.now (IsExactIn (λ k. (goal.UnitKind-dyn g (k.vtable, k.value)).meaning k.value) c.args.trial) c.args.node (sym c.if-not-is_agent.ensures)
+    let exact = exact_buffer c.args.trial.system.on.net.now h rq p c.args.trial.access c.args.node shown (eqb-true c.args.node rq.agent asked.0) asked.1 (added g (goal.at.returns-then-is_asked g c).In_ok-shown) in
+    IfOk-weaker c.show_buffer.result (λ show. (show ≡ true) ↔ ((a : ℕ) (z : End) → a ≤ TOP → (segs_give c.as_slice-segs.result.now a z ≡ true) ↔ IsAskedAt rq c.v.result a z)) (λ show. (show ≡ true) ↔ (IsTrue (is_agent_at (slice_get c.args.trial.system.on.net.now c.args.node)) → IsExactIn (λ k. (goal.UnitKind-dyn g k).meaning k.1) c.args.trial c.args.node))
+    (λ show f. an_agent c.args.trial.system.on.net.now (IsExactIn (λ k. (goal.UnitKind-dyn g k).meaning k.1) c.args.trial) c.args.node (sym c.if-not-is_agent.ensures)
     (means_then (subst (λ (s : List Seg). (show ≡ true) ↔ ((a : ℕ) (z : End) → a ≤ TOP → (segs_give s a z ≡ true) ↔ IsAskedAt rq p.v a z)) c.as_slice-segs.ensures.value (subst (λ v. (show ≡ true) ↔ ((a : ℕ) (z : End) → a ≤ TOP → (segs_give c.as_slice-segs.result.now a z ≡ true) ↔ IsAskedAt rq v a z)) c.v.ensures f)) exact))
     c.show_buffer.ensures
 
 pub returns : goal.returns
 returns g c =
-    let h = trial_records (λ k. (goal.UnitKind-dyn g (k.vtable, k.value)).meaning k.value) c.args.trial in
+    let h = trial_records (λ k. (goal.UnitKind-dyn g k).meaning k.1) c.args.trial in
     let rq = c.args.trial.request.now in
     let p = c.args.trial.placement.now in
     let same : c.is_empty.result ≡ (length c.in_ok-shown.shown.items == 0) = search rules in
-    an_agent c.args.trial.system.net.now (IsExactIn (λ k. (goal.UnitKind-dyn g (k.vtable, k.value)).meaning k.value) c.args.trial) c.args.node (sym c.if-not-is_agent.ensures)
-    (subst (λ b. (b ≡ true) ↔ IsExactAt c.args.trial.system.net.now h rq p c.args.trial.access c.args.node) (sym same)
-    (exact_none c.args.trial.system.net.now h rq p c.args.trial.access c.args.node c.in_ok-shown.shown.items (not_asked c.args.trial.system.net.now h rq p c.args.trial.access c.args.node (sym c.if-is_asked.ensures)) (added g (goal.at.returns g c).In_ok-shown)))
+    an_agent c.args.trial.system.on.net.now (IsExactIn (λ k. (goal.UnitKind-dyn g k).meaning k.1) c.args.trial) c.args.node (sym c.if-not-is_agent.ensures)
+    (subst (λ b. (b ≡ true) ↔ IsExactAt c.args.trial.system.on.net.now h rq p c.args.trial.access c.args.node) (sym same)
+    (exact_none c.args.trial.system.on.net.now h rq p c.args.trial.access c.args.node c.in_ok-shown.shown.items (not_asked c.args.trial.system.on.net.now h rq p c.args.trial.access c.args.node (sym c.if-is_asked.ensures)) (added g (goal.at.returns g c).In_ok-shown)))

@@ -5,4 +5,4 @@ use Rattle.dn_view.proofs.exact.exact_for.Given as goal
 
 abbrev pub invariant-loop-node : goal.invariant-loop-node
 invariant-loop-node g l =
-    (m : ℕ) → m < l.node → IsTrue (is_agent_at (slice_get l.trial.system.net.now m)) → IsExactIn (λ k. (goal.UnitKind-dyn g (k.vtable, k.value)).meaning k.value) l.trial m
+    (m : ℕ) → m < l.node → IsTrue (is_agent_at (slice_get l.trial.system.on.net.now m)) → IsExactIn (λ k. (goal.UnitKind-dyn g k).meaning k.1) l.trial m

@@ -14,24 +14,24 @@ loop-init g c a z low = ((λ x. x), (λ x. x))
 
 pub loop-preserved : goal.loop-preserved
 loop-preserved g c a z low =
-    let net = c.args.trial.system.net.now in
-    let old : Held = kept_in (λ k. (goal.UnitKind-dyn g (k.vtable, k.value)).meaning k.value) c.args.trial in
-    let fresh : Held = fresh_in (λ k. (goal.UnitKind-dyn g (k.vtable, k.value)).meaning k.value) c.args.trial in
-    let all : Held = joined_in (λ k. (goal.UnitKind-dyn g (k.vtable, k.value)).meaning k.value) c.args.trial in
-    let held : AreHeld net old = course_held (λ k. (goal.UnitKind-dyn g (k.vtable, k.value)).meaning k.value) (course_by c.args.trial Kept) (record { system = c.requires.system; fits = c.requires.fits; fitting = tt }) in
+    let net = c.args.trial.system.on.net.now in
+    let old : Held = kept_in (λ k. (goal.UnitKind-dyn g k).meaning k.1) c.args.trial in
+    let fresh : Held = fresh_in (λ k. (goal.UnitKind-dyn g k).meaning k.1) c.args.trial in
+    let all : Held = joined_in (λ k. (goal.UnitKind-dyn g k).meaning k.1) c.args.trial in
+    let held : AreHeld net old = course_held (λ k. (goal.UnitKind-dyn g k).meaning k.1) (course_by c.args.trial Kept) (record { system = c.requires.system; fits = c.requires.fits; fitting = tt }) in
     let shown' : List Seg = c.push_newly.new.shown.items in
     let level' : List Seg = c.in_ok-level.level.items in
     means_then (c.loop.invariant a z low)
     (subst (λ n. NewlyComes net old fresh all c.loop.shown.items c.loop.level.items n a z ↔ NewlyComes net old fresh all shown' level' (3 - (c.loop.counter + 1)) a z) (sym (one_less c.loop.counter c.loop-test.true))
-    (newly_next net c.requires.system.legal.legal old fresh all held c.args.trial.system.flats.now c.requires.system.flat c.loop.shown.items shown' c.loop.level.items level' (3 - (c.loop.counter + 1)) a z
+    (newly_next net c.requires.system.kinded.legal.legal old fresh all held c.args.trial.system.flats.now c.requires.system.flat c.loop.shown.items shown' c.loop.level.items level' (3 - (c.loop.counter + 1)) a z
     (rw c.as_slice-segs.ensures.value at (c.in_ok-push_newly.ensures a z low))
     (λ t. rw c.as_slice-segs.ensures.value at (c.in_ok-level.ensures a t))))
 
 pub returns : goal.returns
 returns g c a z low =
-    let net = c.args.trial.system.net.now in
-    let old : Held = kept_in (λ k. (goal.UnitKind-dyn g (k.vtable, k.value)).meaning k.value) c.args.trial in
-    let fresh : Held = fresh_in (λ k. (goal.UnitKind-dyn g (k.vtable, k.value)).meaning k.value) c.args.trial in
-    let all : Held = joined_in (λ k. (goal.UnitKind-dyn g (k.vtable, k.value)).meaning k.value) c.args.trial in
+    let net = c.args.trial.system.on.net.now in
+    let old : Held = kept_in (λ k. (goal.UnitKind-dyn g k).meaning k.1) c.args.trial in
+    let fresh : Held = fresh_in (λ k. (goal.UnitKind-dyn g k).meaning k.1) c.args.trial in
+    let all : Held = joined_in (λ k. (goal.UnitKind-dyn g k).meaning k.1) c.args.trial in
     let none : 3 - c.loop.counter ≡ 0 = (let t = c.loop-test.false in omega arith) in
     both_turned (means_then (both_turned (newly_whole net old fresh all c.new-shown.result.items c.args.stops.items a z c.new-shown.ensures.items)) (means_then (c.loop.invariant a z low) (subst (λ n. NewlyComes net old fresh all c.loop.shown.items c.loop.level.items n a z ↔ (segs_give c.loop.shown.items a z ≡ true)) (sym none) (newly_end net old fresh all c.loop.shown.items c.loop.level.items a z))))

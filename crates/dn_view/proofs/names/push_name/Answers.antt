@@ -1,6 +1,5 @@
 -- The name that the segment gives to the address, or none.
-use Rattle.std.proofs.Common.{◌≡◌, ◌+◌, ◌-◌, ◌++◌, ◌∷◌, [], ◌∙◌, ap, arith}
-use Rattle.dn_net.specs.declared.node.Name.{Name}
+use Rattle.std.proofs.Common.{◌∙◌, ap, arith}
 use Rattle.dn_interval.specs.Strands.{seg_gives}
 use Rattle.dn_walk.specs.Ends.{end_of}
 use Rattle.dn_view.specs.Named.{has_name}

@@ -1,4 +1,4 @@
-use Rattle.std.proofs.Common.{◌≡◌, ◌∙◌, ◌≤◌, ℕ, Bool, ap, sym, subst, map, Some, IsTrue, nat_lt, arith}
+use Rattle.std.proofs.Common.{◌≡◌, ◌∙◌, ◌≤◌, ℕ, Bool, ap, sym, subst, Some, IsTrue, nat_lt, arith}
 use Rattle.std.specs.List.{list_all}
 use Rattle.std.specs.Option.{option_copied}
 use Rattle.dn_interval.specs.declared.row.End.{End}
@@ -7,6 +7,7 @@ use Rattle.dn_interval.specs.Spans.{in_span}
 use Rattle.dn_net.specs.declared.node.Unit.{Unit as UnitPart}
 use Rattle.dn_net.specs.Decode.{unit_at}
 use Rattle.dn_net.proofs.Steps.{ports_at}
+use Rattle.dn_kind.specs.Kinded.{kinds_of}
 use Rattle.dn_kind.specs.Tables.{Held, record_allowing}
 use Rattle.dn_tables.specs.Set.{record_kept}
 use Rattle.dn_view.specs.Courses.{course_records}
@@ -16,13 +17,13 @@ use Rattle.dn_view.proofs.pass.pass_seg.Goals as goal
 
 pub leads_on-requires : goal.leads_on-requires
 leads_on-requires g c =
-    let at : unit_at c.args.course.system.net.now c.args.seg.node ≡ Some c.in-Some.unit.now = sym c.unit_of.ensures ∙ ap option_copied c.in-Some.is in
-    subst (λ n. IsTrue (list_all (λ p. nat_lt p n) c.in-Some.unit.now.ports)) (sym c.requires.system.flat.every) (ports_at c.args.course.system.net.now c.args.seg.node c.in-Some.unit.now c.requires.system.legal.legal.nodes.closed at)
+    let at : unit_at c.args.course.system.on.net.now c.args.seg.node ≡ Some c.in-Some.unit.now = sym c.unit_of.ensures ∙ ap option_copied c.in-Some.is in
+    subst (λ n. IsTrue (list_all (λ p. nat_lt p n) c.in-Some.unit.now.ports)) (sym c.requires.system.flat.every) (ports_at c.args.course.system.on.net.now c.args.seg.node c.in-Some.unit.now c.requires.system.kinded.legal.legal.nodes.closed at)
 
 pub returns-then-not-leads_on : goal.returns-then-not-leads_on
 returns-then-not-leads_on g c a z =
-    let net = c.args.course.system.net.now in
-    let h : Held = course_records (λ k. (goal.UnitKind-dyn g (k.vtable, k.value)).meaning k.value) c.args.course in
+    let net = c.args.course.system.on.net.now in
+    let h : Held = course_records (λ k. (goal.UnitKind-dyn g k).meaning k.1) c.args.course in
     let next : ℕ → ℕ → End → Bool = part_gives c.args.part c.args.course.system.flats.now in
     let s = c.args.seg in
     let at : unit_at net s.node ≡ Some c.in-Some.unit.now = sym c.unit_of.ensures ∙ ap option_copied c.in-Some.is in
@@ -44,13 +45,13 @@ loop-slot-preserved g c =
 
 pub returns : goal.returns
 returns g c a z =
-    let net = c.args.course.system.net.now in
-    let h : Held = course_records (λ k. (goal.UnitKind-dyn g (k.vtable, k.value)).meaning k.value) c.args.course in
+    let net = c.args.course.system.on.net.now in
+    let h : Held = course_records (λ k. (goal.UnitKind-dyn g k).meaning k.1) c.args.course in
     let next : ℕ → ℕ → End → Bool = part_gives c.args.part c.args.course.system.flats.now in
     let s = c.args.seg in
     let at : unit_at net s.node ≡ Some c.in-Some.unit.now = sym c.unit_of.ensures ∙ ap option_copied c.in-Some.is in
     let u : UnitPart = c.in-Some.unit.now in
     let over : c.slot_range-range.result.1 ≤ c.loop-slot.slot = c.loop-slot-test.false in
     slots_all net h next s u c.slot_range-range.result.0 c.slot_range-range.result.1 c.loop-slot.slot a z (segs_give c.args.out.now.items a z) (segs_give c.loop-slot.out.items a z) at over
-    (λ slot first last out. ap (record_allowing c.args.course.access) (c.slot_range-range.ensures.rest (record_kept (map (λ k. (goal.UnitKind-dyn g (k.vtable, k.value)).meaning k.value) c.args.course.system.kinds.now.list.items) c.args.course.tables.now) slot c.held_end-end.ensures.none first last out))
+    (λ slot first last out. ap (record_allowing c.args.course.access) (c.slot_range-range.ensures.rest (record_kept (kinds_of (λ k. (goal.UnitKind-dyn g k).meaning k.1) c.args.course.system.on.kinds.now) c.args.course.tables.now) slot c.held_end-end.ensures.none first last out))
     (c.loop-slot.invariant.so_far a z)

@@ -8,8 +8,8 @@ use Rattle.dn_view.proofs.pass.pass_seg.Given as goal
 
 abbrev pub invariant-loop-slot : goal.invariant-loop-slot
 invariant-loop-slot g l =
-    let net = l.course.system.net.now in
-    let h = course_records (λ k. (goal.UnitKind-dyn g (k.vtable, k.value)).meaning k.value) l.course in
+    let net = l.course.system.on.net.now in
+    let h = course_records (λ k. (goal.UnitKind-dyn g k).meaning k.1) l.course in
     let next = part_gives l.part l.course.system.flats.now in
     record {
       from : l.initial.slot ≤ l.slot;

@@ -1,23 +1,23 @@
-use Rattle.std.proofs.Common.{◌≡◌, ◌∙◌, ◌⊎◌, ◌≤◌, ℕ, inl, inr, IsSome, Some, get_or, map, List, sym, subst, ap, refl, arith}
+use Rattle.std.proofs.Common.{◌≡◌, ◌∙◌, ◌≤◌, ℕ, inl, inr, IsSome, get_or, List, sym, subst, refl, arith}
 use Rattle.std.proofs.lemmas.Bool.{cases_lt}
 use Rattle.dn_tables.specs.Set.{words_in}
 use Rattle.dn_tables.proofs.Slots.{all_of_map}
 use Rattle.dn_tables.proofs.Units.{unit_fits}
-use Rattle.dn_kind.proofs.Held.{held_past}
-use Rattle.dn_view.proofs.Held.{kept_are_held, none_behind}
+use Rattle.dn_kind.specs.Kinded.{kinds_of}
+use Rattle.dn_view.proofs.Held.{none_behind}
 use Rattle.dn_view.proofs.range.held_end.Goals as goal
 
 pub words-requires : goal.words-requires
 words-requires g c =
-    let kinds = map (λ k. (goal.UnitKind-dyn g (k.vtable, k.value)).meaning k.value) c.args.system.kinds.now.list.items in
-    subst (λ o. IsSome o) (sym (unit_fits c.args.system.net.now kinds c.args.tables.now c.requires.fits c.args.node ∙ c.requires.unit)) refl
+    let kinds = kinds_of (λ k. (goal.UnitKind-dyn g k).meaning k.1) c.args.system.on.kinds.now in
+    subst (λ o. IsSome o) (sym (unit_fits c.args.system.on.net.now kinds c.args.tables.now c.requires.fits c.args.node ∙ c.requires.unit)) refl
 
 pub returns : goal.returns
 returns g c =
-    let kinds = map (λ k. (goal.UnitKind-dyn g (k.vtable, k.value)).meaning k.value) c.args.system.kinds.now.list.items in
-    let net = c.args.system.net.now in
+    let kinds = kinds_of (λ k. (goal.UnitKind-dyn g k).meaning k.1) c.args.system.on.kinds.now in
+    let net = c.args.system.on.net.now in
     let set = c.args.tables.now in
-    let lawful = all_of_map _ c.args.system.kinds.now.list.items c.requires.system.lawful in
+    let lawful = all_of_map _ c.args.system.on.kinds.now.list.items c.requires.system.kinded.lawful in
     let zeros : (k : ℕ) → c.zeros_from.result ≤ k → get_or (words_in set c.args.node) k 0 ≡ 0 = subst (λ (ws : List ℕ). (k : ℕ) → c.zeros_from.result ≤ k → get_or ws k 0 ≡ 0) c.words.ensures.value c.zeros_from.ensures in
     record {
       most = omega (arith, c.from-slots.ensures);

@@ -1,4 +1,4 @@
-use Rattle.std.proofs.Common.{◌≡◌, ◌∙◌, ◌≤◌, inl, inr, None, ap, sym, subst, rules, arith}
+use Rattle.std.proofs.Common.{◌≡◌, ◌∙◌, inl, inr, None, ap, sym, subst, rules, arith}
 use Rattle.dn_placement.specs.Records.{or_record, placed_records}
 use Rattle.dn_view.specs.declared.records.Records.{Records}
 use Rattle.dn_view.specs.declared.records.Records.TheVariants.{Kept, Joined}

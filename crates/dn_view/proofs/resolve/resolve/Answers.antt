@@ -1,9 +1,10 @@
 -- The names that the segments give are the list, which has none past the last address.
-use Rattle.std.proofs.Common.{rules, ◌≡◌, ◌<◌, ◌∙◌, ◌||◌, length, sym, subst, map, List}
+use Rattle.std.proofs.Common.{rules, ◌≡◌, ◌<◌, ◌∙◌, ◌||◌, length, sym, subst, List}
 use Rattle.dn_interval.specs.declared.span.TheConstants.{TOP}
 use Rattle.dn_interval.specs.Strands.{segs_give}
 use Rattle.dn_net.specs.declared.node.Name.{Name}
 use Rattle.dn_kind.specs.Kind.{Meaning}
+use Rattle.dn_kind.specs.Kinded.{kinds_of}
 use Rattle.dn_kind.specs.Tables.{Held, allowing, resolved_names_under}
 use Rattle.dn_kind.proofs.Stages.{set_is_ends}
 use Rattle.dn_tables.specs.Set.{record_kept}
@@ -14,20 +15,20 @@ use Rattle.dn_view.proofs.resolve.resolve.Goals as goal
 
 pub returns-in_default : goal.returns-in_default
 returns-in_default g c =
-    let kinds : List Meaning = map (λ k. (goal.UnitKind-dyn g (k.vtable, k.value)).meaning k.value) c.args.system.kinds.now.list.items in
+    let kinds : List Meaning = kinds_of (λ k. (goal.UnitKind-dyn g k).meaning k.1) c.args.system.on.kinds.now in
     let h : Held = allowing c.args.access (record_kept kinds c.args.tables.now) in
     let past : TOP < c.args.name.addr = search rules in
-    record { names = c.new.ensures ∙ past_under c.args.system.net.now h c.args.name past }
+    record { names = c.new.ensures ∙ past_under c.args.system.on.net.now h c.args.name past }
 
 pub shown_at-requires-clause-there : goal.shown_at-requires-clause-there
 shown_at-requires-clause-there g c =
     let alone : IsAtName c.args.name c.in-Some.seg = search rules in
-    subst (λ n. n < length c.args.system.net.now) (sym alone.node) c.requires.there
+    subst (λ n. n < length c.args.system.on.net.now) (sym alone.node) c.requires.there
 
 pub returns : goal.returns
 returns g c =
-    let kinds : List Meaning = map (λ k. (goal.UnitKind-dyn g (k.vtable, k.value)).meaning k.value) c.args.system.kinds.now.list.items in
-    let net = c.args.system.net.now in
+    let kinds : List Meaning = kinds_of (λ k. (goal.UnitKind-dyn g k).meaning k.1) c.args.system.on.kinds.now in
+    let net = c.args.system.on.net.now in
     let x : Name = c.args.name in
     let h : Held = allowing c.args.access (record_kept kinds c.args.tables.now) in
     let alone : IsAtName x c.in-Some.seg = search rules in

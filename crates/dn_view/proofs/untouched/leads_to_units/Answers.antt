@@ -7,5 +7,5 @@ use Rattle.dn_view.proofs.untouched.leads_to_units.Goals as goal
 
 pub leads_on-requires : goal.leads_on-requires
 leads_on-requires g c =
-    let at : unit_at c.args.system.net.now c.args.node ≡ Some c.in-Some.unit.now = sym c.unit_of.ensures ∙ ap option_copied c.in-Some.is in
-    subst (λ n. IsTrue (list_all (λ p. nat_lt p n) c.in-Some.unit.now.ports)) (sym c.requires.flat.every) (ports_at c.args.system.net.now c.args.node c.in-Some.unit.now c.requires.legal.legal.nodes.closed at)
+    let at : unit_at c.args.system.on.net.now c.args.node ≡ Some c.in-Some.unit.now = sym c.unit_of.ensures ∙ ap option_copied c.in-Some.is in
+    subst (λ n. IsTrue (list_all (λ p. nat_lt p n) c.in-Some.unit.now.ports)) (sym c.requires.flat.every) (ports_at c.args.system.on.net.now c.args.node c.in-Some.unit.now c.requires.kinded.legal.legal.nodes.closed at)

@@ -1,4 +1,4 @@
-use Rattle.dn_net.proofs.Listed.{live_walks_are_all}
+use Rattle.dn_walk.proofs.Listed.{live_walks_are_all}
 use Rattle.dn_walk.proofs.laws.live_walks_are_all.Goals as goal
 
 pub returns : goal.returns

@@ -4,7 +4,7 @@ use Rattle.std.specs.List.{filter, flat_map}
 use Rattle.std.proofs.lemmas.List.{length-append}
 use Rattle.dn_interval.specs.declared.row.Seg.{Seg}
 use Rattle.dn_net.proofs.Places.{length-map}
-use Rattle.dn_walk.specs.Legs.{Leg, AreLegs, leg_view}
+use Rattle.dn_walk.specs.Legs.{BareLeg, AreLegs, leg_view}
 use Rattle.dn_walk.specs.Rows.{row_view}
 use Rattle.dn_walk.specs.Levels.{IsRowOf, bare_meets, bare_onto, bare_extensions}
 use Rattle.dn_walk.proofs.BareWalks.{legs_there, legs_same, met_meet, met_on, rise_back, extended_more, extended_least}
@@ -33,10 +33,10 @@ as_many c met e =
     ap length (sym (goes_on c met e)) ∙ length-map (bare_onto row) (map leg_view met) ∙ length-map leg_view met
 
 pub met_by-met-requires-clause-firsts : goal.met_by-met-requires-clause-firsts
-met_by-met-requires-clause-firsts c = rise_back leg_view (λ (l : Leg). l.lo) c.of.result.now (are_legs (goal.at.met_by-met-requires-clause-firsts c).After-of).firsts
+met_by-met-requires-clause-firsts c = rise_back leg_view (λ (l : BareLeg). l.lo) c.of.result.now (are_legs (goal.at.met_by-met-requires-clause-firsts c).After-of).firsts
 
 pub met_by-met-requires-clause-lasts : goal.met_by-met-requires-clause-lasts
-met_by-met-requires-clause-lasts c = rise_back leg_view (λ (l : Leg). l.hi) c.of.result.now (are_legs (goal.at.met_by-met-requires-clause-lasts c).After-of).lasts
+met_by-met-requires-clause-lasts c = rise_back leg_view (λ (l : BareLeg). l.hi) c.of.result.now (are_legs (goal.at.met_by-met-requires-clause-lasts c).After-of).lasts
 
 pub returns-then-room-len-clause-wide : goal.returns-then-room-len-clause-wide
 returns-then-room-len-clause-wide c =

@@ -2,7 +2,7 @@
 use Rattle.std.proofs.Common.{◌≡◌, ◌≤◌, ◌+◌, ◌-◌, rules, ltb, leb, ap, subst, arith}
 use Rattle.std.proofs.lemmas.List.Sorted.{IsPartitionPoint-from_clause, IsPartitionedBy-ltb, IsPartitionedBy-leb}
 use Rattle.dn_interval.specs.declared.row.Seg.{Seg}
-use Rattle.dn_walk.specs.Levels.{bare_last_out}
+use Rattle.dn_walk.proofs.Meets.{bare_last_out}
 use Rattle.dn_walk.specs.Rows.{row_view}
 use Rattle.dn_walk.proofs.Meets.{Ends, Begins, in_turn, met_is}
 use Rattle.dn_walk.proofs.level.met_by.Goals as goal

@@ -2,7 +2,7 @@
 use Rattle.std.proofs.Common.{◌≡◌, ◌∙◌, None, option_map, ap, sym, map}
 use Rattle.dn_net.specs.UnitRules.{least_fork}
 use Rattle.dn_net.specs.WalkRules.{has_chain}
-use Rattle.dn_net.proofs.Legal.{fork_part, chain_part}
+use Rattle.dn_walk.proofs.Legal.{fork_part, chain_part}
 use Rattle.dn_walk.specs.Rows.{row_view}
 use Rattle.dn_walk.proofs.Overs.{rows_there, none_of}
 use Rattle.dn_walk.proofs.Shown.{fork_view, shown_is_least}

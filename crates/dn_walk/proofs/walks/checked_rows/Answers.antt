@@ -2,7 +2,7 @@
 use Rattle.std.proofs.Common.{◌≡◌, ◌∙◌, sym, length, arith}
 use Rattle.std.proofs.lemmas.Bool.Decides.{nat_tests}
 use Rattle.dn_base.proofs.Lists.{nil_from_length}
-use Rattle.dn_net.proofs.Legal.{no_units}
+use Rattle.dn_walk.proofs.Legal.{no_units}
 use Rattle.dn_walk.proofs.walks.checked_rows.Goals as goal
 
 pub returns-then-is_empty-clause-checks : goal.returns-then-is_empty-clause-checks

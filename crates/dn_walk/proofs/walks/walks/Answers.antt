@@ -13,15 +13,15 @@ use Rattle.dn_net.specs.Walks.{live_walks}
 use Rattle.dn_net.specs.declared.node.NodeDecl.{NodeDecl}
 use Rattle.dn_net.specs.declared.node.Name.{Name}
 use Rattle.dn_walk.specs.declared.fault.WalkFault.{WalkFault}
-use Rattle.dn_walk.specs.declared.level.Levels.{Levels}
+use Rattle.dn_walk.specs.declared.level.WalkLevels.{WalkLevels}
 use Rattle.dn_walk.specs.declared.walks.WalkRow.{WalkRow}
 use Rattle.dn_walk.specs.Rows.{bare_walk, row_view, walk_fault_view}
-use Rattle.dn_walk.specs.Legs.{Leg, bare_legs}
+use Rattle.dn_walk.specs.Legs.{BareLeg, bare_legs}
 use Rattle.dn_walk.specs.Levels.{AreWalkLevels, IsWideWhere, bare_level, bare_levels, bare_walks}
 use Rattle.dn_walk.specs.Ways.{least_of, shown_cycle, shown_path, start_names}
 use Rattle.dn_net.proofs.Kept.{none_broken}
-use Rattle.dn_net.proofs.Endless.{no_fault_is_shallow}
-use Rattle.dn_net.proofs.Legal.{first_part, second_part, legal_breaks_no_rule}
+use Rattle.dn_walk.proofs.Endless.{no_fault_is_shallow}
+use Rattle.dn_walk.proofs.Legal.{first_part, second_part, legal_breaks_no_rule}
 use Rattle.dn_net.proofs.Places.{length-map}
 use Rattle.dn_walk.proofs.Nodes.{all_legs_of}
 use Rattle.dn_walk.proofs.BareWalks.{rows_are, table_is}
@@ -30,7 +30,7 @@ use Rattle.dn_walk.proofs.walks.walks.Goals as goal
 use Rattle.dn_walk.proofs.walks.walks.Goals.{In_ok-levels-2, In_ok-levels-3, In_ok-check_newest-2, then-levels-test+else-not-is_empty, else-levels-test}
 
 -- levels made from the legs of the net
-same_levels : (net : List NodeDecl) (legs : List (List Leg)) (l : Levels) → legs ≡ map bare_legs net → AreWalkLevels legs l → AreWalkLevels (map bare_legs net) l
+same_levels : (net : List NodeDecl) (legs : List (List BareLeg)) (l : WalkLevels) → legs ≡ map bare_legs net → AreWalkLevels legs l → AreWalkLevels (map bare_legs net) l
 same_levels net legs l e h = subst (λ x. AreWalkLevels x l) e h
 
 wide_broken : (P : Type 0) (found o : Option Broken) → (P → found ≡ Some is_wide) → IfSome o (λ b. (b ≡ is_wide) × P) → IfSome o (λ b. found ≡ Some b)
@@ -53,22 +53,22 @@ unit_broken net None e h = tt
 unit_broken net (Some b) e h = second_part net e ∙ h
 
 -- the rows of the newest level begin at nodes of the net
-starts_there : (net : List NodeDecl) → KeepsNodeRules net → (l : Levels) → AreWalkLevels (map bare_legs net) l → length l.sorted.items ≤ 65 → All (λ (r : WalkRow). r.start < length net) l.newest.items
+starts_there : (net : List NodeDecl) → KeepsNodeRules net → (l : WalkLevels) → AreWalkLevels (map bare_legs net) l → length l.sorted.items ≤ 65 → All (λ (r : WalkRow). r.start < length net) l.newest.items
 starts_there net rules l h m = λ k d b.
     let r = rows_are (map bare_legs net) (all_legs_of net rules (map bare_legs net) refl) (length l.sorted.items) 65 m l.newest.items h.newest k d b in
     subst (λ n. (get_or l.newest.items k d).start < n) (length-map bare_legs net) r.start
 
-sorted_starts : (net : List NodeDecl) (l : Levels) → AreWalkLevels (map bare_legs net) l → All (λ level. IsNonDecreasingBy (λ (r : WalkRow). r.start) level) l.sorted.items
+sorted_starts : (net : List NodeDecl) (l : WalkLevels) → AreWalkLevels (map bare_legs net) l → All (λ level. IsNonDecreasingBy (λ (r : WalkRow). r.start) level) l.sorted.items
 sorted_starts net l h = sorted_by_start (map bare_legs net) (length l.sorted.items) l.sorted.items refl h.sorted
 
 -- how many walks there are
-few : (net : List NodeDecl) (l : Levels) → AreWalkLevels (map bare_legs net) l → length (bare_walks (map bare_legs net) (length l.sorted.items)) ≤ walk_limit
+few : (net : List NodeDecl) (l : WalkLevels) → AreWalkLevels (map bare_legs net) l → length (bare_walks (map bare_legs net) (length l.sorted.items)) ≤ walk_limit
 few net l h = let r = h.room in omega arith
 
-cycle_same : (net : List NodeDecl) (l : Levels) → AreWalkLevels (map bare_legs net) l → shown_cycle net (map (map row_view) l.sorted.items) (map row_view l.newest.items) ≡ shown_cycle net (bare_levels (map bare_legs net) (length l.sorted.items)) (bare_level (map bare_legs net) (length l.sorted.items))
+cycle_same : (net : List NodeDecl) (l : WalkLevels) → AreWalkLevels (map bare_legs net) l → shown_cycle net (map (map row_view) l.sorted.items) (map row_view l.newest.items) ≡ shown_cycle net (bare_levels (map bare_legs net) (length l.sorted.items)) (bare_level (map bare_legs net) (length l.sorted.items))
 cycle_same net l h = ap (λ x. shown_cycle net x (map row_view l.newest.items)) h.sorted ∙ ap (shown_cycle net (bare_levels (map bare_legs net) (length l.sorted.items))) h.newest
 
-path_same : (net : List NodeDecl) (l : Levels) → AreWalkLevels (map bare_legs net) l → shown_path net (map (map row_view) l.sorted.items) (map row_view l.newest.items) ≡ shown_path net (bare_levels (map bare_legs net) (length l.sorted.items)) (bare_level (map bare_legs net) (length l.sorted.items))
+path_same : (net : List NodeDecl) (l : WalkLevels) → AreWalkLevels (map bare_legs net) l → shown_path net (map (map row_view) l.sorted.items) (map row_view l.newest.items) ≡ shown_path net (bare_levels (map bare_legs net) (length l.sorted.items)) (bare_level (map bare_legs net) (length l.sorted.items))
 path_same net l h = ap (λ x. shown_path net x (map row_view l.newest.items)) h.sorted ∙ ap (shown_path net (bare_levels (map bare_legs net) (length l.sorted.items))) h.newest
 
 acyclic_more : (net : List NodeDecl) (k c : ℕ) → c ≡ k + 1 → Acyclic net k → least_of (start_names true (bare_level (map bare_legs net) c)) ≡ None → Acyclic net c
@@ -97,12 +97,12 @@ deep_at net checked k c names s l (inr e) a w told =
     cc
 
 -- a level more that is too wide breaks the rule on how many walks there are
-too_wide : (net : List NodeDecl) (legs : List (List Leg)) (k : ℕ) → KeepsNodeRules net → legs ≡ map bare_legs net → Acyclic net k → k ≤ 64 → walk_limit < length (bare_walks legs (k + 1)) → walk_fault net ≡ Some is_wide
+too_wide : (net : List NodeDecl) (legs : List (List BareLeg)) (k : ℕ) → KeepsNodeRules net → legs ≡ map bare_legs net → Acyclic net k → k ≤ 64 → walk_limit < length (bare_walks legs (k + 1)) → walk_fault net ≡ Some is_wide
 too_wide net legs k rules e acyclic shallow w =
     first_part net is_wide (wide_is net rules k acyclic shallow (subst (λ x. walk_limit < length (bare_walks x (k + 1))) e w))
 
 -- and it is the rule that is told
-wide_told : {T : Type 0} (net : List NodeDecl) (legs : List (List Leg)) (k : ℕ) → KeepsNodeRules net → legs ≡ map bare_legs net → Acyclic net k → k ≤ 64 → (r : Result T WalkFault) (fault : WalkFault) → ((y : WalkFault) × (r ≡ Err y) × (y ≡ fault)) → IsWideWhere (walk_limit < length (bare_walks legs (k + 1))) fault → Checks walk_fault_view r (walk_fault net)
+wide_told : {T : Type 0} (net : List NodeDecl) (legs : List (List BareLeg)) (k : ℕ) → KeepsNodeRules net → legs ≡ map bare_legs net → Acyclic net k → k ≤ 64 → (r : Result T WalkFault) (fault : WalkFault) → ((y : WalkFault) × (r ≡ Err y) × (y ≡ fault)) → IsWideWhere (walk_limit < length (bare_walks legs (k + 1))) fault → Checks walk_fault_view r (walk_fault net)
 wide_told net legs k rules e acyclic shallow r fault p wide =
     rw (p.1, p.2) (wide_broken _ _ _ (too_wide net legs k rules e acyclic shallow) wide)
 
@@ -129,7 +129,7 @@ sound c h =
     legal_is net c.requires.rules (length c.levels.levels.sorted.items) (length l.sorted.items) (omega arith) c.levels.invariant.acyclic c.levels.invariant.shallow (few net l h) (ap (λ rows. least_of (start_names false rows)) (sym h.newest) ∙ none)
 
 -- and the rows of all levels but the first are the live walks
-tabled : (net : List NodeDecl) (l : Levels) (k : ℕ) → length l.sorted.items ≡ k + 1 → AreWalkLevels (map bare_legs net) l → Legal net k → map row_view (flat_map (λ x. x) (drop 1 l.sorted.items)) ≡ map bare_walk (live_walks net step_limit)
+tabled : (net : List NodeDecl) (l : WalkLevels) (k : ℕ) → length l.sorted.items ≡ k + 1 → AreWalkLevels (map bare_legs net) l → Legal net k → map row_view (flat_map (λ x. x) (drop 1 l.sorted.items)) ≡ map bare_walk (live_walks net step_limit)
 tabled net l k one h legal =
     let pred : length l.sorted.items - 1 ≡ k = omega arith in
     let some : 0 < length l.sorted.items = omega arith in

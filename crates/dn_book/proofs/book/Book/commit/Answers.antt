@@ -1,6 +1,7 @@
-use Rattle.std.proofs.Common.{◌≡◌, ◌∙◌, ◌++◌, ◌∷◌, [], sym, ap, subst, rules, option_copied, filter, map, reverse, List, None, Bool, true, false, is_err, IsTrue}
+use Rattle.std.proofs.Common.{◌≡◌, ◌∙◌, ◌++◌, ◌∷◌, [], sym, ap, refl, subst, rules, option_copied, filter, reverse, List, None, Bool, true, false, is_err, IsTrue}
 use Rattle.std.specs.List.{flat_map}
 use Rattle.dn_kind.specs.Kind.{Meaning}
+use Rattle.dn_kind.specs.Kinded.{kinds_of}
 use Rattle.dn_kind.specs.Rights.{are_rights}
 use Rattle.dn_tables.specs.Set.{IsOnDevice}
 use Rattle.dn_tables.proofs.Slots.{all_of_map}
@@ -26,32 +27,32 @@ same_grant g c =
     is_behind c.self.inside.grants c.push.new.self c.args.grant c.in-Some.live.now new c.in-Ok.ensures.pushed (sym (ap option_copied c.in-Some.is) ∙ c.get.ensures)
 
 -- what is known of it
-coming : (g : Over) (c : In-Some g) → Coming c.args.net.now (map (λ k. (goal.UnitKind-dyn g (k.vtable, k.value)).meaning k.value) c.args.kinds.now.list.items) c.self.inside.grants c.in-Some.live.now c.self.inside.tables
+coming : (g : Over) (c : In-Some g) → Coming c.args.on.net.now (kinds_of (λ k. (goal.UnitKind-dyn g k).meaning k.1) c.args.on.kinds.now) c.self.inside.grants c.in-Some.live.now c.self.inside.tables
 coming g c = record {
-  lawful = all_of_map (λ k. (goal.UnitKind-dyn g (k.vtable, k.value)).meaning k.value) c.args.kinds.now.list.items c.requires.lawful;
-  legal = c.requires.legal;
-  kept = subst (λ (b : BookState). IsKept c.args.net.now (map (λ k. (goal.UnitKind-dyn g (k.vtable, k.value)).meaning k.value) c.args.kinds.now.list.items) b.grants b.set) (sym c.self.view_is) c.requires.kept;
-  placed = subst (λ (w : Grant). IsGrantFor c.args.net.now c.self.inside.grants w) (sym (same_grant g c)) (subst (λ (b : BookState). IsGrantFor c.args.net.now b.grants c.args.grant) (sym c.self.view_is) c.requires.placed);
+  lawful = all_of_map _ c.args.on.kinds.now.list.items c.requires.on.lawful;
+  legal = c.requires.on.legal;
+  kept = subst (λ (b : BookState). IsKept c.args.on.net.now (kinds_of (λ k. (goal.UnitKind-dyn g k).meaning k.1) c.args.on.kinds.now) b.grants b.set) (sym c.self.view_is) c.requires.kept;
+  placed = subst (λ (w : Grant). IsGrantFor c.args.on.net.now c.self.inside.grants w) (sym (same_grant g c)) (subst (λ (b : BookState). IsGrantFor c.args.on.net.now b.grants c.args.grant) (sym c.self.view_is) c.requires.placed);
 }
 
 -- the set once its records were put
-made : (g : Over) (c : After-write_grant g) → is_err c.write_grant.result ≡ false → c.write_grant.new.tables ≡ after_puts (map (λ k. (goal.UnitKind-dyn g (k.vtable, k.value)).meaning k.value) c.args.kinds.now.list.items) c.self.inside.tables (filter (is_used_by 0 c.self.inside.tables) (joined_slots (reverse (grant_slots c.args.net.now c.in-Some.live.now))))
+made : (g : Over) (c : After-write_grant g) → is_err c.write_grant.result ≡ false → c.write_grant.new.tables ≡ after_puts (kinds_of (λ k. (goal.UnitKind-dyn g k).meaning k.1) c.args.on.kinds.now) c.self.inside.tables (filter (is_used_by 0 c.self.inside.tables) (joined_slots (reverse (grant_slots c.args.on.net.now c.in-Some.live.now))))
 made g c was = ok_by_err c.write_grant.result _ c.write_grant.ensures.done was
 
 -- what the device was told, whether a write failed or none did
-told : (g : Over) (c : After-write_grant g) (failed : Bool) → c.in-Some.live.now ≡ c.args.grant → Coming c.args.net.now (map (λ k. (goal.UnitKind-dyn g (k.vtable, k.value)).meaning k.value) c.args.kinds.now.list.items) c.self.inside.grants c.in-Some.live.now c.self.inside.tables → is_err c.write_grant.result ≡ failed → AreAdded (grant_events c.args.net.now (map (λ k. (goal.UnitKind-dyn g (k.vtable, k.value)).meaning k.value) c.args.kinds.now.list.items) c.args.self.now.grants c.args.self.now.cleared c.args.grant) failed (g.D.Tables.log c.args.device.now) (g.D.Tables.log c.write_grant.new.device)
+told : (g : Over) (c : After-write_grant g) (failed : Bool) → c.in-Some.live.now ≡ c.args.grant → Coming c.args.on.net.now (kinds_of (λ k. (goal.UnitKind-dyn g k).meaning k.1) c.args.on.kinds.now) c.self.inside.grants c.in-Some.live.now c.self.inside.tables → is_err c.write_grant.result ≡ failed → AreAdded (grant_events c.args.on.net.now (kinds_of (λ k. (goal.UnitKind-dyn g k).meaning k.1) c.args.on.kinds.now) c.args.self.now.grants c.args.self.now.cleared c.args.grant) failed (g.D.Tables.log c.args.device.now) (g.D.Tables.log c.write_grant.new.device)
 told g c failed same comes was =
-    let kinds : List Meaning = map (λ k. (goal.UnitKind-dyn g (k.vtable, k.value)).meaning k.value) c.args.kinds.now.list.items in
-    let log : AreAdded (fence_events c.self.inside.cleared ++ flat_map (put_events c.args.net.now kinds) (puts_of c.args.net.now c.self.inside.grants c.in-Some.live.now)) failed (g.D.Tables.log c.args.device.now) (g.D.Tables.log c.write_grant.new.device) =
-    subst (λ es. AreAdded (fence_events c.self.inside.cleared ++ es) failed (g.D.Tables.log c.args.device.now) (g.D.Tables.log c.write_grant.new.device)) (coming_log c.args.net.now kinds c.self.inside.grants c.in-Some.live.now c.self.inside.tables comes) (subst (λ f. AreAdded (fence_events c.self.inside.cleared ++ put_log kinds c.self.inside.tables (filter (is_used_by 0 c.self.inside.tables) (joined_slots (reverse (grant_slots c.args.net.now c.in-Some.live.now))))) f (g.D.Tables.log c.args.device.now) (g.D.Tables.log c.write_grant.new.device)) was c.write_grant.ensures.added) in
-    subst (λ (b : BookState). AreAdded (grant_events c.args.net.now kinds b.grants b.cleared c.args.grant) failed (g.D.Tables.log c.args.device.now) (g.D.Tables.log c.write_grant.new.device)) c.self.view_is (subst (λ (w : Grant). AreAdded (grant_events c.args.net.now kinds c.self.inside.grants c.self.inside.cleared w) failed (g.D.Tables.log c.args.device.now) (g.D.Tables.log c.write_grant.new.device)) same log)
+    let kinds : List Meaning = kinds_of (λ k. (goal.UnitKind-dyn g k).meaning k.1) c.args.on.kinds.now in
+    let log : AreAdded (fence_events c.self.inside.cleared ++ flat_map (put_events c.args.on.net.now kinds) (puts_of c.args.on.net.now c.self.inside.grants c.in-Some.live.now)) failed (g.D.Tables.log c.args.device.now) (g.D.Tables.log c.write_grant.new.device) =
+    subst (λ es. AreAdded (fence_events c.self.inside.cleared ++ es) failed (g.D.Tables.log c.args.device.now) (g.D.Tables.log c.write_grant.new.device)) (coming_log c.args.on.net.now kinds c.self.inside.grants c.in-Some.live.now c.self.inside.tables comes) (subst (λ f. AreAdded (fence_events c.self.inside.cleared ++ put_log kinds c.self.inside.tables (filter (is_used_by 0 c.self.inside.tables) (joined_slots (reverse (grant_slots c.args.on.net.now c.in-Some.live.now))))) f (g.D.Tables.log c.args.device.now) (g.D.Tables.log c.write_grant.new.device)) was c.write_grant.ensures.added) in
+    subst (λ (b : BookState). AreAdded (grant_events c.args.on.net.now kinds b.grants b.cleared c.args.grant) failed (g.D.Tables.log c.args.device.now) (g.D.Tables.log c.write_grant.new.device)) c.self.view_is (subst (λ (w : Grant). AreAdded (grant_events c.args.on.net.now kinds c.self.inside.grants c.self.inside.cleared w) failed (g.D.Tables.log c.args.device.now) (g.D.Tables.log c.write_grant.new.device)) same log)
 
 pub write_grant-requires : goal.write_grant-requires
 write_grant-requires g c =
     let comes = coming g (goal.at.write_grant-requires g c).In-Some in
     record {
-      lawful = c.requires.lawful;
-      shaped = c.requires.legal.shaped;
+      lawful = c.requires.on.lawful;
+      shaped = c.requires.on.legal.shaped;
       fits = comes.kept.fits;
       on_device = subst (λ (b : BookState). IsOnDevice b.set (g.D.Tables.units c.args.device.now) (g.D.Tables.words c.args.device.now)) (sym c.self.view_is) c.requires.on_device;
       hops = coming_fit _ _ _ _ _ comes;
@@ -72,12 +73,20 @@ add_uses-requires-clause-may g c =
     let was : is_err c.write_grant.result ≡ false = search rules in
     coming_uses _ _ _ _ _ (coming g (goal.at.add_uses-requires-clause-may g c).In-Some) _ (made g (goal.at.add_uses-requires-clause-may g c).After-write_grant was)
 
-pub returns-clause-kept : goal.returns-clause-kept
-returns-clause-kept g c =
-    let kinds : List Meaning = map (λ k. (goal.UnitKind-dyn g (k.vtable, k.value)).meaning k.value) c.args.kinds.now.list.items in
+pub returns-clause-committed : goal.returns-clause-committed
+returns-clause-committed g c =
+    let kinds : List Meaning = kinds_of (λ k. (goal.UnitKind-dyn g k).meaning k.1) c.args.on.kinds.now in
     let was : is_err c.write_grant.result ≡ false = search rules in
-    let all : c.push.new.self ≡ c.self.inside.grants ++ c.in-Some.live.now ∷ [] = c.in-Ok.ensures.pushed ∙ ap (λ (w : Grant). c.self.inside.grants ++ w ∷ []) (sym (same_grant g (goal.at.returns-clause-kept g c).In-Some)) in
-    subst (λ (b : List Grant). IsKept c.args.net.now kinds b c.add_uses.new.tables) (sym all) (committed c.args.net.now kinds c.self.inside.grants c.in-Some.live.now c.self.inside.tables (coming g (goal.at.returns-clause-kept g c).In-Some) c.write_grant.new.tables c.add_uses.new.tables (made g (goal.at.returns-clause-kept g c).After-write_grant was) c.add_uses.ensures)
+    let all : c.push.new.self ≡ c.self.inside.grants ++ c.in-Some.live.now ∷ [] = c.in-Ok.ensures.pushed ∙ ap (λ (w : Grant). c.self.inside.grants ++ w ∷ []) (sym (same_grant g (goal.at.returns-clause-committed g c).In-Some)) in
+    let kept : IsKept c.args.on.net.now kinds c.push.new.self c.add_uses.new.tables = subst (λ (b : List Grant). IsKept c.args.on.net.now kinds b c.add_uses.new.tables) (sym all) (committed c.args.on.net.now kinds c.self.inside.grants c.in-Some.live.now c.self.inside.tables (coming g (goal.at.returns-clause-committed g c).In-Some) c.write_grant.new.tables c.add_uses.new.tables (made g (goal.at.returns-clause-committed g c).After-write_grant was) c.add_uses.ensures) in
+    record {
+      kept = kept;
+      fenced = refl;
+      unfailed = search rules;
+      fits = kept.fits;
+      on_device = search rules;
+      counted = search rules;
+    }
 
 pub returns-clause-added : goal.returns-clause-added
 returns-clause-added g c other =
@@ -87,9 +96,9 @@ returns-clause-added g c other =
 pub remove-requires : goal.remove-requires
 remove-requires g c =
     let pushed : c.push.new.self ≡ c.self.inside.grants ++ c.args.grant ∷ [] = c.in-Ok.ensures.pushed in
-    let sound : IsSound c.args.net.now c.self.inside.grants = subst (λ (b : BookState). IsSound c.args.net.now b.grants) (sym c.self.view_is) c.requires.kept.sound in
-    let placed : IsGrantFor c.args.net.now c.self.inside.grants c.args.grant = subst (λ (b : BookState). IsGrantFor c.args.net.now b.grants c.args.grant) (sym c.self.view_is) c.requires.placed in
-    subst (λ (gs : List Grant). AreApart gs) (sym pushed) (granted_sound c.args.net.now c.requires.legal.legal c.self.inside.grants c.args.grant sound placed).ids
+    let sound : IsSound c.args.on.net.now c.self.inside.grants = subst (λ (b : BookState). IsSound c.args.on.net.now b.grants) (sym c.self.view_is) c.requires.kept.sound in
+    let placed : IsGrantFor c.args.on.net.now c.self.inside.grants c.args.grant = subst (λ (b : BookState). IsGrantFor c.args.on.net.now b.grants c.args.grant) (sym c.self.view_is) c.requires.placed in
+    subst (λ (gs : List Grant). AreApart gs) (sym pushed) (granted_sound c.args.on.net.now c.requires.on.legal.legal c.self.inside.grants c.args.grant sound placed).ids
 
 pub returns-then-is_err-clause-refused : goal.returns-then-is_err-clause-refused
 returns-then-is_err-clause-refused g c =

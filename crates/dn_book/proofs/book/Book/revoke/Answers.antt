@@ -1,7 +1,8 @@
-use Rattle.std.proofs.Common.{◌≡◌, ◌∙◌, refl, sym, ap, subst, rules, filter, map, option_copied, List, None, Bool, true, false, is_err}
+use Rattle.std.proofs.Common.{◌≡◌, ◌∙◌, refl, sym, ap, subst, rules, filter, option_copied, List, None, Bool, true, false, is_err}
 use Rattle.std.proofs.lemmas.Bool.{false≢true}
 use Rattle.dn_net.specs.Chain.{Member}
 use Rattle.dn_kind.specs.Kind.{Meaning}
+use Rattle.dn_kind.specs.Kinded.{kinds_of}
 use Rattle.dn_tables.proofs.Slots.{all_of_map}
 use Rattle.dn_book.specs.declared.grant.Grant.{Grant}
 use Rattle.dn_book.specs.Book.{IsFaithful, has_id, without_id}
@@ -22,11 +23,11 @@ found : (g : Over) (c : In-Some g) → IsLive c.self.inside.grants c.args.id c.i
 found g c = live_found c.self.inside.grants c.args.id c.in-Some.live.now (sym (ap option_copied c.in-Some.is) ∙ c.get.ensures)
 
 -- what is known of it
-going : (g : Over) (c : In-Some g) → Going c.args.net.now (map (λ k. (goal.UnitKind-dyn g (k.vtable, k.value)).meaning k.value) c.args.kinds.now.list.items) c.self.inside.grants c.in-Some.live.now c.self.inside.tables
+going : (g : Over) (c : In-Some g) → Going c.args.on.net.now (kinds_of (λ k. (goal.UnitKind-dyn g k).meaning k.1) c.args.on.kinds.now) c.self.inside.grants c.in-Some.live.now c.self.inside.tables
 going g c = record {
-  lawful = all_of_map (λ k. (goal.UnitKind-dyn g (k.vtable, k.value)).meaning k.value) c.args.kinds.now.list.items c.requires.lawful;
-  legal = c.requires.legal;
-  kept = subst (λ (b : BookState). IsKept c.args.net.now (map (λ k. (goal.UnitKind-dyn g (k.vtable, k.value)).meaning k.value) c.args.kinds.now.list.items) b.grants b.set) (sym c.self.view_is) c.requires.kept;
+  lawful = all_of_map _ c.args.on.kinds.now.list.items c.requires.on.lawful;
+  legal = c.requires.on.legal;
+  kept = subst (λ (b : BookState). IsKept c.args.on.net.now (kinds_of (λ k. (goal.UnitKind-dyn g k).meaning k.1) c.args.on.kinds.now) b.grants b.set) (sym c.self.view_is) c.requires.kept;
   live = (found g c).live;
 }
 
@@ -35,13 +36,13 @@ known : (g : Over) (c : In-Some g) → has_id c.args.id c.args.self.now.grants �
 known g c = sym (ap (λ (b : BookState). has_id c.args.id b.grants) c.self.view_is) ∙ has_live c.self.inside.grants c.args.id c.in-Some.live.now (found g c)
 
 -- what the device was told, whether a write failed or none did
-told : (g : Over) (c : After-clear_grant g) (failed : Bool) → IsLive c.self.inside.grants c.args.id c.in-Some.live.now → Going c.args.net.now (map (λ k. (goal.UnitKind-dyn g (k.vtable, k.value)).meaning k.value) c.args.kinds.now.list.items) c.self.inside.grants c.in-Some.live.now c.self.inside.tables → is_err c.clear_grant.result ≡ failed → (k : Grant) → Member k c.args.self.now.grants → k.id ≡ c.args.id → AreAdded (revoke_events c.args.net.now (map (λ k. (goal.UnitKind-dyn g (k.vtable, k.value)).meaning k.value) c.args.kinds.now.list.items) c.args.self.now.grants k) failed (g.D.Tables.log c.args.device.now) (g.D.Tables.log c.clear_grant.new.device)
+told : (g : Over) (c : After-clear_grant g) (failed : Bool) → IsLive c.self.inside.grants c.args.id c.in-Some.live.now → Going c.args.on.net.now (kinds_of (λ k. (goal.UnitKind-dyn g k).meaning k.1) c.args.on.kinds.now) c.self.inside.grants c.in-Some.live.now c.self.inside.tables → is_err c.clear_grant.result ≡ failed → (k : Grant) → Member k c.args.self.now.grants → k.id ≡ c.args.id → AreAdded (revoke_events c.args.on.net.now (kinds_of (λ k. (goal.UnitKind-dyn g k).meaning k.1) c.args.on.kinds.now) c.args.self.now.grants k) failed (g.D.Tables.log c.args.device.now) (g.D.Tables.log c.clear_grant.new.device)
 told g c failed live goes was k m e =
-    let kinds : List Meaning = map (λ k. (goal.UnitKind-dyn g (k.vtable, k.value)).meaning k.value) c.args.kinds.now.list.items in
-    let one : k ≡ c.in-Some.live.now = one_grant c.args.net.now c.requires.legal.legal c.self.inside.grants c.in-Some.live.now goes.kept.sound live.live k (subst (λ (b : BookState). Member k b.grants) (sym c.self.view_is) m) (e ∙ sym live.same) in
-    let log : AreAdded (revoke_events c.args.net.now kinds c.self.inside.grants c.in-Some.live.now) failed (g.D.Tables.log c.args.device.now) (g.D.Tables.log c.clear_grant.new.device) =
-    subst (λ es. AreAdded es failed (g.D.Tables.log c.args.device.now) (g.D.Tables.log c.clear_grant.new.device)) (going_log c.args.net.now kinds c.self.inside.grants c.in-Some.live.now c.self.inside.tables goes) (subst (λ f. AreAdded (clear_log c.self.inside.tables (filter (is_used_by 1 c.self.inside.tables) (joined_slots (grant_slots c.args.net.now c.in-Some.live.now)))) f (g.D.Tables.log c.args.device.now) (g.D.Tables.log c.clear_grant.new.device)) was c.clear_grant.ensures.cleared.added) in
-    subst (λ (b : BookState). AreAdded (revoke_events c.args.net.now kinds b.grants k) failed (g.D.Tables.log c.args.device.now) (g.D.Tables.log c.clear_grant.new.device)) c.self.view_is (subst (λ (w : Grant). AreAdded (revoke_events c.args.net.now kinds c.self.inside.grants w) failed (g.D.Tables.log c.args.device.now) (g.D.Tables.log c.clear_grant.new.device)) (sym one) log)
+    let kinds : List Meaning = kinds_of (λ k. (goal.UnitKind-dyn g k).meaning k.1) c.args.on.kinds.now in
+    let one : k ≡ c.in-Some.live.now = one_grant c.args.on.net.now c.requires.on.legal.legal c.self.inside.grants c.in-Some.live.now goes.kept.sound live.live k (subst (λ (b : BookState). Member k b.grants) (sym c.self.view_is) m) (e ∙ sym live.same) in
+    let log : AreAdded (revoke_events c.args.on.net.now kinds c.self.inside.grants c.in-Some.live.now) failed (g.D.Tables.log c.args.device.now) (g.D.Tables.log c.clear_grant.new.device) =
+    subst (λ es. AreAdded es failed (g.D.Tables.log c.args.device.now) (g.D.Tables.log c.clear_grant.new.device)) (going_log c.args.on.net.now kinds c.self.inside.grants c.in-Some.live.now c.self.inside.tables goes) (subst (λ f. AreAdded (clear_log c.self.inside.tables (filter (is_used_by 1 c.self.inside.tables) (joined_slots (grant_slots c.args.on.net.now c.in-Some.live.now)))) f (g.D.Tables.log c.args.device.now) (g.D.Tables.log c.clear_grant.new.device)) was c.clear_grant.ensures.cleared.added) in
+    subst (λ (b : BookState). AreAdded (revoke_events c.args.on.net.now kinds b.grants k) failed (g.D.Tables.log c.args.device.now) (g.D.Tables.log c.clear_grant.new.device)) c.self.view_is (subst (λ (w : Grant). AreAdded (revoke_events c.args.on.net.now kinds c.self.inside.grants w) failed (g.D.Tables.log c.args.device.now) (g.D.Tables.log c.clear_grant.new.device)) (sym one) log)
 
 pub returns-in_default-clause-unknown : goal.returns-in_default-clause-unknown
 returns-in_default-clause-unknown g c =
@@ -73,7 +74,7 @@ end_uses-requires-clause-hops g c = going_fit _ _ _ _ _ (going g (goal.at.end_us
 pub end_uses-requires-clause-used : goal.end_uses-requires-clause-used
 end_uses-requires-clause-used g c =
     let was : is_err c.clear_grant.result ≡ false = search rules in
-    let made : c.clear_grant.new.tables ≡ after_clears c.self.inside.tables (filter (is_used_by 1 c.self.inside.tables) (joined_slots (grant_slots c.args.net.now c.in-Some.live.now))) = c.clear_grant.ensures.cleared.done was in
+    let made : c.clear_grant.new.tables ≡ after_clears c.self.inside.tables (filter (is_used_by 1 c.self.inside.tables) (joined_slots (grant_slots c.args.on.net.now c.in-Some.live.now))) = c.clear_grant.ensures.cleared.done was in
     going_uses _ _ _ _ _ (going g (goal.at.end_uses-requires-clause-used g c).In-Some) c.clear_grant.new.tables made
 
 pub remove-requires : goal.remove-requires
@@ -85,16 +86,16 @@ returns-clause-revoked g c = c.remove.ensures ∙ ap (λ (b : BookState). withou
 pub returns-clause-faithful : goal.returns-clause-faithful
 returns-clause-faithful g c f =
     let left : c.remove.new.self ≡ without_id c.args.id c.args.self.now.grants = c.remove.ensures ∙ ap (λ (b : BookState). without_id c.args.id b.grants) c.self.view_is in
-    subst (λ (b : List Grant). IsFaithful c.args.net.now b) (sym left) ((revoke_keeps_book c.args.net.now c.args.self.now.grants c.args.id c.requires.legal.legal c.requires.kept.sound).1 f)
+    subst (λ (b : List Grant). IsFaithful c.args.on.net.now b) (sym left) ((revoke_keeps_book c.args.on.net.now c.args.self.now.grants c.args.id c.requires.on.legal.legal c.requires.kept.sound).1 f)
 
 pub returns-clause-kept : goal.returns-clause-kept
 returns-clause-kept g c =
-    let kinds : List Meaning = map (λ k. (goal.UnitKind-dyn g (k.vtable, k.value)).meaning k.value) c.args.kinds.now.list.items in
+    let kinds : List Meaning = kinds_of (λ k. (goal.UnitKind-dyn g k).meaning k.1) c.args.on.kinds.now in
     let was : is_err c.clear_grant.result ≡ false = search rules in
-    let made : c.clear_grant.new.tables ≡ after_clears c.self.inside.tables (filter (is_used_by 1 c.self.inside.tables) (joined_slots (grant_slots c.args.net.now c.in-Some.live.now))) = c.clear_grant.ensures.cleared.done was in
+    let made : c.clear_grant.new.tables ≡ after_clears c.self.inside.tables (filter (is_used_by 1 c.self.inside.tables) (joined_slots (grant_slots c.args.on.net.now c.in-Some.live.now))) = c.clear_grant.ensures.cleared.done was in
     let all : c.remove.new.self ≡ without_id c.in-Some.live.now.id c.self.inside.grants = c.remove.ensures ∙ ap (λ n. without_id n c.self.inside.grants) (sym (found g (goal.at.returns-clause-kept g c).In-Some).same) in
-    let changed : AreHopsChanged c.args.net.now c.in-Some.live.now.request.size (λ place. one_use_less) c.in-Some.live.now.placement.hops c.clear_grant.new.tables c.end_uses.new.tables = c.end_uses.ensures in
-    subst (λ (b : List Grant). IsKept c.args.net.now kinds b c.end_uses.new.tables) (sym all) (revoked c.args.net.now kinds c.self.inside.grants c.in-Some.live.now c.self.inside.tables (going g (goal.at.returns-clause-kept g c).In-Some) c.clear_grant.new.tables c.end_uses.new.tables made changed)
+    let changed : AreHopsChanged c.args.on.net.now c.in-Some.live.now.request.size (λ place. one_use_less) c.in-Some.live.now.placement.hops c.clear_grant.new.tables c.end_uses.new.tables = c.end_uses.ensures in
+    subst (λ (b : List Grant). IsKept c.args.on.net.now kinds b c.end_uses.new.tables) (sym all) (revoked c.args.on.net.now kinds c.self.inside.grants c.in-Some.live.now c.self.inside.tables (going g (goal.at.returns-clause-kept g c).In-Some) c.clear_grant.new.tables c.end_uses.new.tables made changed)
 
 pub returns-clause-added : goal.returns-clause-added
 returns-clause-added g c =

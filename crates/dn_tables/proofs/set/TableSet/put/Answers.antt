@@ -1,7 +1,8 @@
-use Rattle.std.proofs.Common.{◌≡◌, ◌∙◌, ap, false, is_err, slice_set, List, map, take}
+use Rattle.std.proofs.Common.{◌≡◌, ◌∙◌, ap, false, is_err, slice_set, List, take}
 use Rattle.std.specs.List.{All}
 use Rattle.dn_base.proofs.Lists.{list_all-at}
 use Rattle.dn_kind.specs.Kind.{Meaning, IsLawful}
+use Rattle.dn_kind.specs.Kinded.{kinds_of}
 use Rattle.dn_tables.specs.declared.table.NodeTable.{NodeTable}
 use Rattle.dn_tables.specs.Set.{fits_by, unit_of_table, with_slot, packed_in}
 use Rattle.dn_tables.specs.Writes.{WordWrite, AreMade, put_writes}
@@ -17,10 +18,10 @@ called g c = call_in c.self.inside.nodes.items c.args.self.now c.from.result c.a
 
 pub put-requires : goal.put-requires
 put-requires g c =
-    let kinds : List Meaning = map (λ k. (goal.UnitKind-dyn g (k.vtable, k.value)).meaning k.value) c.args.kinds.now.list.items in
+    let kinds : List Meaning = kinds_of (λ k. (goal.UnitKind-dyn g k).meaning k.1) c.args.kinds.now in
     let call = called g (goal.at.put-requires g c).After-index_mut-table in
     record {
-      lawful = c.requires.lawful;
+      kinds = c.requires.kinds;
       fits = list_all-at (λ t. fits_by kinds t.width t.unit) c.args.self.now c.args.unit c.index_mut-table.result.now c.requires.fits call.here.at;
       slot = call.here.has;
       packable = λ u kind e at. c.requires.packable u kind (ap unit_of_table call.here.at ∙ e) at;
@@ -30,8 +31,8 @@ put-requires g c =
 pub returns : goal.returns
 returns g c =
     let call = called g (goal.at.returns g c).After-index_mut-table in
-    let kinds : List Meaning = map (λ k. (goal.UnitKind-dyn g (k.vtable, k.value)).meaning k.value) c.args.kinds.now.list.items in
-    let lawful : All IsLawful kinds = all_of_map (λ k. (goal.UnitKind-dyn g (k.vtable, k.value)).meaning k.value) c.args.kinds.now.list.items c.requires.lawful in
+    let kinds : List Meaning = kinds_of (λ k. (goal.UnitKind-dyn g k).meaning k.1) c.args.kinds.now in
+    let lawful : All IsLawful kinds = all_of_map _ c.args.kinds.now.list.items c.requires.kinds.lawful in
     let writes : List WordWrite = put_writes kinds c.args.self.now c.args.unit c.args.slot c.args.record in
     let after : List NodeTable = slice_set c.self.inside.nodes.items c.from.result c.put.new.self in
     let made : AreMade c.args.unit writes (is_err c.put.result) (g.D.Tables.log c.args.device.now) (g.D.Tables.log c.put.new.device) (g.D.Tables.words c.args.device.now) (g.D.Tables.words c.put.new.device) c.args.self.now after = call_made c.self.inside.nodes.items c.args.self.now c.from.result c.args.unit c.args.slot c.index_mut-table.result.now c.put.new.self _ writes _ _ _ _ _ call c.put.ensures.same (puts_of_table kinds c.args.self.now c.args.unit c.args.slot c.args.record c.index_mut-table.result.now call.here.at) c.put.ensures.written in

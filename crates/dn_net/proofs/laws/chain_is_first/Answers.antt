@@ -1,5 +1,0 @@
-use Rattle.dn_net.proofs.UnitRows.{chain_is_first}
-use Rattle.dn_net.proofs.laws.chain_is_first.Goals as goal
-
-pub returns : goal.returns
-returns c = chain_is_first

@@ -1,5 +1,0 @@
-use Rattle.dn_net.proofs.Forks.{fork_is_least}
-use Rattle.dn_net.proofs.laws.fork_is_least.Goals as goal
-
-pub returns : goal.returns
-returns c = fork_is_least

@@ -1,5 +1,0 @@
-use Rattle.dn_net.proofs.Legal.{legal_breaks_no_rule}
-use Rattle.dn_net.proofs.laws.legal_breaks_no_rule.Goals as goal
-
-pub returns : goal.returns
-returns c = legal_breaks_no_rule

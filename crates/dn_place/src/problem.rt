@@ -1,0 +1,93 @@
+//! What is searched for and in what net, where slots and placements are tested by functions that are
+//! handed in.
+
+use crate::OutOfMemory;
+use crate::hops::Hops;
+use crate::quest::Quest;
+use crate::slot_state::SlotState;
+use dn_flat::flats::Flats;
+use dn_flat::levels::Levels;
+use dn_interval::{End, Rows, Span};
+use dn_net::net::Net;
+use dn_net::node::Unit;
+use dn_placement::request::Request;
+use std::alloc::Global;
+use std::marker::{Brand, PhantomData};
+
+/// What is looked for, and where, as contracts see it: no code holds it.
+pub(crate) trait Aim {
+    ghost use Rattle.dn_place.specs.Sought.{Sought};
+
+    ghost sought: { Sought };
+}
+
+impl Aim for Brand {
+    ghost use Rattle.dn_place.specs.Sought.{nothing_sought};
+
+    ghost sought = { nothing_sought };
+}
+
+/// A request, and the net and the slots in which a placement of it is looked for.
+#[derive(Drop)]
+pub(crate) struct SearchProblem<'a, A, F, E> {
+    pub(crate) net: &'a Net,
+    pub(crate) flats: &'a Flats,
+    pub(crate) request: Request,
+    pub(crate) at: Option<u64>,
+    /// What a hop meets in a slot of a unit.
+    pub(crate) met: F,
+    /// Whether the placement at an address of the agent, with these hops and this own one, is
+    /// admissible.
+    pub(crate) exact: E,
+    pub(crate) aim: PhantomData<A>,
+}
+
+impl<
+    'a,
+    A: Aim,
+    F: Fn(u16, u32) -> SlotState + Drop,
+    E: Fn(u64, Hops, u8) -> Result<bool, OutOfMemory> + Drop,
+> Quest for SearchProblem<'a, A, F, E> {
+    ghost use Rattle.dn_place.specs.Problems.{IsSearchProblem};
+
+    ghost sought = { λ _. A.sought };
+
+    ghost is_consistent = { λ s. IsSearchProblem s.net.now s.flats.now s.request s.at
+        (F.pre s.met) (F.post s.met) (E.pre s.exact) (E.post s.exact) A.sought };
+
+    fn request(&self) -> Request {
+        self.request
+    }
+
+    fn at(&self) -> Option<u64> {
+        self.at
+    }
+
+    fn nodes(&self) -> u16 {
+        self.net.nodes()
+    }
+
+    fn unit(&self, node: u16) -> Option<&Unit> {
+        self.net.unit(node)
+    }
+
+    fn levels(&self, node: u16) -> &Levels {
+        self.flats.of(node)
+    }
+
+    fn toward(&self, alloc: Global, node: u16, first: End, size: u64) -> Result<Rows, OutOfMemory> {
+        self.flats.toward(alloc, node, first, size)
+    }
+
+    fn crowd(&self, unit: u16, first: u64, size: u64) -> Option<Span> {
+        self.flats.crowd_among(unit, first, size)
+    }
+
+    fn slot(&self, unit: u16, slot: u32) -> SlotState {
+        (self.met)(unit, slot)
+    }
+
+    fn is_exact(&self, v: u64, hops: Hops, own: u8) -> Result<bool, OutOfMemory> {
+        (self.exact)(v, hops, own)
+    }
+}
