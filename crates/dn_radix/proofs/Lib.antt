@@ -1,0 +1,7 @@
+pub mod Cut
+pub mod Pieces
+pub mod Reached
+pub mod Read
+pub mod Steps
+pub mod Walks
+pub mod Words

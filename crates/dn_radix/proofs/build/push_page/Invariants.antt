@@ -1,0 +1,5 @@
+use Rattle.std.proofs.Common.{◌≡◌, ℕ, ◌++◌, ◌-◌, length, replicate}
+use Rattle.dn_radix.proofs.build.push_page.Given as goal
+
+abbrev pub invariant-loop-place : goal.invariant-loop-place
+invariant-loop-place l = l.out.items ++ replicate {A = ℕ} (512 - l.place) 0 ≡ l.fn.out.items ++ (l.words ++ replicate {A = ℕ} (512 - length l.words) 0)

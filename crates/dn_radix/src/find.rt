@@ -1,0 +1,72 @@
+//! A word of an image of pages, found by its entries.
+
+ghost use Rattle.std.specs.Prelude.{◌≡◌, ◌+◌, ◌^◌, ◌<◌, ◌≤◌, length};
+ghost use Rattle.dn_base.specs.Terms.{Answers};
+ghost use Rattle.dn_radix.specs.Terms.{bad_view, found, is_bad, room, word_at};
+
+use crate::fault::Bad;
+use byteorder::{ByteOrder, LittleEndian};
+
+/// How many words there is room for below so many levels of entries.
+pub(crate) fn room(level: u32) -> usize
+    requires { level ≤ 2 }
+    ensures { result ≡ room level }
+{
+    if level == 0 {
+        512
+    } else if level == 1 {
+        262_144
+    } else {
+        134_217_728
+    }
+}
+
+/// Whether an entry that is not 0 leads to no page of an image of so many bytes.
+fn is_bad(size: usize, entry: u64) -> bool
+    requires { 0 < entry }
+    ensures { result ≡ is_bad size entry }
+{
+    let page = entry - 1;
+    if page % 4096 != 0 {
+        return true;
+    }
+    let room = (size as u64).saturating_sub(4096);
+    size < 4096 || room < page
+}
+
+/// The word whose bytes begin at a place.
+#[tactic(auto, using(std::proofs::lemmas::List::take_rest))]
+fn word_at(image: &[u8], place: usize) -> u64
+    requires { place + 8 ≤ length image.now }
+    ensures { result ≡ word_at image.now place }
+{
+    LittleEndian::read_u64(&image[place..])
+}
+
+/// The word of a number, or the first bad entry on the way to it.
+pub(crate) fn find(image: &[u8], level: u32, index: usize) -> Result<u64, Bad>
+    requires level { level ≤ 2 }
+    requires whole { 4096 ≤ length image.now }
+    requires few { length image.now ≤ 2 ^ 31 }
+    requires there { index < room level }
+    ensures { Answers (λ word. word) bad_view result (found image.now level index 0) }
+{
+    let mut below = level;
+    let mut at = index;
+    let mut page = 0;
+    while below > 0 {
+        below -= 1;
+        let size = room(below);
+        let place = page + 8 * (at / size);
+        let entry = word_at(image, place);
+        if entry == 0 {
+            return Ok(0);
+        }
+        if is_bad(image.len(), entry) {
+            return Err(Bad { at: place as u32 });
+        }
+        page = (entry - 1) as usize;
+        at %= size;
+    }
+    Ok(word_at(image, page + 8 * at))
+}

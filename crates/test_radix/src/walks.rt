@@ -1,0 +1,137 @@
+//! Records that are found in images of pages, whoever made them.
+
+use crate::images::{image_with, words_with};
+use crate::unit_of;
+use crate::wide::{Wide, wide_is_lawful};
+use dn_kind::rights::Rights;
+use dn_kind::unit_kind::Record;
+use dn_kinds::pages::{Pages, pages_are_lawful};
+use dn_radix::build::build;
+use dn_radix::fault::Bad;
+use dn_radix::laws;
+use dn_radix::walk::walk;
+use std::alloc::Global;
+use std::process::Abort;
+
+/// What a walk finds at a slot of a unit of so many slots of the kind `pages`.
+fn page_at(
+    rt: &impl Abort,
+    alloc: Global,
+    image: &[u8],
+    slots: u32,
+    slot: u32,
+) -> Result<Option<Record>, Bad> {
+    pages_are_lawful();
+    let unit = unit_of(alloc, slots).expect(rt, "memory");
+    assert!(rt; unit.has_plain_shape());
+    assert!(rt; slot < slots && slots <= 262_144 && image.len() <= 4_194_304);
+    walk(image, &unit, &Pages, slot)
+}
+
+/// The record of an output page, with both rights.
+fn page(page: u64) -> Result<Option<Record>, Bad> {
+    Ok(Some(Record {
+        port: 0,
+        page,
+        rights: Rights::both(),
+    }))
+}
+
+#[test]
+fn the_tree_of_a_unit_is_walked(rt: HostRuntime) {
+    laws::words_are_found();
+    laws::tree_is_walked();
+    let alloc = rt.alloc();
+    let given = [(0, 0x501), (1023, 0x701), (600, 0x702)];
+    let words = words_with(&rt, alloc, 1024, &given);
+    assert!(rt; words.len() <= 1_048_576);
+    let image = build(alloc, words.as_slice(), 3).expect(&rt, "a tree");
+    for (slot, wanted) in [
+        (0, page(0x5)),
+        (1023, page(0x7)),
+        (1, Ok(None)),
+        (600, Ok(None)),
+    ] {
+        let found = page_at(&rt, alloc, image.as_slice(), 1024, slot);
+        assert_eq!(rt; found, wanted, "{slot}");
+    }
+}
+
+#[test]
+fn other_images_are_walked(rt: HostRuntime) {
+    let alloc = rt.alloc();
+    // Two entries that lead to one page, and one that leads to the first page itself.
+    let shared = [(0, 0x1001), (1, 0x1001), (2, 0x1), (512, 0x501)];
+    let image = image_with(&rt, alloc, 8192, &shared);
+    for (slot, wanted) in [
+        (0, page(0x5)),
+        (512, page(0x5)),
+        (1024, page(0x10)),
+        (1026, page(0x0)),
+        (1027, Ok(None)),
+        (1536, Ok(None)),
+    ] {
+        let found = page_at(&rt, alloc, image.as_slice(), 2048, slot);
+        assert_eq!(rt; found, wanted, "{slot}");
+    }
+}
+
+#[test]
+fn bad_entries_are_named(rt: HostRuntime) {
+    let alloc = rt.alloc();
+    let bad = [(0, 0x1001), (1, 0x2002), (2, 0x3001), (512, 0x501)];
+    for (size, slot, wanted) in [
+        (12_288, 0, page(0x5)),
+        (12_288, 511, Ok(None)),
+        (12_288, 512, Err(Bad { at: 8 })),
+        (12_288, 1023, Err(Bad { at: 8 })),
+        // No page stands whole from byte 0x3000 on.
+        (12_288, 1024, Err(Bad { at: 16 })),
+        (16_383, 1024, Err(Bad { at: 16 })),
+        (16_384, 1024, Ok(None)),
+        (12_288, 1536, Ok(None)),
+    ] {
+        let image = image_with(&rt, alloc, size, &bad);
+        let found = page_at(&rt, alloc, image.as_slice(), 2048, slot);
+        assert_eq!(rt; found, wanted, "{size} {slot}");
+    }
+    // Bytes after the last whole page are no page.
+    let short = image_with(&rt, alloc, 4103, &[(1, 0x1001)]);
+    let found = page_at(&rt, alloc, short.as_slice(), 1024, 0);
+    assert_eq!(rt; found, Ok(None));
+    let found = page_at(&rt, alloc, short.as_slice(), 1024, 512);
+    assert_eq!(rt; found, Err(Bad { at: 8 }));
+    let none = image_with(&rt, alloc, 4095, &[]);
+    let found = page_at(&rt, alloc, none.as_slice(), 1, 0);
+    assert_eq!(rt; found, Err(Bad { at: 0 }));
+    let word = format!(in alloc; "{}", Bad { at: 8 }).expect(&rt, "memory");
+    assert_eq!(rt; word.as_str(), "Bad");
+}
+
+/// What a walk finds at a slot of a unit of 300 slots of three words.
+fn wide_at(rt: &impl Abort, alloc: Global, image: &[u8], slot: u32) -> Result<Option<Record>, Bad> {
+    wide_is_lawful();
+    let unit = unit_of(alloc, 300).expect(rt, "memory");
+    assert!(rt; unit.has_plain_shape());
+    assert!(rt; slot < 300 && image.len() <= 4_194_304);
+    walk(image, &unit, &Wide, slot)
+}
+
+#[test]
+fn a_record_is_found_by_all_its_words(rt: HostRuntime) {
+    let alloc = rt.alloc();
+    // The words of slot 170 are 510, 511 and 512, and the third is found by another entry.
+    let given = [(0, 0x1001), (1, 0x2001), (1023, 0x30), (1024, 0x1)];
+    let image = image_with(&rt, alloc, 12_288, &given);
+    let found = wide_at(&rt, alloc, image.as_slice(), 170);
+    assert_eq!(rt; found, page(0x30));
+    let image = image_with(&rt, alloc, 4096, &[(1, 0x2001)]);
+    for (slot, wanted) in [
+        (169, Ok(None)),
+        (170, Err(Bad { at: 8 })),
+        (171, Err(Bad { at: 8 })),
+    ] {
+        let found = wide_at(&rt, alloc, image.as_slice(), slot);
+        assert_eq!(rt; found, wanted, "{slot}");
+    }
+}
