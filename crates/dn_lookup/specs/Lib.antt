@@ -1,4 +1,3 @@
 pub mod Images
 pub mod Lookup
-pub mod Rounds
 pub mod Terms

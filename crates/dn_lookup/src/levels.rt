@@ -1,27 +1,19 @@
 //! Names level by level: each level has the names one step on from those of the level before it.
 
 ghost use Rattle.std.specs.Prelude.{◌≡◌, ◌++◌, [], ◌∷◌, ◌+◌, ◌<◌, ◌^◌, length, IfOk, OnOk, IsTrue};
-ghost use Rattle.dn_net.specs.Terms.{IsLegalNet, each_step, is_accepted, passing_names, sorted_names};
+ghost use Rattle.dn_net.specs.Terms.{each_step, is_accepted, passing_names, sorted_names};
 ghost use Rattle.dn_kind.specs.Terms.{are_there, resolved_names_under, steps_under};
-ghost use Rattle.dn_flat.specs.Terms.{AreFlats};
-ghost use Rattle.dn_view.specs.Terms.{AddsThose};
-ghost use Rattle.dn_lookup.specs.Terms.{AreStopsOf, IsImage, IsResolvedOf, IsSentOf, IsSentOn, records_in};
+ghost use Rattle.dn_lookup.specs.Terms.{IsImage, records_in};
 
 use crate::OutOfMemory;
 use crate::image::LoadedImage;
 use crate::output::output;
-use dn_flat::flats::Flats;
 use dn_kind::levels::{LEVELS, first_level, push_moved, push_sent, set_of};
 use dn_kind::rights::Access;
 use dn_net::names::Names;
 use dn_net::node::Name;
 use dn_net::step::Step;
-use dn_view::names::push_names;
-use dn_view::part::FlatPart;
 use std::alloc::Global;
-
-/// How many rounds there are: the name itself, and behind each of up to three units.
-const ROUNDS: u32 = 4;
 
 /// The accepted names that a name reaches in at most 259 steps under the records of an image. `Err`
 /// is want of memory.
@@ -47,122 +39,6 @@ pub(crate) fn resolve(
         level = next_level(alloc, image, access, level.list(), &mut accepted)?;
     }
     set_of(alloc, accepted)
-}
-
-/// The same, by what the nodes of the net reach: in each round the accepted names to which names come in the net,
-/// and where the records of their stops send them. Time of the levels of these nodes, and of the names that
-/// they give. `Err` is want of memory.
-pub(crate) fn resolve_by(
-    alloc: Global,
-    image: LoadedImage,
-    flats: &Flats,
-    access: Access,
-    name: Name,
-) -> Result<Names, OutOfMemory>
-    requires image { IsImage meaning image }
-    requires legal { IsLegalNet image.on.net.now }
-    requires flats { AreFlats image.on.net.now flats.now }
-    requires there { name.node < length image.on.net.now }
-    ensures resolved { IfOk result (λ names. names ≡ resolved_names_under image.entry.on.net.now
-        (records_in meaning image.entry access) name) }
-    ensures there { IfOk result
-        (λ names. IsTrue (are_there (length image.entry.on.net.now) names)) }
-{
-    let mut accepted = Vec::new(alloc);
-    let mut round = Vec::new(alloc);
-    round.push(name)?;
-    for _ in 0..ROUNDS {
-        let mut next = Vec::new(alloc);
-        push_round(
-            alloc,
-            image,
-            flats,
-            access,
-            round.as_slice(),
-            &mut accepted,
-            &mut next,
-        )?;
-        round = next;
-    }
-    set_of(alloc, accepted)
-}
-
-/// Adds the accepted names to which the names of a round come in the net, and to the others the names to which
-/// their stops are sent.
-fn push_round(
-    alloc: Global,
-    image: LoadedImage,
-    flats: &Flats,
-    access: Access,
-    round: &[Name],
-    accepted: &mut Vec<Name>,
-    next: &mut Vec<Name>,
-) -> Result<(), OutOfMemory>
-    requires image { IsImage meaning image }
-    requires flats { AreFlats image.on.net.now flats.now }
-    requires there { IsTrue (are_there (length image.on.net.now) round.now) }
-    ensures accepted { OnOk result (AddsThose
-        (IsResolvedOf image.entry.on.net.now round.now) accepted.old.items accepted.new.items) }
-    ensures next { OnOk result (AddsThose (IsSentOf image.entry.on.net.now
-        (records_in meaning image.entry access) round.now) next.old.items next.new.items) }
-{
-    for name in round {
-        push_names(
-            alloc,
-            image.on.net,
-            flats,
-            FlatPart::Accepts,
-            *name,
-            accepted,
-        )?;
-        push_onward(alloc, image, flats, access, *name, next)?;
-    }
-    Ok(())
-}
-
-/// Adds the names to which the stops of a name are sent.
-fn push_onward(
-    alloc: Global,
-    image: LoadedImage,
-    flats: &Flats,
-    access: Access,
-    name: Name,
-    next: &mut Vec<Name>,
-) -> Result<(), OutOfMemory>
-    requires image { IsImage meaning image }
-    requires flats { AreFlats image.on.net.now flats.now }
-    requires there { name.node < length image.on.net.now }
-    ensures { OnOk result (AddsThose (IsSentOn image.entry.on.net.now
-        (records_in meaning image.entry access) name) next.old.items next.new.items) }
-{
-    let mut stops = Vec::new(alloc);
-    push_names(
-        alloc,
-        image.on.net,
-        flats,
-        FlatPart::Stops,
-        name,
-        &mut stops,
-    )?;
-    push_outputs(image, access, stops.as_slice(), next)
-}
-
-/// Adds the names to which stops are sent, one stop after the other.
-fn push_outputs(
-    image: LoadedImage,
-    access: Access,
-    stops: &[Name],
-    next: &mut Vec<Name>,
-) -> Result<(), OutOfMemory>
-    requires image { IsImage meaning image }
-    requires stops { AreStopsOf image.on.net.now stops.now }
-    ensures { OnOk result (next.new.items ≡ next.old.items ++ each_step
-        (steps_under image.entry.on.net.now (records_in meaning image.entry access)) stops.now) }
-{
-    for stop in stops {
-        push_sent(next, output(image, access, *stop))?;
-    }
-    Ok(())
 }
 
 /// The names one step on from those of a level. Those of the level that are accepted are appended.

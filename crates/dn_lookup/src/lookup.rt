@@ -5,12 +5,11 @@ ghost use Rattle.dn_base.specs.Terms.{Answers};
 ghost use Rattle.dn_net.specs.Terms.{KeepsNodeRules, is_agent_at};
 ghost use Rattle.dn_kind.specs.Terms.{IsShaped, are_there, kinds_of};
 ghost use Rattle.dn_image.specs.Terms.{broken_image, version_of};
-ghost use Rattle.dn_view.specs.Terms.{IsSystem};
 ghost use Rattle.dn_lookup.specs.Terms.{lookup_fault_view, lookup_of};
 
 use crate::OutOfMemory;
 use crate::image::LoadedImage;
-use crate::levels::{resolve, resolve_by};
+use crate::levels::resolve;
 use dn_image::check::check;
 use dn_image::fault::ImageFault;
 use dn_kind::kinded::KindedNet;
@@ -18,7 +17,6 @@ use dn_kind::rights::Access;
 use dn_net::names::Names;
 use dn_net::net::Net;
 use dn_net::node::{Name, Role};
-use dn_view::system::System;
 use std::alloc::Global;
 use thiserror::Error;
 
@@ -101,36 +99,6 @@ pub fn lookup_whole(
         version,
     };
     resolve(alloc, image, access, name)
-}
-
-/// The same, by what the nodes of the net reach: time of the levels of the nodes on the way, and of the names that
-/// these give to the address. `Err` is want of memory.
-pub fn lookup_by(
-    alloc: Global,
-    system: System,
-    image: &[u8],
-    version: u16,
-    access: Access,
-    name: Name,
-) -> Result<Names, OutOfMemory>
-    requires system { IsSystem meaning system }
-    requires whole { broken_image system.on.net.now (kinds_of meaning system.on.kinds.now) image.now
-        ≡ None }
-    requires version { version ≡ version_of image.now }
-    requires agent { IsTrue (is_agent_at (slice_get system.on.net.now name.node)) }
-    ensures exact { IfOk result (λ names. lookup_of system.entry.on.net.now
-        (kinds_of meaning system.entry.on.kinds.now) image.now access name ≡ Ok names) }
-    // Each name is in a node that is there.
-    ensures there { IfOk result
-        (λ names. IsTrue (are_there (length system.entry.on.net.now) names)) }
-{
-    let System { on, flats } = system;
-    let image = LoadedImage {
-        on,
-        bytes: image,
-        version,
-    };
-    resolve_by(alloc, image, flats, access, name)
 }
 
 /// Whether a node is there, and an agent.

@@ -28,10 +28,6 @@ faithful_image_gives_owed kinds net book lawful legal kept access x agent =
     ∙ ap (λ (h : Held). Ok (resolved_names_under net h x)) (held_same net book access (record_held net kinds (tables_of net kinds book)) held)
     ∙ ap Ok (sym (owed_names_are_resolved net book kept.faithful access x agent))
 
--- what is found is the answer
-pub found_is : (names found : List Name) → ◌≡◌ {A = Result (List Name) NoLookup} (Ok names) (Ok found) → found ≡ names
-found_is names found e = cc
-
 -- the image of tables of words of 64 bits is whole, and of the version that is written
 pub image_is_whole : (kinds : List Meaning) (net : List NodeDecl) (words : List (List ℕ)) → IsTrue (are_filled kinds net words) → (broken_image net kinds (image net kinds words) ≡ None) × (written_version ≡ version_of (image net kinds words))
 image_is_whole kinds net words filled =

@@ -9,8 +9,6 @@ ghost use Rattle.dn_flat.specs.Terms.{AreFlats};
 ghost use Rattle.dn_view.specs.Terms.{AreViewed};
 ghost use Rattle.dn_module.specs.Terms.{names_within};
 ghost use Rattle.dn_interval.specs.Terms.{ends_within, seen_view};
-ghost use Rattle.dn_image.specs.Terms.{broken_image, version_of, written_version};
-ghost use Rattle.dn_lookup.specs.Terms.{lookup_of};
 ghost use Rattle.dn_book.specs.Terms.{owed_names};
 ghost use Rattle.dn_print.specs.Terms.{names_text};
 ghost use Rattle.dn_tool.specs.Terms.{HaltsBySink, IsFirstView, IsMachine, IsReady, IsStill, Writes, access_of, access_text, asked_text, is_change, is_dump, is_view, lookup_text, names_under, no_agent_text, owed_rows, reply, resolve_text, view_heading, view_text, viewed_text};
@@ -18,14 +16,12 @@ ghost use Rattle.dn_tool.specs.Terms.{HaltsBySink, IsFirstView, IsMachine, IsRea
 use crate::halt::RunHalt;
 use crate::machine::Machine;
 use crate::output::{write_output, write_rows};
-use crate::state::{FirstView, Session, keep_first, keep_flats, keep_image, kept_flats};
+use crate::state::{FirstView, Session, keep_first, keep_flats, kept_flats};
 use crate::{OutOfMemory, reshape};
 use dn_base::sink::Sink;
 use dn_flat::flats::Flats;
-use dn_image::write::VERSION;
 use dn_interval::Rows;
 use dn_kind::rights::Access;
-use dn_lookup::lookup::lookup_by;
 use dn_module::command::{Command, Target};
 use dn_net::names::Names;
 use dn_net::net::Net;
@@ -197,7 +193,7 @@ fn few_names(
     resolve_few(alloc, machine.on, tables, name, access)
 }
 
-/// The reply to `lookup`, from the bytes of the present image.
+/// The reply to `lookup`.
 fn lookup_reply(
     alloc: Global,
     machine: Machine,
@@ -221,7 +217,8 @@ fn lookup_reply(
     }
 }
 
-/// The names that are owed to an agent's name, looked up in the bytes of the present image.
+/// The names that are owed to an agent's name: those to which it resolves under the tables, which are those that a
+/// lookup in the bytes of their image finds. So no image is made.
 fn agent_names(
     alloc: Global,
     machine: Machine,
@@ -235,41 +232,7 @@ fn agent_names(
         (owed_names machine.entry.on.net.now state.old.book.grants access name)) }
     ensures still { IsStill meaning machine.entry state.old state.new }
 {
-    keep_image(alloc, machine, state.book.tables(), &mut state.image)?;
-    keep_flats(alloc, machine, &mut state.flats)?;
-    let Some(image) = &state.image else {
-        unreachable!()
-    };
-    let flats = kept_flats(&state.flats);
-    image_names(alloc, machine, flats, image.as_slice(), access, name)
-}
-
-/// The names to which an agent's name comes in the bytes of an image that the program wrote, by what the nodes
-/// of the net reach.
-fn image_names(
-    alloc: Global,
-    machine: Machine,
-    flats: &Flats,
-    image: &[u8],
-    access: Access,
-    name: Name,
-) -> Result<String, OutOfMemory>
-    requires machine { IsMachine meaning machine }
-    requires flats { AreFlats machine.on.net.now flats.now }
-    requires agent { IsTrue (is_agent_at (slice_get machine.on.net.now name.node)) }
-    requires whole { broken_image machine.on.net.now
-        (kinds_of meaning machine.on.kinds.now) image.now ≡ None }
-    requires version { written_version ≡ version_of image.now }
-    ensures { (names : List NamePart) → lookup_of machine.entry.on.net.now
-        (kinds_of meaning machine.entry.on.kinds.now) image.now access name
-        ≡ Ok names → IfOk result (λ s. string_bytes s ≡ names_text machine.entry.on.net.now names) }
-{
-    let system = System {
-        on: machine.on,
-        flats,
-    };
-    let found = lookup_by(alloc, system, image, VERSION, access, name)?;
-    names_of(alloc, machine.on.net, found.list())
+    node_names(alloc, machine, state, access, name)
 }
 
 /// Writes the reply to `view`: a line, and below it a line for each row.
