@@ -172,7 +172,7 @@ owed_given net legal book sound access x y (inr b) =
     subst (λ w. ResolvesUnder net (allowing access (records_of net book)) w y) (sym b.adds.from) (subst (λ w. ResolvesUnder net (allowing access (records_of net book)) (name_on b.grant.request.agent b.grant.placement.v b.adds.i) w) (sym b.adds.to) r)
 
 -- the records without a grant are records of the book
-less_held : (net : List NodeDecl) (id : ℕ) (book : List Grant) → IsSound net book → Extends (records_of net (without_id id book)) (records_of net book)
+pub less_held : (net : List NodeDecl) (id : ℕ) (book : List Grant) → IsSound net book → Extends (records_of net (without_id id book)) (records_of net book)
 less_held net id book sound n q r e =
     let h = held_in net (without_id id book) n q r e in
     in_held net book sound.agree n q r (given_by net book h.grant n q r (without_in id book h.grant h.is_grant).0 (given_gives net (without_id id book) n q r h))

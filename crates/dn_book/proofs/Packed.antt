@@ -40,7 +40,7 @@ slot_length : (kind : Meaning) → IsLawful kind → (u : UnitPart) (o : Option 
 slot_length kind law u None p = length-replicate kind.words 0
 slot_length kind law u (Some r) p = law.width (unit_shape u) r (p r refl)
 
-slots_length : (kind : Meaning) → IsLawful kind → (u : UnitPart) (records : ℕ → Option Record) → ArePackable kind u records → (first count : ℕ) → length (packed_slots kind u records first count) ≡ count * kind.words
+pub slots_length : (kind : Meaning) → IsLawful kind → (u : UnitPart) (records : ℕ → Option Record) → ArePackable kind u records → (first count : ℕ) → length (packed_slots kind u records first count) ≡ count * kind.words
 slots_length kind law u records p first zero = let e : 0 ≡ 0 * kind.words = omega arith in e
 slots_length kind law u records p first (suc count) =
     let a : length (packed_slot kind u (records first) ++ packed_slots kind u records (suc first) count) ≡ length (packed_slot kind u (records first)) + length (packed_slots kind u records (suc first) count) = length-append (packed_slot kind u (records first)) (packed_slots kind u records (suc first) count) in
@@ -50,7 +50,7 @@ slots_length kind law u records p first (suc count) =
     omega arith
 
 -- the words of one of the slots
-slot_at : (kind : Meaning) → IsLawful kind → (u : UnitPart) (records : ℕ → Option Record) → ArePackable kind u records → (first count i : ℕ) → i < count → slot_words kind.words (packed_slots kind u records first count) i ≡ packed_slot kind u (records (first + i))
+pub slot_at : (kind : Meaning) → IsLawful kind → (u : UnitPart) (records : ℕ → Option Record) → ArePackable kind u records → (first count i : ℕ) → i < count → slot_words kind.words (packed_slots kind u records first count) i ≡ packed_slot kind u (records (first + i))
 slot_at kind law u records p first zero i l = absurd (omega arith)
 slot_at kind law u records p first (suc count) zero l =
     let z : 0 * kind.words ≡ 0 = omega arith in
@@ -76,7 +76,7 @@ slots_same kind u records records' first (suc count) e =
     ∙ ap (λ (l : List ℕ). packed_slot kind u (records first) ++ l) (slots_same kind u records records' (suc first) count (λ q l. e q (omega arith)))
 
 -- a slot that is changed
-slot_changed : (kind : Meaning) → IsLawful kind → (u : UnitPart) (records records' : ℕ → Option Record) → ArePackable kind u records → (first count i : ℕ) (vs : List ℕ) → i < count → length vs ≡ kind.words → vs ≡ packed_slot kind u (records' (first + i)) → ((q : ℕ) → (q ≡ first + i → ⊥) → records' q ≡ records q) → put_over (packed_slots kind u records first count) (i * kind.words) vs ≡ packed_slots kind u records' first count
+pub slot_changed : (kind : Meaning) → IsLawful kind → (u : UnitPart) (records records' : ℕ → Option Record) → ArePackable kind u records → (first count i : ℕ) (vs : List ℕ) → i < count → length vs ≡ kind.words → vs ≡ packed_slot kind u (records' (first + i)) → ((q : ℕ) → (q ≡ first + i → ⊥) → records' q ≡ records q) → put_over (packed_slots kind u records first count) (i * kind.words) vs ≡ packed_slots kind u records' first count
 slot_changed kind law u records records' p first zero i vs l n e same = absurd (omega arith)
 slot_changed kind law u records records' p first (suc count) zero vs l n e same =
     let z : 0 * kind.words ≡ 0 = omega arith in
@@ -120,7 +120,7 @@ node_words kinds h first (suc node) (n ∷ net) (s ∷ set) t e at =
     let rest : words_of set ≡ packed_nodes kinds h (suc first) net = cc in
     node_words kinds h (suc first) node net set t rest at ∙ ap (λ m. packed_node kinds (unit_at net node) (h m)) f
 
-nodes_same : (kinds : List Meaning) (h h' : Held) (first : ℕ) (net : List NodeDecl) → ((m q : ℕ) → first ≤ m → h' m q ≡ h m q) → packed_nodes kinds h' first net ≡ packed_nodes kinds h first net
+pub nodes_same : (kinds : List Meaning) (h h' : Held) (first : ℕ) (net : List NodeDecl) → ((m q : ℕ) → first ≤ m → h' m q ≡ h m q) → packed_nodes kinds h' first net ≡ packed_nodes kinds h first net
 nodes_same kinds h h' first [] e = refl
 nodes_same kinds h h' first (n ∷ net) e =
     let row : ◌≡◌ {A = ℕ → Option Record} (h' first) (h first) = (λ i q. e first q (omega arith) i) in
@@ -205,11 +205,11 @@ packable_held net kinds node slot u k r e h = record {
   rights = h.rights;
 }
 
-all_packable : (net : List NodeDecl) (kinds : List Meaning) (h : Held) → AreHeld net h → (node : ℕ) (u : UnitPart) (k : IsKind net kinds u) → unit_at net node ≡ Some u → ArePackable k.kind u (h node)
+pub all_packable : (net : List NodeDecl) (kinds : List Meaning) (h : Held) → AreHeld net h → (node : ℕ) (u : UnitPart) (k : IsKind net kinds u) → unit_at net node ≡ Some u → ArePackable k.kind u (h node)
 all_packable net kinds h held node u k e q r at = packable_held net kinds node q u k r e (held node q r at)
 
 -- the words of a unit
-unit_words : (net : List NodeDecl) (kinds : List Meaning) (h : Held) (u : UnitPart) (k : IsKind net kinds u) (records : ℕ → Option Record) → packed_node kinds (Some u) records ≡ packed_slots k.kind u records 0 u.slots
+pub unit_words : (net : List NodeDecl) (kinds : List Meaning) (h : Held) (u : UnitPart) (k : IsKind net kinds u) (records : ℕ → Option Record) → packed_node kinds (Some u) records ≡ packed_slots k.kind u records 0 u.slots
 unit_words net kinds h u k records = ap (λ o. packed_unit o u records) k.at
 
 -- the record of the words of a slot

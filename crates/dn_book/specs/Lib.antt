@@ -1,6 +1,10 @@
+pub mod Between
 pub mod Book
+pub mod Commands
 pub mod Committed
+pub mod Events
 pub mod Faults
+pub mod Going
 pub mod Kept
 pub mod Laws
 pub mod Puts

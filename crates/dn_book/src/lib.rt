@@ -9,4 +9,5 @@ pub mod kept;
 pub mod laws;
 mod puts;
 mod slots;
+pub mod stops;
 mod uses;
