@@ -4,7 +4,7 @@ use Rattle.std.specs.List.{flat_map}
 use Rattle.std.proofs.Math.Nat.{mul-le-mul_right}
 use Rattle.std.proofs.Math.Seq.{take-length}
 use Rattle.std.proofs.lemmas.List.{length-replicate, length-reverse}
-use Rattle.std.proofs.lemmas.Option.{same_Some, slice_get_within}
+use Rattle.std.proofs.lemmas.Option.{slice_get_within}
 use Rattle.dn_base.specs.declared.device.TableEvent.{TableEvent}
 use Rattle.dn_base.proofs.Members.{member_cases}
 use Rattle.dn_net.specs.declared.node.NodeDecl.{NodeDecl}
@@ -12,32 +12,32 @@ use Rattle.dn_net.specs.declared.node.Unit.{Unit as UnitPart}
 use Rattle.dn_net.specs.Chain.{Member}
 use Rattle.dn_net.specs.Decode.{unit_at}
 use Rattle.dn_kind.specs.declared.rights.Rights.{Rights}
-use Rattle.dn_kind.specs.declared.unit_kind.Record.{Record}
 use Rattle.dn_kind.specs.Kind.{Meaning}
 use Rattle.dn_kind.specs.Tables.{AreHeld, Extends, Held, IsHeld, record_held, slot_words}
 use Rattle.dn_kind.specs.Units.{unit_shape}
-use Rattle.dn_tables.specs.Writes.{WordWrite, clears_from, write_events, writes_from}
+use Rattle.dn_tables.specs.Writes.{clears_from, words_after, write_events, writes_from}
 use Rattle.dn_tables.specs.declared.placement.Hop.{Hop}
-use Rattle.dn_tables.specs.Set.{put_over}
-use Rattle.dn_tables.proofs.Values.{after_clears, after_puts}
+use Rattle.dn_tables.proofs.Values.{after_clears, after_puts, length_writes}
 use Rattle.dn_book.specs.declared.grant.Grant.{Grant}
 use Rattle.dn_placement.specs.Records.{first_slot, hop_rights, last_slot}
 use Rattle.dn_book.specs.Book.{records_of, slots_of, without_id}
 use Rattle.dn_book.specs.Sets.{AreFit, is_at}
 use Rattle.dn_book.proofs.Changes.{is_at_parts}
-use Rattle.dn_book.specs.Tables.{packed_node, packed_nodes, packed_slot, packed_slots, packed_tables, tables_of}
+use Rattle.dn_book.specs.Tables.{packed_node, packed_slot, packed_slots, packed_tables, tables_of}
 use Rattle.dn_book.specs.Writes.{Put, clear_events, clear_events_by, clears_of, empty_slots, fence_events, grant_slots, hop_slots, hop_slots_by, is_empty, joined_slots, kind_by, put_events, put_events_by, puts_of, slots_from}
 use Rattle.dn_book.proofs.InOrder.{IsHopAt, from_behind, hop_at, hop_unit, hops_length, in_all, units_apart}
 use Rattle.dn_book.proofs.Live.{book_held, clears_there, empty_in, puts_held, records_granted, records_revoked}
 use Rattle.dn_book.proofs.Ranges.{of_hop}
 use Rattle.dn_book.proofs.Sound.{granted_sound, placed_fit, revoked_sound}
-use Rattle.dn_book.proofs.Packed.{AreKindsOf, IsKind, all_packable, held_after, held_cleared, kind_of, nodes_same, packable_held, slot_at, slot_changed, slots_length, tables_hold, this_slot, unit_words, with_record, without_record, words_there}
+use Rattle.dn_book.proofs.Packed.{AreKindsOf, IsKind, all_packable, held_after, held_cleared, held_with, held_without, kind_of, other_slot, packable_held, slot_at, slot_packed, slots_length, tables_hold, this_slot, unit_words, with_record, without_record, words_there}
 use Rattle.dn_book.specs.Commands.{GrantLeadsOver, RevokeLeadsOver}
 use Rattle.dn_book.specs.Events.{after_event, after_events, held_at}
 use Rattle.dn_book.specs.Going.{AreGoing, waits}
+use Rattle.dn_book.proofs.Written.{length_events}
 use Rattle.dn_book.proofs.Going.{adding, after_append, clearing, going_append}
+use Rattle.dn_book.proofs.Nodes.{after_writes}
 use Rattle.dn_book.proofs.Rising.{extends_same, falls_to, rises_to}
-use Rattle.dn_book.proofs.Words.{IsSlotOf, after_writes_is, clear_goes, put_comes, put_node}
+use Rattle.dn_book.proofs.Words.{IsSlotOf, clear_goes, put_comes}
 
 -- EVENT BY EVENT
 
@@ -56,20 +56,7 @@ moves_append R net kinds words (e ∷ es) fs f g = go (moves_append R net kinds 
     go rest zero l = f 0 (omega arith)
     go rest (suc d) l = rest d (omega arith)
 
--- TABLES
-
--- one node is changed
-node_put : (kinds : List Meaning) (h h' : Held) (first node : ℕ) (net : List NodeDecl) (ws : List ℕ) (u : UnitPart) → unit_at net node ≡ Some u → ws ≡ packed_node kinds (unit_at net node) (h' (first + node)) → ((m q : ℕ) → (m ≡ first + node → ⊥) → h' m q ≡ h m q) → put_node (packed_nodes kinds h first net) node ws ≡ packed_nodes kinds h' first net
-node_put kinds h h' first node [] ws u e is same = cc
-node_put kinds h h' first zero (n ∷ net) ws u e is same =
-    let z : first + zero ≡ first = omega arith in
-    ap (λ (x : List ℕ). x ∷ packed_nodes kinds h (suc first) net) (is ∙ ap (λ m. packed_node kinds n.unit (h' m)) z)
-    ∙ ap (λ (l : List (List ℕ)). packed_node kinds n.unit (h' first) ∷ l) (sym (nodes_same kinds h h' (suc first) net (λ m q l. same m q (λ g. absurd (omega arith)))))
-node_put kinds h h' first (suc node) (n ∷ net) ws u e is same =
-    let g : first + suc node ≡ suc first + node = omega arith in
-    let row : ◌≡◌ {A = ℕ → Option Record} (h' first) (h first) = (λ i q. same first q (λ k. absurd (omega arith)) i) in
-    ap (λ (r : ℕ → Option Record). packed_node kinds n.unit r ∷ put_node (packed_nodes kinds h (suc first) net) node ws) (sym row)
-    ∙ ap (λ (l : List (List ℕ)). packed_node kinds n.unit (h' first) ∷ l) (node_put kinds h h' (suc first) node net ws u e (is ∙ ap (λ m. packed_node kinds (unit_at net node) (h' m)) g) (λ m q k. same m q (λ j. k (j ∙ g))))
+-- ONE SLOT
 
 module _ (net : List NodeDecl) (kinds : List Meaning) (k : AreKindsOf net kinds) where
   -- the slot of a unit in the tables that hold records
@@ -94,38 +81,19 @@ module _ (net : List NodeDecl) (kinds : List Meaning) (k : AreKindsOf net kinds)
           let b : suc s * w ≡ s * w + w = suc-mul s w in
           omega arith
 
-  -- one slot gets the words of another record, or of none
-  changed : (h h' : Held) → AreHeld net h → (node slot : ℕ) (u : UnitPart) (kind : IsKind net kinds u) → unit_at net node ≡ Some u → slot < u.slots → (vs : List ℕ) → vs ≡ packed_slot kind.kind u (h' node slot) → length vs ≡ kind.kind.words → ((m q : ℕ) → (m ≡ node → q ≡ slot → ⊥) → h' m q ≡ h m q) → put_node (packed_tables net kinds h) node (put_over (packed_slots kind.kind u (h node) 0 u.slots) (slot * kind.kind.words) vs) ≡ packed_tables net kinds h'
-  changed h h' held node slot u kind e l vs is wide same =
-      let z : 0 + node ≡ node = omega arith in
-      let y : 0 + slot ≡ slot = omega arith in
-      node_put kinds h h' 0 node net (put_over (packed_slots kind.kind u (h node) 0 u.slots) (slot * kind.kind.words) vs) u e
-      (slot_changed kind.kind kind.law u (h node) (h' node) (all_packable net kinds h held node u kind e) 0 u.slots slot vs l wide (is ∙ ap (λ n. packed_slot kind.kind u (h' node n)) (sym y)) (λ q ne. same node q (λ a b. ne (b ∙ sym y)))
-      ∙ sym (unit_words net kinds h u kind (h' node))
-      ∙ ap (λ o. packed_node kinds o (h' node)) (sym e)
-      ∙ ap (λ n. packed_node kinds (unit_at net node) (h' n)) (sym z))
-      (λ m q ne. same m q (λ a b. ne (a ∙ sym z)))
-
   -- what a put and a clear do
   pub record Does (R : Held → Held → Type 0) (h h' : Held) (es : List TableEvent) : Type 0 where
     pub moves : Moves R net kinds (packed_tables net kinds h) es
     pub leaves : after_events es (packed_tables net kinds h) ≡ packed_tables net kinds h'
-
-  other : (m q : ℕ) (s : Put) (x y : Option Record) → (m ≡ s.unit → q ≡ s.slot → ⊥) → (if is_at m q s then x else y) ≡ y
-  other m q s x y ne = by (is_at m q s) refl
-    where
-      by : (b : Bool) → is_at m q s ≡ b → (if b then x else y) ≡ y
-      by true e = let p = is_at_parts m q s e in absurd (ne p.0 p.1)
-      by false e = refl
 
   pub put_does : (h : Held) → AreHeld net h → (s : Put) → IsHeld net s.unit s.slot s.holds → h s.unit s.slot ≡ None → Does Extends h (with_record h s) (put_events net kinds s)
   put_does h held s here none = record {
     moves = subst (λ es. Moves Extends net kinds (packed_tables net kinds h) es) (sym is)
         (λ d l. put_comes net kinds k.lawful (packed_tables net kinds h) s.unit s.slot at vs wide zeros d (subst (λ n. d < n) count l));
     leaves = ap (λ es. after_events es (packed_tables net kinds h)) is
-        ∙ after_writes_is (writes_from (s.slot * kind.kind.words) vs) (packed_tables net kinds h) s.unit at.ws at.has
-        ∙ ap (put_node (packed_tables net kinds h) s.unit) (after_puts vs at.ws (s.slot * kind.kind.words) (fit (s.slot * kind.kind.words) (length vs) kind.kind.words (length at.ws) wide at.room))
-        ∙ changed h (with_record h s) held s.unit s.slot u kind here.unit.1 here.unit.2 vs (ap (packed_slot kind.kind u) (sym (this_slot s (Some s.holds) (h s.unit s.slot)))) wide (λ m q ne. other m q s (Some s.holds) (h m q) ne);
+        ∙ after_writes (writes_from (s.slot * kind.kind.words) vs) (packed_tables net kinds h) s.unit
+        ∙ slot_packed net kinds h (with_record h s) held s.unit s.slot u kind here.unit.1 here.unit.2 vs (ap (packed_slot kind.kind u) (sym (this_slot s (Some s.holds) (h s.unit s.slot)))) wide (λ m q ne. other_slot m q s (Some s.holds) (h m q) ne)
+        (words_after (writes_from (s.slot * kind.kind.words) vs)) (after_puts vs at.ws (s.slot * kind.kind.words) (fit (s.slot * kind.kind.words) (length vs) kind.kind.words (length at.ws) wide at.room));
   }
     where
       fit : (a n w m : ℕ) → n ≡ w → a + w ≤ m → a + n ≤ m
@@ -150,11 +118,7 @@ module _ (net : List NodeDecl) (kinds : List Meaning) (k : AreKindsOf net kinds)
       is = ap (λ o. put_events_by o (kind_by kinds o) s) here.unit.1 ∙ ap (λ c. put_events_by (Some u) c s) kind.at
 
       count : length (write_events s.unit (writes_from (s.slot * kind.kind.words) vs)) ≡ length vs
-      count = lengths s.unit (s.slot * kind.kind.words) vs
-        where
-          lengths : (n first : ℕ) (xs : List ℕ) → length (write_events n (writes_from first xs)) ≡ length xs
-          lengths n first [] = refl
-          lengths n first (x ∷ xs) = ap suc (lengths n (suc first) xs)
+      count = length_events s.unit (writes_from (s.slot * kind.kind.words) vs) ∙ length_writes (s.slot * kind.kind.words) vs
 
       zeros : slot_words kind.kind.words at.ws s.slot ≡ replicate kind.kind.words 0
       zeros =
@@ -168,9 +132,9 @@ module _ (net : List NodeDecl) (kinds : List Meaning) (k : AreKindsOf net kinds)
     moves = subst (λ es. Moves (λ a b. Extends b a) net kinds (packed_tables net kinds h) es) (sym is)
         (λ d n. clear_goes net kinds k.lawful (packed_tables net kinds h) s.unit s.slot at d (subst (λ m. d < m) count n));
     leaves = ap (λ es. after_events es (packed_tables net kinds h)) is
-        ∙ after_writes_is (clears_from (s.slot * kind.kind.words) kind.kind.words) (packed_tables net kinds h) s.unit at.ws at.has
-        ∙ ap (put_node (packed_tables net kinds h) s.unit) (after_clears kind.kind.words (s.slot * kind.kind.words) at.ws kind.law.least at.room)
-        ∙ changed h (without_record h s) held s.unit s.slot u kind e l (replicate kind.kind.words 0) (ap (packed_slot kind.kind u) (sym (this_slot s None (h s.unit s.slot)))) (length-replicate kind.kind.words 0) (λ m q ne. other m q s None (h m q) ne);
+        ∙ after_writes (clears_from (s.slot * kind.kind.words) kind.kind.words) (packed_tables net kinds h) s.unit
+        ∙ slot_packed net kinds h (without_record h s) held s.unit s.slot u kind e l (replicate kind.kind.words 0) (ap (packed_slot kind.kind u) (sym (this_slot s None (h s.unit s.slot)))) (length-replicate kind.kind.words 0) (λ m q ne. other_slot m q s None (h m q) ne)
+        (words_after (clears_from (s.slot * kind.kind.words) kind.kind.words)) (after_clears kind.kind.words (s.slot * kind.kind.words) at.ws kind.law.least at.room);
   }
     where
       kind : IsKind net kinds u
@@ -183,14 +147,10 @@ module _ (net : List NodeDecl) (kinds : List Meaning) (k : AreKindsOf net kinds)
       is = ap (λ o. clear_events_by (kind_by kinds o) s) e ∙ ap (λ c. clear_events_by c s) kind.at
 
       count : length (write_events s.unit (clears_from (s.slot * kind.kind.words) kind.kind.words)) ≡ kind.kind.words
-      count = lengths s.unit (writes_from (s.slot * kind.kind.words) (replicate (kind.kind.words - 1) 0)) (long (s.slot * kind.kind.words) (replicate (kind.kind.words - 1) 0)) (length-replicate (kind.kind.words - 1) 0) kind.law.least
+      count = length_events s.unit (clears_from (s.slot * kind.kind.words) kind.kind.words) ∙ whole (length-replicate (kind.kind.words - 1) 0) (length_writes (s.slot * kind.kind.words) (replicate (kind.kind.words - 1) 0)) kind.law.least
         where
-          long : (first : ℕ) (xs : List ℕ) → length (write_events s.unit (writes_from first xs)) ≡ length xs
-          long first [] = refl
-          long first (x ∷ xs) = ap suc (long (suc first) xs)
-
-          lengths : (n : ℕ) (ws : List WordWrite) {m r w : ℕ} → r ≡ m → m ≡ w - 1 → 1 ≤ w → suc r ≡ w
-          lengths n ws {m} {r} {w} a b c = omega arith
+          whole : {m r w : ℕ} → m ≡ w - 1 → r ≡ m → 1 ≤ w → suc r ≡ w
+          whole a b c = omega arith
 
 -- ROWS OF PUTS AND CLEARS
 
@@ -206,29 +166,12 @@ module _ (net : List NodeDecl) (kinds : List Meaning) (k : AreKindsOf net kinds)
     leaves = after_append es fs (packed_tables net kinds a) ∙ ap (after_events fs) x.leaves ∙ y.leaves;
   }
 
-  more_held : (h : Held) (s : Put) → AreHeld net h → IsHeld net s.unit s.slot s.holds → AreHeld net (with_record h s)
-  more_held h s held here m q r e = by (is_at m q s) refl e
-    where
-      by : (b : Bool) → is_at m q s ≡ b → (if b then Some s.holds else h m q) ≡ Some r → IsHeld net m q r
-      by true f g =
-          let p = is_at_parts m q s f in
-          let same : s.holds ≡ r = same_Some s.holds r g in
-          subst (λ n. IsHeld net n q r) (sym p.0) (subst (λ n. IsHeld net s.unit n r) (sym p.1) (subst (IsHeld net s.unit s.slot) same here))
-      by false f g = held m q r g
-
-  less_records : (h : Held) (s : Put) → AreHeld net h → AreHeld net (without_record h s)
-  less_records h s held m q r e = by (is_at m q s) e
-    where
-      by : (b : Bool) → (if b then None else h m q) ≡ Some r → IsHeld net m q r
-      by true g = let c : None ≡ Some r = g in cc
-      by false g = held m q r g
-
   puts_do : (ss : List Put) (h : Held) → AreHeld net h → ((s : Put) → Member s ss → IsHeld net s.unit s.slot s.holds) → ((s : Put) → Member s ss → h s.unit s.slot ≡ None) → AreApart ss → Does net kinds k Extends h (held_after h ss) (flat_map (put_events net kinds) ss)
   puts_do [] h held can none apart = record { moves = moves_none Extends net kinds (packed_tables net kinds h); leaves = refl }
   puts_do (s ∷ ss) h held can none apart =
       does_then Extends h (with_record h s) (held_after (with_record h s) ss) (put_events net kinds s) (flat_map (put_events net kinds) ss)
       (put_does net kinds k h held s (can s (inl refl)) (none s (inl refl)))
-      (puts_do ss (with_record h s) (more_held h s held (can s (inl refl))) (λ t m. can t (inr m))
+      (puts_do ss (with_record h s) (held_with net h s held (can s (inl refl))) (λ t m. can t (inr m))
       (λ t m. other_none t (apart.0 t m) (none t (inr m))) apart.1)
     where
       other_none : (t : Put) → (s.unit ≡ t.unit → s.slot ≡ t.slot → ⊥) → h t.unit t.slot ≡ None → with_record h s t.unit t.slot ≡ None
@@ -244,7 +187,7 @@ module _ (net : List NodeDecl) (kinds : List Meaning) (k : AreKindsOf net kinds)
       let u = can s (inl refl) in
       does_then (λ a b. Extends b a) h (without_record h s) (held_cleared (without_record h s) ss) (clear_events net kinds s) (flat_map (clear_events net kinds) ss)
       (clear_does net kinds k h held s u.0 u.1 u.2)
-      (clears_do ss (without_record h s) (less_records h s held) (λ t m. can t (inr m)))
+      (clears_do ss (without_record h s) (held_without net h s held) (λ t m. can t (inr m)))
 
   -- the records at the first moment and at the last
   first_held : (h : Held) (es : List TableEvent) → AreHeld net h → ◌≡◌ {A = Held} (held_at net kinds (packed_tables net kinds h) es 0) h

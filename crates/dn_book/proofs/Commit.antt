@@ -2,6 +2,7 @@
 use Rattle.std.proofs.Common.{◌≡◌, ℕ, ◌*◌, ◌<◌, Bool, true, false, if◌then◌else◌, ◌==◌, nat_eq, List, [], ◌∷◌, ◌++◌, filter, reverse, slice_get, Option, Some, None, IsSome, IsTrue, refl, sym, ap, ◌∙◌, subst, arith, eqb-true}
 use Rattle.std.specs.List.{All, flat_map, list_any}
 use Rattle.dn_base.specs.Device.{UnitSize, sizes_of}
+use Rattle.dn_base.specs.declared.device.TableEvent.{TableEvent}
 use Rattle.dn_base.specs.declared.device.UnitWords.{UnitWords}
 use Rattle.std.specs.Option.{IfSome}
 use Rattle.std.proofs.lemmas.Option.{same_Some}
@@ -15,7 +16,6 @@ use Rattle.dn_net.specs.Legal.{IsLegalNet}
 use Rattle.dn_kind.specs.declared.unit_kind.Record.{Record}
 use Rattle.dn_kind.specs.Kind.{Meaning, IsLawful}
 use Rattle.dn_kind.specs.Rights.{both_rights}
-use Rattle.dn_kind.specs.Tables.{Held}
 use Rattle.dn_kind.specs.Units.{IsLegalWith, unit_shape}
 use Rattle.dn_tables.specs.declared.placement.Hop.{Hop}
 use Rattle.dn_tables.specs.declared.table.NodeTable.{NodeTable}
@@ -25,18 +25,24 @@ use Rattle.dn_tables.specs.Writes.{put_writes, write_events, writes_from}
 use Rattle.dn_tables.proofs.Kept.{table_of_unit}
 use Rattle.dn_placement.specs.Records.{hop_rights}
 use Rattle.dn_book.specs.declared.grant.Grant.{Grant}
+use Rattle.dn_book.specs.Between.{IsCaught}
 use Rattle.dn_book.specs.Book.{IsSound, is_taken, owns_slot, records_of, slots_of, uses_of, uses_slot}
+use Rattle.dn_book.specs.Commands.{LeadsOver}
+use Rattle.dn_book.specs.Events.{AreWritten}
 use Rattle.dn_book.specs.Laws.{IsGrantFor}
 use Rattle.dn_book.specs.Sets.{AreFit, AreHopsChanged, AreOpen, MayUse, after_puts, changed_by, hop_owner, is_used_by, one_use_more, put_log}
-use Rattle.dn_book.specs.Tables.{IsKept, packed_tables, use_of}
-use Rattle.dn_book.specs.Writes.{Put, grant_slots, hop_slots, is_empty, joined_slots, kind_by, put_events, put_events_by, puts_of}
+use Rattle.dn_book.specs.Tables.{IsKept, tables_of, use_of}
+use Rattle.dn_book.specs.Writes.{Put, fence_events, grant_events, grant_slots, hop_slots, is_empty, joined_slots, kind_by, put_events, put_events_by, puts_of}
+use Rattle.dn_book.proofs.Caught.{caught}
 use Rattle.dn_book.proofs.Changes.{has_slot_kept}
+use Rattle.dn_book.proofs.Commands.{grant_leads_over}
 use Rattle.dn_book.proofs.Facts.{fit_then, fits_net_kept}
 use Rattle.dn_book.proofs.Frames.{SameFrame, frame_puts, same_flat}
 use Rattle.dn_book.proofs.Given.{GrantGives, by_owns, by_uses, gives_taken, unused_none}
-use Rattle.dn_book.proofs.Live.{book_held, by_place, few_uses, gives_held, no_owner_of, picked_empty, put_gives, put_gives_behind, puts_held, records_granted, used_zero, uses_granted, hop_put_gives}
-use Rattle.dn_book.proofs.Packed.{AreKindsOf, Holds, empty_there, held_after, kind_of, puts_hold, set_holds, width_is}
+use Rattle.dn_book.proofs.Live.{book_held, by_place, few_uses, gives_held, no_owner_of, picked_empty, put_gives, put_gives_behind, used_zero, uses_granted, hop_put_gives}
+use Rattle.dn_book.proofs.Packed.{AreKindsOf, Holds, empty_there, kind_of, set_holds, width_is}
 use Rattle.dn_book.proofs.Sound.{comes, granted_sound, placed_fit}
+use Rattle.dn_book.proofs.Written.{written_words}
 use Rattle.dn_tables.proofs.Units.{unit_fits}
 
 -- WRITES BY A SET ARE THOSE BY THE NET
@@ -159,8 +165,21 @@ module _ (net : List NodeDecl) (kinds : List Meaning) (book : List Grant) (g : G
   after : IsSound net (book ++ g ∷ [])
   after = granted_sound net legal book g sound c.placed
 
-  pub committed : (set' set'' : List NodeTable) → set' ≡ after_puts kinds set (filter (is_used_by 0 set) (joined_slots (reverse (grant_slots net g)))) → AreHopsChanged net g.request.size (λ place. one_use_more (hop_owner g.id g.placement.own place)) g.placement.hops set' set'' → IsKept net kinds (book ++ g ∷ []) set''
-  committed set' set'' made changed = record {
+  -- the events of a grant were written into the tables of the book
+  pub coming_written : (cleared failed : Bool) (log log' : Option (List TableEvent)) (words : List (List ℕ)) → AreWritten (fence_events cleared ++ put_log kinds set (filter (is_used_by 0 set) (joined_slots (reverse (grant_slots net g))))) failed log log' (words_of set) words → AreWritten (grant_events net kinds book cleared g) failed log log' (tables_of net kinds book) words
+  coming_written cleared failed log log' words w =
+      subst (λ es. AreWritten (fence_events cleared ++ es) failed log log' (tables_of net kinds book) words) coming_log
+      (subst (λ ws. AreWritten (fence_events cleared ++ put_log kinds set (filter (is_used_by 0 set) (joined_slots (reverse (grant_slots net g))))) failed log log' ws words) c.kept.words w)
+
+  leads : (cleared : Bool) → LeadsOver net kinds book (book ++ g ∷ []) cleared false book (book ++ g ∷ []) (grant_events net kinds book cleared g)
+  leads cleared = grant_leads_over net kinds book g cleared legal c.legal.shaped c.lawful sound c.placed
+
+  -- at a stop each name resolves as before or as after
+  pub coming_caught : (cleared failed : Bool) (log log' : Option (List TableEvent)) (words : List (List ℕ)) → AreWritten (grant_events net kinds book cleared g) failed log log' (tables_of net kinds book) words → IsCaught net kinds words book (book ++ g ∷ [])
+  coming_caught cleared failed log log' words w = caught net kinds book (book ++ g ∷ []) cleared false book (book ++ g ∷ []) (grant_events net kinds book cleared g) legal (leads cleared) failed log log' words w
+
+  pub committed : (cleared : Bool) (log log' : Option (List TableEvent)) (set' set'' : List NodeTable) → set' ≡ after_puts kinds set (filter (is_used_by 0 set) (joined_slots (reverse (grant_slots net g)))) → AreWritten (grant_events net kinds book cleared g) false log log' (tables_of net kinds book) (words_of set') → AreHopsChanged net g.request.size (λ place. one_use_more (hop_owner g.id g.placement.own place)) g.placement.hops set' set'' → IsKept net kinds (book ++ g ∷ []) set''
+  committed cleared log log' set' set'' made written changed = record {
     sound = after;
     fits = new.fits;
     words = new.words;
@@ -168,22 +187,13 @@ module _ (net : List NodeDecl) (kinds : List Meaning) (book : List Grant) (g : G
     uses = uses;
   }
     where
-      is : set' ≡ after_puts kinds set (puts_of net book g)
-      is = made ∙ ap (after_puts kinds set) coming_puts
-
-      then' : Holds net kinds (held_after (records_of net book) (puts_of net book g)) (after_puts kinds set (puts_of net book g))
-      then' = puts_hold net kinds k (records_of net book) set (puts_of net book g) (puts_held net legal book g sound c.placed) holds
-
       frame : SameFrame set set'
-      frame = subst (SameFrame set) (sym is) (frame_puts kinds set (puts_of net book g))
-
-      same : ◌≡◌ {A = Held} (held_after (records_of net book) (puts_of net book g)) (records_of net (book ++ g ∷ []))
-      same = λ i n q. records_granted net legal book g sound c.placed n q i
+      frame = subst (SameFrame set) (sym made) (frame_puts kinds set (filter (is_used_by 0 set) (joined_slots (reverse (grant_slots net g)))))
 
       new : Holds net kinds (records_of net (book ++ g ∷ [])) set''
       new = record {
         fits = fits_net_kept net kinds set set'' (fit_then set set' set'' frame.fits changed.fits) c.kept.fits;
-        words = changed.same_words ∙ ap words_of is ∙ then'.words ∙ ap (packed_tables net kinds) same;
+        words = changed.same_words ∙ written_words (grant_events net kinds book cleared g) log log' (tables_of net kinds book) (words_of set') written ∙ (leads cleared).leaves;
         held = book_held net legal (book ++ g ∷ []) after;
       }
 

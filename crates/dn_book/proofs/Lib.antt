@@ -1,6 +1,6 @@
-pub mod Added
 pub mod Begun
 pub mod Between
+pub mod Caught
 pub mod Changes
 pub mod Commands
 pub mod Commit
@@ -14,6 +14,7 @@ pub mod InOrder
 pub mod KeptEmpty
 pub mod KeptSlots
 pub mod Live
+pub mod Nodes
 pub mod Owed
 pub mod Packed
 pub mod Parts
@@ -25,3 +26,4 @@ pub mod Serials
 pub mod Sound
 pub mod Through
 pub mod Words
+pub mod Written

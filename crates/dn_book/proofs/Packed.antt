@@ -19,15 +19,14 @@ use Rattle.dn_kind.specs.Units.{KeepsUnitShape, fits_shape, unit_shape}
 use Rattle.dn_kind.proofs.Held.{kind_lawful, held_past}
 use Rattle.dn_kind.proofs.Allowed.{gate_of_zeros}
 use Rattle.dn_tables.specs.declared.table.NodeTable.{NodeTable}
-use Rattle.dn_tables.specs.Set.{FitsNet, IsEmpty, fits_by, is_wide, packed_by, packed_for, packed_in, put_over, record_kept, width_by, width_in, width_of_table, with_slot, with_table, with_words, words_of, words_of_table}
+use Rattle.dn_tables.specs.Set.{FitsNet, IsEmpty, fits_by, is_wide, put_over, record_kept, width_by, width_of_table, words_of, words_of_table}
 use Rattle.dn_tables.proofs.Kept.{table_of_unit}
 use Rattle.dn_tables.proofs.Fresh.{kind_there}
-use Rattle.dn_book.specs.Sets.{after_clears, after_puts, is_at}
+use Rattle.dn_book.specs.Sets.{is_at}
 use Rattle.dn_book.specs.Tables.{packed_node, packed_nodes, packed_slot, packed_slots, packed_tables, packed_unit}
 use Rattle.dn_book.specs.Writes.{Put}
 use Rattle.dn_book.proofs.Changes.{is_at_parts, is_at_self}
-use Rattle.dn_book.proofs.Facts.{fits_net_kept}
-use Rattle.dn_book.proofs.Frames.{fit_with_slot}
+use Rattle.dn_book.proofs.Nodes.{with_node}
 use Rattle.dn_tables.proofs.Units.{unit_fits}
 
 -- THE SLOTS OF ONE UNIT
@@ -76,7 +75,7 @@ slots_same kind u records records' first (suc count) e =
     ∙ ap (λ (l : List ℕ). packed_slot kind u (records first) ++ l) (slots_same kind u records records' (suc first) count (λ q l. e q (omega arith)))
 
 -- a slot that is changed
-pub slot_changed : (kind : Meaning) → IsLawful kind → (u : UnitPart) (records records' : ℕ → Option Record) → ArePackable kind u records → (first count i : ℕ) (vs : List ℕ) → i < count → length vs ≡ kind.words → vs ≡ packed_slot kind u (records' (first + i)) → ((q : ℕ) → (q ≡ first + i → ⊥) → records' q ≡ records q) → put_over (packed_slots kind u records first count) (i * kind.words) vs ≡ packed_slots kind u records' first count
+slot_changed : (kind : Meaning) → IsLawful kind → (u : UnitPart) (records records' : ℕ → Option Record) → ArePackable kind u records → (first count i : ℕ) (vs : List ℕ) → i < count → length vs ≡ kind.words → vs ≡ packed_slot kind u (records' (first + i)) → ((q : ℕ) → (q ≡ first + i → ⊥) → records' q ≡ records q) → put_over (packed_slots kind u records first count) (i * kind.words) vs ≡ packed_slots kind u records' first count
 slot_changed kind law u records records' p first zero i vs l n e same = absurd (omega arith)
 slot_changed kind law u records records' p first (suc count) zero vs l n e same =
     let z : 0 * kind.words ≡ 0 = omega arith in
@@ -120,7 +119,7 @@ node_words kinds h first (suc node) (n ∷ net) (s ∷ set) t e at =
     let rest : words_of set ≡ packed_nodes kinds h (suc first) net = cc in
     node_words kinds h (suc first) node net set t rest at ∙ ap (λ m. packed_node kinds (unit_at net node) (h m)) f
 
-pub nodes_same : (kinds : List Meaning) (h h' : Held) (first : ℕ) (net : List NodeDecl) → ((m q : ℕ) → first ≤ m → h' m q ≡ h m q) → packed_nodes kinds h' first net ≡ packed_nodes kinds h first net
+nodes_same : (kinds : List Meaning) (h h' : Held) (first : ℕ) (net : List NodeDecl) → ((m q : ℕ) → first ≤ m → h' m q ≡ h m q) → packed_nodes kinds h' first net ≡ packed_nodes kinds h first net
 nodes_same kinds h h' first [] e = refl
 nodes_same kinds h h' first (n ∷ net) e =
     let row : ◌≡◌ {A = ℕ → Option Record} (h' first) (h first) = (λ i q. e first q (omega arith) i) in
@@ -128,22 +127,17 @@ nodes_same kinds h h' first (n ∷ net) e =
     ∙ ap (λ (l : List (List ℕ)). packed_node kinds n.unit (h first) ∷ l) (nodes_same kinds h h' (suc first) net (λ m q l. e m q (omega arith)))
 
 -- one node is changed
-node_changed : (kinds : List Meaning) (h h' : Held) (first node : ℕ) (net : List NodeDecl) (set : List NodeTable) (t : NodeTable) (f : NodeTable → NodeTable) → words_of set ≡ packed_nodes kinds h first net → slice_get set node ≡ Some t → (f t).words ≡ packed_node kinds (unit_at net node) (h' (first + node)) → ((m q : ℕ) → (m ≡ first + node → ⊥) → h' m q ≡ h m q) → words_of (with_table set node f) ≡ packed_nodes kinds h' first net
-node_changed kinds h h' first node net [] t f e at w same = cc
-node_changed kinds h h' first node [] (s ∷ set) t f e at w same = cc
-node_changed kinds h h' first zero (n ∷ net) (s ∷ set) t f e at w same =
+node_changed : (kinds : List Meaning) (h h' : Held) (first node : ℕ) (net : List NodeDecl) (change : List ℕ → List ℕ) → change (packed_node kinds (unit_at net node) (h (first + node))) ≡ packed_node kinds (unit_at net node) (h' (first + node)) → ((m q : ℕ) → (m ≡ first + node → ⊥) → h' m q ≡ h m q) → with_node (packed_nodes kinds h first net) node change ≡ packed_nodes kinds h' first net
+node_changed kinds h h' first node [] change is same = refl
+node_changed kinds h h' first zero (n ∷ net) change is same =
     let z : first + zero ≡ first = omega arith in
-    let rest : words_of set ≡ packed_nodes kinds h (suc first) net = cc in
-    ap (λ (x : NodeTable). (f x).words ∷ words_of set) (same_Some s t at)
-    ∙ ap (λ (l : List ℕ). l ∷ words_of set) (w ∙ ap (λ m. packed_node kinds n.unit (h' m)) z)
-    ∙ ap (λ (l : List (List ℕ)). packed_node kinds n.unit (h' first) ∷ l) (rest ∙ sym (nodes_same kinds h h' (suc first) net (λ m q l. same m q (λ g. absurd (omega arith)))))
-node_changed kinds h h' first (suc node) (n ∷ net) (s ∷ set) t f e at w same =
+    ap (λ (x : List ℕ). x ∷ packed_nodes kinds h (suc first) net) (subst (λ m. change (packed_node kinds n.unit (h m)) ≡ packed_node kinds n.unit (h' m)) z is)
+    ∙ ap (λ (l : List (List ℕ)). packed_node kinds n.unit (h' first) ∷ l) (sym (nodes_same kinds h h' (suc first) net (λ m q l. same m q (λ g. absurd (omega arith)))))
+node_changed kinds h h' first (suc node) (n ∷ net) change is same =
     let g : first + suc node ≡ suc first + node = omega arith in
-    let head : s.words ≡ packed_node kinds n.unit (h first) = cc in
-    let rest : words_of set ≡ packed_nodes kinds h (suc first) net = cc in
     let row : ◌≡◌ {A = ℕ → Option Record} (h' first) (h first) = (λ i q. same first q (λ k. absurd (omega arith)) i) in
-    ap (λ (l : List ℕ). l ∷ words_of (with_table set node f)) (head ∙ ap (λ (r : ℕ → Option Record). packed_node kinds n.unit r) (sym row))
-    ∙ ap (λ (l : List (List ℕ)). packed_node kinds n.unit (h' first) ∷ l) (node_changed kinds h h' (suc first) node net set t f rest at (w ∙ ap (λ m. packed_node kinds (unit_at net node) (h' m)) g) (λ m q k. same m q (λ j. k (j ∙ g))))
+    ap (λ (r : ℕ → Option Record). packed_node kinds n.unit r ∷ with_node (packed_nodes kinds h (suc first) net) node change) (sym row)
+    ∙ ap (λ (l : List (List ℕ)). packed_node kinds n.unit (h' first) ∷ l) (node_changed kinds h h' (suc first) node net change (subst (λ m. change (packed_node kinds (unit_at net node) (h m)) ≡ packed_node kinds (unit_at net node) (h' m)) g is) (λ m q k. same m q (λ j. k (j ∙ g))))
 
 -- the words of a node that is there
 pub words_there : (kinds : List Meaning) (h : Held) (first node : ℕ) (net : List NodeDecl) (u : UnitPart) → unit_at net node ≡ Some u → slice_get (packed_nodes kinds h first net) node ≡ Some (packed_node kinds (Some u) (h (first + node)))
@@ -350,28 +344,22 @@ empty_there net kinds k h set s node slot u e l none =
     ∙ sym (ap (λ o. replicate (width_of_table o) 0) there.1)
 
 -- one slot gets the words of another record, or of none
-slot_holds : (net : List NodeDecl) (kinds : List Meaning) → AreKindsOf net kinds → (h h' : Held) (set : List NodeTable) → Holds net kinds h set → (node slot : ℕ) (u : UnitPart) (kind : IsKind net kinds u) → unit_at net node ≡ Some u → slot < u.slots → (vs : List ℕ) → vs ≡ packed_slot kind.kind u (h' node slot) → length vs ≡ kind.kind.words → AreHeld net h' → ((m q : ℕ) → (m ≡ node → q ≡ slot → ⊥) → h' m q ≡ h m q) → Holds net kinds h' (with_slot set node slot vs)
-slot_holds net kinds k h h' set s node slot u kind e l vs is wide held' same =
-    let there = table_of_unit set node u (unit_fits net kinds set s.fits node ∙ e) in
-    let t : NodeTable = there.0 in
-    let w : t.width ≡ kind.kind.words = width_is net kinds set s.fits node u kind t there.1 there.2 in
+pub slot_packed : (net : List NodeDecl) (kinds : List Meaning) (h h' : Held) → AreHeld net h → (node slot : ℕ) (u : UnitPart) (kind : IsKind net kinds u) → unit_at net node ≡ Some u → slot < u.slots → (vs : List ℕ) → vs ≡ packed_slot kind.kind u (h' node slot) → length vs ≡ kind.kind.words → ((m q : ℕ) → (m ≡ node → q ≡ slot → ⊥) → h' m q ≡ h m q) → (change : List ℕ → List ℕ) → change (packed_slots kind.kind u (h node) 0 u.slots) ≡ put_over (packed_slots kind.kind u (h node) 0 u.slots) (slot * kind.kind.words) vs → with_node (packed_tables net kinds h) node change ≡ packed_tables net kinds h'
+slot_packed net kinds h h' held node slot u kind e l vs is wide same change made =
     let z : 0 + node ≡ node = omega arith in
     let y : 0 + slot ≡ slot = omega arith in
-    let words : t.words ≡ packed_slots kind.kind u (h node) 0 u.slots = words_are net kinds h set s node u kind t e there.1 in
-    let changed : put_over t.words (slot * t.width) vs ≡ packed_node kinds (unit_at net node) (h' (0 + node)) =
-    ap (λ n. put_over t.words (slot * n) vs) w
-    ∙ ap (λ ws. put_over ws (slot * kind.kind.words) vs) words
-    ∙ slot_changed kind.kind kind.law u (h node) (h' node) (all_packable net kinds h s.held node u kind e) 0 u.slots slot vs l wide (is ∙ ap (λ n. packed_slot kind.kind u (h' node n)) (sym y)) (λ q ne. same node q (λ a b. ne (b ∙ sym y)))
+    node_changed kinds h h' 0 node net change
+    (ap (λ n. change (packed_node kinds (unit_at net node) (h n))) z
+    ∙ ap (λ o. change (packed_node kinds o (h node))) e
+    ∙ ap change (unit_words net kinds h u kind (h node))
+    ∙ made
+    ∙ slot_changed kind.kind kind.law u (h node) (h' node) (all_packable net kinds h held node u kind e) 0 u.slots slot vs l wide (is ∙ ap (λ n. packed_slot kind.kind u (h' node n)) (sym y)) (λ q ne. same node q (λ a b. ne (b ∙ sym y)))
     ∙ sym (unit_words net kinds h u kind (h' node))
     ∙ ap (λ o. packed_node kinds o (h' node)) (sym e)
-    ∙ ap (λ n. packed_node kinds (unit_at net node) (h' n)) (sym z) in
-    record {
-      fits = fits_net_kept net kinds set (with_slot set node slot vs) (fit_with_slot set node slot vs) s.fits;
-      words = node_changed kinds h h' 0 node net set t (λ t. with_words t (put_over t.words (slot * t.width) vs)) s.words there.1 changed (λ m q ne. same m q (λ a b. ne (a ∙ sym z)));
-      held = held';
-    }
+    ∙ ap (λ n. packed_node kinds (unit_at net node) (h' n)) (sym z))
+    (λ m q ne. same m q (λ a b. ne (a ∙ sym z)))
 
-other_slot : {X : Type 0} (m q : ℕ) (s : Put) (x y : X) → (m ≡ s.unit → q ≡ s.slot → ⊥) → (if is_at m q s then x else y) ≡ y
+pub other_slot : {X : Type 0} (m q : ℕ) (s : Put) (x y : X) → (m ≡ s.unit → q ≡ s.slot → ⊥) → (if is_at m q s then x else y) ≡ y
 other_slot {X} m q s x y ne = by (is_at m q s) refl
   where
     by : (b : Bool) → is_at m q s ≡ b → (if b then x else y) ≡ y
@@ -382,7 +370,7 @@ pub this_slot : {X : Type 0} (s : Put) (x y : X) → (if is_at s.unit s.slot s t
 this_slot {X} s x y = ap (λ b. if b then x else y) (is_at_self s.unit s.slot s refl refl)
 
 -- records with one more that its unit can hold
-held_with : (net : List NodeDecl) (h : Held) (s : Put) → AreHeld net h → IsHeld net s.unit s.slot s.holds → AreHeld net (with_record h s)
+pub held_with : (net : List NodeDecl) (h : Held) (s : Put) → AreHeld net h → IsHeld net s.unit s.slot s.holds → AreHeld net (with_record h s)
 held_with net h s held here m q r e = by (is_at m q s) refl e
   where
     by : (b : Bool) → is_at m q s ≡ b → (if b then Some s.holds else h m q) ≡ Some r → IsHeld net m q r
@@ -392,38 +380,12 @@ held_with net h s held here m q r e = by (is_at m q s) refl e
         subst (λ n. IsHeld net n q r) (sym p.0) (subst (λ n. IsHeld net s.unit n r) (sym p.1) (subst (IsHeld net s.unit s.slot) same here))
     by false f g = held m q r g
 
-held_without : (net : List NodeDecl) (h : Held) (s : Put) → AreHeld net h → AreHeld net (without_record h s)
+pub held_without : (net : List NodeDecl) (h : Held) (s : Put) → AreHeld net h → AreHeld net (without_record h s)
 held_without net h s held m q r e = by (is_at m q s) e
   where
     by : (b : Bool) → (if b then None else h m q) ≡ Some r → IsHeld net m q r
     by true g = cc
     by false g = held m q r g
-
--- a record is put
-pub put_holds : (net : List NodeDecl) (kinds : List Meaning) → AreKindsOf net kinds → (h : Held) (set : List NodeTable) (s : Put) → Holds net kinds h set → IsHeld net s.unit s.slot s.holds → Holds net kinds (with_record h s) (with_slot set s.unit s.slot (packed_in kinds set s.unit s.holds))
-put_holds net kinds k h set s x here =
-    let u = here.unit in
-    let kind = kind_of net kinds k s.unit u.0 u.1 in
-    let packed : packed_in kinds set s.unit s.holds ≡ kind.kind.pack (unit_shape u.0) s.holds = ap (λ o. packed_for kinds o s.holds) (unit_fits net kinds set x.fits s.unit ∙ u.1) ∙ ap (λ o. packed_by o u.0 s.holds) kind.at in
-    let law = kind.law in
-    let may : IsPackable kind.kind (unit_shape u.0) s.holds = packable_held net kinds s.unit s.slot u.0 kind s.holds u.1 here in
-    slot_holds net kinds k h (with_record h s) set x s.unit s.slot u.0 kind u.1 u.2 (packed_in kinds set s.unit s.holds)
-    (packed ∙ ap (packed_slot kind.kind u.0) (sym (this_slot s (Some s.holds) (h s.unit s.slot))))
-    (ap length packed ∙ law.width (unit_shape u.0) s.holds may)
-    (held_with net h s x.held here)
-    (λ m q ne. other_slot m q s (Some s.holds) (h m q) ne)
-
--- a slot is cleared
-pub clear_holds : (net : List NodeDecl) (kinds : List Meaning) → AreKindsOf net kinds → (h : Held) (set : List NodeTable) (s : Put) → Holds net kinds h set → (u : UnitPart) → unit_at net s.unit ≡ Some u → s.slot < u.slots → Holds net kinds (without_record h s) (with_slot set s.unit s.slot (replicate (width_in set s.unit) 0))
-clear_holds net kinds k h set s x u e l =
-    let kind = kind_of net kinds k s.unit u e in
-    let there = table_of_unit set s.unit u (unit_fits net kinds set x.fits s.unit ∙ e) in
-    let w : width_in set s.unit ≡ kind.kind.words = ap width_of_table there.1 ∙ width_is net kinds set x.fits s.unit u kind there.0 there.1 there.2 in
-    slot_holds net kinds k h (without_record h s) set x s.unit s.slot u kind e l (replicate (width_in set s.unit) 0)
-    (ap (λ n. replicate n 0) w ∙ ap (packed_slot kind.kind u) (sym (this_slot s None (h s.unit s.slot))))
-    (length-replicate (width_in set s.unit) 0 ∙ w)
-    (held_without net h s x.held)
-    (λ m q ne. other_slot m q s None (h m q) ne)
 
 -- ROWS OF PUTS AND CLEARS
 
@@ -434,19 +396,6 @@ held_after h (s ∷ ss) = held_after (with_record h s) ss
 abbrev pub held_cleared : Held → List Put → Held
 held_cleared h [] = h
 held_cleared h (s ∷ ss) = held_cleared (without_record h s) ss
-
--- records are put, one after the other
-pub puts_hold : (net : List NodeDecl) (kinds : List Meaning) → AreKindsOf net kinds → (h : Held) (set : List NodeTable) (ss : List Put) → ((s : Put) → Member s ss → IsHeld net s.unit s.slot s.holds) → Holds net kinds h set → Holds net kinds (held_after h ss) (after_puts kinds set ss)
-puts_hold net kinds k h set [] can x = x
-puts_hold net kinds k h set (s ∷ ss) can x =
-    puts_hold net kinds k (with_record h s) (with_slot set s.unit s.slot (packed_in kinds set s.unit s.holds)) ss (λ t i. can t (inr i)) (put_holds net kinds k h set s x (can s (inl refl)))
-
--- slots are cleared, one after the other
-pub clears_hold : (net : List NodeDecl) (kinds : List Meaning) → AreKindsOf net kinds → (h : Held) (set : List NodeTable) (ss : List Put) → ((s : Put) → Member s ss → (u : UnitPart) × (unit_at net s.unit ≡ Some u) × (s.slot < u.slots)) → Holds net kinds h set → Holds net kinds (held_cleared h ss) (after_clears set ss)
-clears_hold net kinds k h set [] can x = x
-clears_hold net kinds k h set (s ∷ ss) can x =
-    let u = can s (inl refl) in
-    clears_hold net kinds k (without_record h s) (with_slot set s.unit s.slot (replicate (width_in set s.unit) 0)) ss (λ t i. can t (inr i)) (clear_holds net kinds k h set s x u.0 u.1 u.2)
 
 -- what stands in a slot after puts: a record of one of them where there is one
 pub after_there : (h X : Held) (ss : List Put) (n q : ℕ) → ((s : Put) → Member s ss → X s.unit s.slot ≡ Some s.holds) → (s : Put) → Member s ss → n ≡ s.unit → q ≡ s.slot → held_after h ss n q ≡ X n q

@@ -6,11 +6,12 @@ use Rattle.dn_base.specs.declared.device.TableEvent.{TableEvent}
 use Rattle.dn_base.specs.declared.device.UnitWords.{UnitWords}
 use Rattle.dn_kind.specs.Kind.{Meaning}
 use Rattle.dn_tables.specs.declared.table.NodeTable.{NodeTable}
-use Rattle.dn_tables.specs.Set.{KeepsFit, packed_in, with_slot, width_in}
+use Rattle.dn_tables.specs.Set.{KeepsFit, packed_in, width_in, with_slot, words_of}
 use Rattle.dn_tables.specs.Writes.{AreMade, clear_writes, put_writes, write_events}
 use Rattle.dn_book.specs.Sets.{AreCleared, ArePut, after_clears, after_puts, clear_log, is_used_by, put_log}
-use Rattle.dn_book.specs.Writes.{AreAdded, Put}
-use Rattle.dn_book.proofs.Added.{added_made, added_none, added_one, added_passed, added_stop, added_then}
+use Rattle.dn_book.specs.Events.{AreWritten}
+use Rattle.dn_book.specs.Writes.{Put}
+use Rattle.dn_book.proofs.Written.{written_made, written_none, written_one, written_passed, written_stop, written_then}
 use Rattle.dn_book.proofs.Facts.{fit_none, fit_then}
 use Rattle.dn_book.proofs.Frames.{SameFrame, clear_log_in_frame, clears_append, frame_clears, frame_puts, put_log_in_frame, puts_append, used_in_frame}
 
@@ -26,7 +27,7 @@ clear_events_in set s = write_events s.unit (clear_writes set s.unit s.slot)
 pub put_none : (kinds : List Meaning) (log log' : Option (List TableEvent)) (set set' : List NodeTable) → log' ≡ log → set' ≡ set → ArePut kinds [] false log log' set set'
 put_none kinds log log' set set' l e = record {
   done = λ f. e;
-  added = added_none log log' l;
+  written = written_none log log' (words_of set) (words_of set') l (ap words_of e);
   fits = subst (KeepsFit set) (sym e) (fit_none set);
 }
 
@@ -34,7 +35,7 @@ put_none kinds log log' set set' l e = record {
 pub put_one : (kinds : List Meaning) (s : Put) (failed failed' : Bool) (log log' : Option (List TableEvent)) (told told' : Option (List UnitWords)) (set set' : List NodeTable) → is_used_by 0 set s ≡ true → failed' ≡ failed → (failed ≡ false → set' ≡ with_slot set s.unit s.slot (packed_in kinds set s.unit s.holds)) → KeepsFit set set' → AreMade s.unit (put_writes kinds set s.unit s.slot s.holds) failed log log' told told' set set' → ArePut kinds (s ∷ []) failed' log log' set set'
 put_one kinds s failed failed' log log' told told' set set' e same done fits made = record {
   done = λ f. done (sym same ∙ f) ∙ sym (ap (λ b. after_puts kinds set (if b then s ∷ [] else [])) e);
-  added = added_one (put_events_in kinds set) (is_used_by 0 set) s failed' log log' e (added_made s.unit (put_writes kinds set s.unit s.slot s.holds) failed failed' log log' told told' set set' same made);
+  written = written_one (put_events_in kinds set) (is_used_by 0 set) s failed' log log' (words_of set) (words_of set') e (written_made s.unit (put_writes kinds set s.unit s.slot s.holds) failed failed' log log' told told' set set' same made);
   fits = fits;
 }
 
@@ -42,7 +43,7 @@ put_one kinds s failed failed' log log' told told' set set' e same done fits mad
 pub put_passed : (kinds : List Meaning) (s : Put) (log log' : Option (List TableEvent)) (set set' : List NodeTable) → is_used_by 0 set s ≡ false → log' ≡ log → set' ≡ set → ArePut kinds (s ∷ []) false log log' set set'
 put_passed kinds s log log' set set' e l same = record {
   done = λ f. same ∙ sym (ap (λ b. after_puts kinds set (if b then s ∷ [] else [])) e);
-  added = added_passed (put_events_in kinds set) (is_used_by 0 set) s log log' e l;
+  written = written_passed (put_events_in kinds set) (is_used_by 0 set) s log log' (words_of set) (words_of set') e l (ap words_of same);
   fits = (put_none kinds log log' set set' l same).fits;
 }
 
@@ -58,7 +59,7 @@ put_then kinds xs ys failed a b c s t u x y =
     let whole : put_log kinds s (filter p (xs ++ ys)) ≡ put_log kinds s (filter p xs) ++ put_log kinds s (filter p ys) = ap (put_log kinds s) split ∙ flat_map-append (put_events_in kinds s) (filter p xs) (filter p ys) in
     record {
       done = λ f. y.done f ∙ ap (after_puts kinds t) later ∙ ap (λ set. after_puts kinds set (filter p ys)) made ∙ sym (puts_append kinds s (filter p xs) (filter p ys)) ∙ ap (after_puts kinds s) (sym split);
-      added = subst (λ es. AreAdded es failed a c) (sym whole) (added_then (put_log kinds s (filter p xs)) (put_log kinds s (filter p ys)) failed a b c x.added (subst (λ es. AreAdded es failed b c) logs y.added));
+      written = subst (λ es. AreWritten es failed a c (words_of s) (words_of u)) (sym whole) (written_then (put_log kinds s (filter p xs)) (put_log kinds s (filter p ys)) failed a b c (words_of s) (words_of t) (words_of u) x.written (subst (λ es. AreWritten es failed b c (words_of t) (words_of u)) logs y.written));
       fits = fit_then s t u x.fits y.fits;
     }
 
@@ -70,7 +71,7 @@ put_stop kinds xs ys failed failed' a b s t e f x =
     let whole : put_log kinds s (filter p (xs ++ ys)) ≡ put_log kinds s (filter p xs) ++ put_log kinds s (filter p ys) = ap (put_log kinds s) split ∙ flat_map-append (put_events_in kinds s) (filter p xs) (filter p ys) in
     record {
       done = λ g. let c : true ≡ false = sym e ∙ g in cc;
-      added = subst (λ es. AreAdded es failed' a b) (sym whole) (added_stop (put_log kinds s (filter p xs)) (put_log kinds s (filter p ys)) failed failed' a b e f x.added);
+      written = subst (λ es. AreWritten es failed' a b (words_of s) (words_of t)) (sym whole) (written_stop (put_log kinds s (filter p xs)) (put_log kinds s (filter p ys)) failed failed' a b (words_of s) (words_of t) e f x.written);
       fits = x.fits;
     }
 
@@ -95,7 +96,7 @@ put_end kinds xs whole a b s t e x = subst (λ l. ArePut kinds l false a b s t) 
 pub clear_none : (log log' : Option (List TableEvent)) (set set' : List NodeTable) → log' ≡ log → set' ≡ set → AreCleared [] false log log' set set'
 clear_none log log' set set' l e = record {
   done = λ f. e;
-  added = added_none log log' l;
+  written = written_none log log' (words_of set) (words_of set') l (ap words_of e);
   fits = (put_none [] log log' set set' l e).fits;
 }
 
@@ -103,7 +104,7 @@ clear_none log log' set set' l e = record {
 pub clear_one : (s : Put) (failed failed' : Bool) (log log' : Option (List TableEvent)) (told told' : Option (List UnitWords)) (set set' : List NodeTable) → is_used_by 1 set s ≡ true → failed' ≡ failed → (failed ≡ false → set' ≡ with_slot set s.unit s.slot (replicate (width_in set s.unit) 0)) → KeepsFit set set' → AreMade s.unit (clear_writes set s.unit s.slot) failed log log' told told' set set' → AreCleared (s ∷ []) failed' log log' set set'
 clear_one s failed failed' log log' told told' set set' e same done fits made = record {
   done = λ f. done (sym same ∙ f) ∙ sym (ap (λ b. after_clears set (if b then s ∷ [] else [])) e);
-  added = added_one (clear_events_in set) (is_used_by 1 set) s failed' log log' e (added_made s.unit (clear_writes set s.unit s.slot) failed failed' log log' told told' set set' same made);
+  written = written_one (clear_events_in set) (is_used_by 1 set) s failed' log log' (words_of set) (words_of set') e (written_made s.unit (clear_writes set s.unit s.slot) failed failed' log log' told told' set set' same made);
   fits = fits;
 }
 
@@ -111,7 +112,7 @@ clear_one s failed failed' log log' told told' set set' e same done fits made = 
 pub clear_passed : (s : Put) (log log' : Option (List TableEvent)) (set set' : List NodeTable) → is_used_by 1 set s ≡ false → log' ≡ log → set' ≡ set → AreCleared (s ∷ []) false log log' set set'
 clear_passed s log log' set set' e l same = record {
   done = λ f. same ∙ sym (ap (λ b. after_clears set (if b then s ∷ [] else [])) e);
-  added = added_passed (clear_events_in set) (is_used_by 1 set) s log log' e l;
+  written = written_passed (clear_events_in set) (is_used_by 1 set) s log log' (words_of set) (words_of set') e l (ap words_of same);
   fits = (put_none [] log log' set set' l same).fits;
 }
 
@@ -127,7 +128,7 @@ clear_then xs ys failed a b c s t u x y =
     let whole : clear_log s (filter p (xs ++ ys)) ≡ clear_log s (filter p xs) ++ clear_log s (filter p ys) = ap (clear_log s) split ∙ flat_map-append (clear_events_in s) (filter p xs) (filter p ys) in
     record {
       done = λ f. y.done f ∙ ap (after_clears t) later ∙ ap (λ set. after_clears set (filter p ys)) made ∙ sym (clears_append s (filter p xs) (filter p ys)) ∙ ap (after_clears s) (sym split);
-      added = subst (λ es. AreAdded es failed a c) (sym whole) (added_then (clear_log s (filter p xs)) (clear_log s (filter p ys)) failed a b c x.added (subst (λ es. AreAdded es failed b c) logs y.added));
+      written = subst (λ es. AreWritten es failed a c (words_of s) (words_of u)) (sym whole) (written_then (clear_log s (filter p xs)) (clear_log s (filter p ys)) failed a b c (words_of s) (words_of t) (words_of u) x.written (subst (λ es. AreWritten es failed b c (words_of t) (words_of u)) logs y.written));
       fits = fit_then s t u x.fits y.fits;
     }
 
@@ -139,7 +140,7 @@ clear_stop xs ys failed failed' a b s t e f x =
     let whole : clear_log s (filter p (xs ++ ys)) ≡ clear_log s (filter p xs) ++ clear_log s (filter p ys) = ap (clear_log s) split ∙ flat_map-append (clear_events_in s) (filter p xs) (filter p ys) in
     record {
       done = λ g. let c : true ≡ false = sym e ∙ g in cc;
-      added = subst (λ es. AreAdded es failed' a b) (sym whole) (added_stop (clear_log s (filter p xs)) (clear_log s (filter p ys)) failed failed' a b e f x.added);
+      written = subst (λ es. AreWritten es failed' a b (words_of s) (words_of t)) (sym whole) (written_stop (clear_log s (filter p xs)) (clear_log s (filter p ys)) failed failed' a b (words_of s) (words_of t) e f x.written);
       fits = x.fits;
     }
 

@@ -1,14 +1,15 @@
 -- From the parts of a revoke to what its contract says.
-use Rattle.std.proofs.Common.{◌≡◌, ℕ, ◌*◌, ◌<◌, inl, inr, true, ◌==◌, List, [], ◌∷◌, ◌++◌, filter, slice_get, Some, IsTrue, refl, sym, ap, ◌∙◌, subst}
+use Rattle.std.proofs.Common.{◌≡◌, ℕ, ◌*◌, ◌<◌, inl, inr, Bool, true, false, ◌==◌, List, [], ◌∷◌, ◌++◌, filter, slice_get, Option, Some, IsTrue, refl, sym, ap, ◌∙◌, subst}
 use Rattle.std.specs.List.{All, flat_map}
 use Rattle.dn_base.proofs.Orders.{lt-ltb}
+use Rattle.dn_base.specs.declared.device.TableEvent.{TableEvent}
 use Rattle.dn_net.specs.declared.node.NodeDecl.{NodeDecl}
 use Rattle.dn_net.specs.declared.node.Unit.{Unit as UnitPart}
 use Rattle.dn_net.specs.Chain.{Member}
 use Rattle.dn_net.specs.Decode.{unit_at}
 use Rattle.dn_kind.specs.Kind.{Meaning, IsLawful}
 use Rattle.dn_kind.specs.Rights.{both_rights}
-use Rattle.dn_kind.specs.Tables.{Held}
+use Rattle.dn_kind.specs.Tables.{record_held}
 use Rattle.dn_kind.specs.Units.{IsLegalWith}
 use Rattle.dn_tables.specs.declared.placement.Hop.{Hop}
 use Rattle.dn_tables.specs.declared.table.NodeTable.{NodeTable}
@@ -17,18 +18,24 @@ use Rattle.dn_tables.specs.Set.{FitsNet, has_slot, has_slot_by, use_in, width_in
 use Rattle.dn_tables.specs.Writes.{clear_writes, clears_from, write_events}
 use Rattle.dn_placement.specs.Records.{hop_rights}
 use Rattle.dn_book.specs.declared.grant.Grant.{Grant}
+use Rattle.dn_book.specs.Between.{IsCaught}
 use Rattle.dn_book.specs.Book.{IsSound, records_of, uses_slot, without_id}
+use Rattle.dn_book.specs.Commands.{LeadsOver}
+use Rattle.dn_book.specs.Events.{AreWritten}
 use Rattle.dn_book.specs.Sets.{AreFit, AreHopsChanged, after_clears, changed_by, clear_log, is_used_by, one_use_less}
-use Rattle.dn_book.specs.Tables.{IsKept, packed_tables, use_of}
-use Rattle.dn_book.specs.Writes.{Put, clear_events, clear_events_by, clears_of, grant_slots, hop_slots, is_empty, joined_slots, kind_by}
+use Rattle.dn_book.specs.Tables.{IsKept, tables_of, use_of}
+use Rattle.dn_book.specs.Writes.{Put, clear_events, clear_events_by, clears_of, grant_slots, hop_slots, is_empty, joined_slots, kind_by, revoke_events}
+use Rattle.dn_book.proofs.Caught.{caught, other_or_one}
 use Rattle.dn_book.proofs.Changes.{has_slot_kept}
+use Rattle.dn_book.proofs.Commands.{revoke_leads_over}
 use Rattle.dn_book.proofs.Commit.{width_at}
 use Rattle.dn_book.proofs.Facts.{fit_then, fits_net_kept}
 use Rattle.dn_book.proofs.Frames.{SameFrame, frame_clears}
 use Rattle.dn_book.proofs.Given.{GrantGives, by_uses, gives_taken}
-use Rattle.dn_book.proofs.Live.{book_held, by_place, clears_there, gives_held, hop_put_gives, picked_empty, put_gives, records_revoked, some_use, used_once, uses_revoked}
-use Rattle.dn_book.proofs.Packed.{AreKindsOf, Holds, IsKind, clears_hold, held_cleared, kind_of, set_holds}
+use Rattle.dn_book.proofs.Live.{book_held, by_place, clears_there, gives_held, hop_put_gives, picked_empty, put_gives, some_use, used_once, uses_revoked}
+use Rattle.dn_book.proofs.Packed.{AreKindsOf, Holds, IsKind, kind_of, set_holds}
 use Rattle.dn_book.proofs.Sound.{placed_fit, revoked_sound}
+use Rattle.dn_book.proofs.Written.{written_words}
 use Rattle.dn_tables.proofs.Units.{unit_fits}
 
 -- what is made alike of each item of a list
@@ -103,8 +110,23 @@ module _ (net : List NodeDecl) (kinds : List Meaning) (book : List Grant) (g : G
   after : IsSound net (without_id g.id book)
   after = revoked_sound net g.id book c.kept.sound
 
-  pub revoked : (set' set'' : List NodeTable) → set' ≡ after_clears set (filter (is_used_by 1 set) (joined_slots (grant_slots net g))) → AreHopsChanged net g.request.size (λ place. one_use_less) g.placement.hops set' set'' → IsKept net kinds (without_id g.id book) set''
-  revoked set' set'' made changed = record {
+  -- the events of a revoke were written into the tables of the book
+  pub going_written : (failed : Bool) (log log' : Option (List TableEvent)) (words : List (List ℕ)) → AreWritten (clear_log set (filter (is_used_by 1 set) (joined_slots (grant_slots net g)))) failed log log' (words_of set) words → AreWritten (revoke_events net kinds book g) failed log log' (tables_of net kinds book) words
+  going_written failed log log' words w =
+      subst (λ es. AreWritten es failed log log' (tables_of net kinds book) words) going_log
+      (subst (λ ws. AreWritten (clear_log set (filter (is_used_by 1 set) (joined_slots (grant_slots net g)))) failed log log' ws words) c.kept.words w)
+
+  leads : LeadsOver net kinds book (without_id g.id book) false true (without_id g.id book) book (revoke_events net kinds book g)
+  leads = revoke_leads_over net kinds book g false c.legal.legal c.legal.shaped c.lawful c.kept.sound c.live
+
+  -- at a stop each name resolves as before or as after
+  pub going_caught : (failed : Bool) (log log' : Option (List TableEvent)) (words : List (List ℕ)) → AreWritten (revoke_events net kinds book g) failed log log' (tables_of net kinds book) words → IsCaught net kinds words book (without_id g.id book)
+  going_caught failed log log' words w =
+      other_or_one net (record_held net kinds words) (records_of net (without_id g.id book)) (records_of net book)
+      (caught net kinds book (without_id g.id book) false true (without_id g.id book) book (revoke_events net kinds book g) c.legal.legal leads failed log log' words w)
+
+  pub revoked : (log log' : Option (List TableEvent)) (set' set'' : List NodeTable) → set' ≡ after_clears set (filter (is_used_by 1 set) (joined_slots (grant_slots net g))) → AreWritten (revoke_events net kinds book g) false log log' (tables_of net kinds book) (words_of set') → AreHopsChanged net g.request.size (λ place. one_use_less) g.placement.hops set' set'' → IsKept net kinds (without_id g.id book) set''
+  revoked log log' set' set'' made written changed = record {
     sound = after;
     fits = new.fits;
     words = new.words;
@@ -112,22 +134,13 @@ module _ (net : List NodeDecl) (kinds : List Meaning) (book : List Grant) (g : G
     uses = uses;
   }
     where
-      is : set' ≡ after_clears set (clears_of net book g)
-      is = made ∙ ap (after_clears set) going_clears
-
-      then' : Holds net kinds (held_cleared (records_of net book) (clears_of net book g)) (after_clears set (clears_of net book g))
-      then' = clears_hold net kinds k (records_of net book) set (clears_of net book g) (clears_there net c.legal.legal book g c.kept.sound c.live) holds
-
       frame : SameFrame set set'
-      frame = subst (SameFrame set) (sym is) (frame_clears set (clears_of net book g))
-
-      same : ◌≡◌ {A = Held} (held_cleared (records_of net book) (clears_of net book g)) (records_of net (without_id g.id book))
-      same = λ i n q. records_revoked net c.legal.legal book g c.kept.sound c.live n q i
+      frame = subst (SameFrame set) (sym made) (frame_clears set (filter (is_used_by 1 set) (joined_slots (grant_slots net g))))
 
       new : Holds net kinds (records_of net (without_id g.id book)) set''
       new = record {
         fits = fits_net_kept net kinds set set'' (fit_then set set' set'' frame.fits changed.fits) c.kept.fits;
-        words = changed.same_words ∙ ap words_of is ∙ then'.words ∙ ap (packed_tables net kinds) same;
+        words = changed.same_words ∙ written_words (revoke_events net kinds book g) log log' (tables_of net kinds book) (words_of set') written ∙ leads.leaves;
         held = book_held net c.legal.legal (without_id g.id book) after;
       }
 

@@ -4,8 +4,6 @@ use Rattle.std.specs.List.{All}
 use Rattle.std.proofs.Math.Nat.{mul-le-mul_right}
 use Rattle.std.proofs.lemmas.List.{drop-set-lt, drop-set-add, take-set-le, length-replicate}
 use Rattle.std.proofs.lemmas.Option.{same_Some}
-use Rattle.dn_base.specs.declared.device.TableEvent.{TableEvent}
-use Rattle.dn_base.specs.declared.device.TableEvent.TheVariants.{Write}
 use Rattle.dn_net.specs.declared.node.NodeDecl.{NodeDecl}
 use Rattle.dn_net.specs.declared.node.Unit.{Unit as UnitPart}
 use Rattle.dn_net.specs.Decode.{unit_at}
@@ -14,56 +12,9 @@ use Rattle.dn_kind.specs.Tables.{Extends, Held, record_held, record_of_unit, rec
 use Rattle.dn_tables.specs.Writes.{WordWrite, clears_from, words_after, write_events, writes_from}
 use Rattle.dn_tables.proofs.Gates.{gate_while_cleared, gate_while_put, none_by_gate}
 use Rattle.dn_tables.proofs.Values.{length_after}
-use Rattle.dn_book.specs.Events.{after_events, held_at, with_word_in}
-
--- ONE NODE
-
--- tables in which the words of a node are these
-abbrev pub put_node : List (List ℕ) → ℕ → List ℕ → List (List ℕ)
-put_node [] node ws = []
-put_node (v ∷ rest) zero ws = ws ∷ rest
-put_node (v ∷ rest) (suc node) ws = v ∷ put_node rest node ws
-
-put_same : (words : List (List ℕ)) (node : ℕ) (ws : List ℕ) → slice_get words node ≡ Some ws → put_node words node ws ≡ words
-put_same [] node ws e = refl
-put_same (v ∷ rest) zero ws e = ap (λ (x : List ℕ). x ∷ rest) (sym (same_Some v ws e))
-put_same (v ∷ rest) (suc node) ws e = ap (λ (l : List (List ℕ)). v ∷ l) (put_same rest node ws e)
-
-put_twice : (words : List (List ℕ)) (node : ℕ) (a b : List ℕ) → put_node (put_node words node a) node b ≡ put_node words node b
-put_twice [] node a b = refl
-put_twice (v ∷ rest) zero a b = refl
-put_twice (v ∷ rest) (suc node) a b = ap (λ (l : List (List ℕ)). v ∷ l) (put_twice rest node a b)
-
-pub put_there : (words : List (List ℕ)) (node : ℕ) (ws old : List ℕ) → slice_get words node ≡ Some old → slice_get (put_node words node ws) node ≡ Some ws
-put_there [] node ws old e = cc
-put_there (v ∷ rest) zero ws old e = refl
-put_there (v ∷ rest) (suc node) ws old e = put_there rest node ws old e
-
-put_other : (words : List (List ℕ)) (node n : ℕ) (ws : List ℕ) → (n ≡ node → ⊥) → slice_get (put_node words node ws) n ≡ slice_get words n
-put_other [] node n ws ne = refl
-put_other (v ∷ rest) zero zero ws ne = absurd (ne refl)
-put_other (v ∷ rest) zero (suc n) ws ne = refl
-put_other (v ∷ rest) (suc node) zero ws ne = refl
-put_other (v ∷ rest) (suc node) (suc n) ws ne = put_other rest node n ws (λ e. ne (ap suc e))
-
-with_word_is : (words : List (List ℕ)) (node word value : ℕ) (ws : List ℕ) → slice_get words node ≡ Some ws → with_word_in words node word value ≡ put_node words node (slice_set ws word value)
-with_word_is [] node word value ws e = refl
-with_word_is (v ∷ rest) zero word value ws e = ap (λ (x : List ℕ). slice_set x word value ∷ rest) (same_Some v ws e)
-with_word_is (v ∷ rest) (suc node) word value ws e = ap (λ (l : List (List ℕ)). v ∷ l) (with_word_is rest node word value ws e)
-
--- events of writes to a node are writes to its words
-pub after_writes_is : (writes : List WordWrite) (words : List (List ℕ)) (node : ℕ) (ws : List ℕ) → slice_get words node ≡ Some ws → after_events (write_events node writes) words ≡ put_node words node (words_after writes ws)
-after_writes_is [] words node ws e = sym (put_same words node ws e)
-after_writes_is (w ∷ writes) words node ws e =
-    let next : List ℕ = slice_set ws w.word w.value in
-    ap (after_events (write_events node writes)) (with_word_is words node w.word w.value ws e)
-    ∙ after_writes_is writes (put_node words node next) node next (put_there words node next ws e)
-    ∙ put_twice words node next (words_after writes next)
-
-pub take_events : (k unit : ℕ) (writes : List WordWrite) → take k (write_events unit writes) ≡ write_events unit (take k writes)
-take_events zero unit writes = refl
-take_events (suc k) unit [] = refl
-take_events (suc k) unit (w ∷ writes) = ap (λ (l : List TableEvent). Write unit w.word w.value ∷ l) (take_events k unit writes)
+use Rattle.dn_book.specs.Events.{after_events, held_at}
+use Rattle.dn_book.proofs.Written.{take_events}
+use Rattle.dn_book.proofs.Nodes.{after_writes, node_other, node_there}
 
 -- OTHER SLOTS
 
@@ -156,8 +107,8 @@ module _ (net : List NodeDecl) (kinds : List Meaning) (lawful : All IsLawful kin
 
   after_here : (writes : List WordWrite) (q : ℕ) → after writes node q ≡ record_of_unit kinds (Some s.unit) (Some (words_after writes s.ws)) q
   after_here writes q =
-      ap (λ l. record_of_unit kinds (unit_at net node) (slice_get l node) q) (after_writes_is writes words node s.ws s.has)
-      ∙ ap (λ o. record_of_unit kinds (unit_at net node) o q) (put_there words node (words_after writes s.ws) s.ws s.has)
+      ap (λ l. record_of_unit kinds (unit_at net node) (slice_get l node) q) (after_writes writes words node)
+      ∙ ap (λ o. record_of_unit kinds (unit_at net node) o q) (node_there words node s.ws (words_after writes) s.has)
       ∙ ap (λ o. record_of_unit kinds o (Some (words_after writes s.ws)) q) s.is_unit
 
   -- in all other slots they are as they were
@@ -173,8 +124,8 @@ module _ (net : List NodeDecl) (kinds : List Meaning) (lawful : All IsLawful kin
           ∙ same_record kinds s.unit s.kind (words_after writes s.ws) s.ws q s.is_kind (other_writes s.kind.words slot q (λ f. ne e f) writes a s.ws)
           ∙ sym (after_here [] q))
       by (inr f) =
-          ap (λ l. record_of_unit kinds (unit_at net n) (slice_get l n) q) (after_writes_is writes words node s.ws s.has)
-          ∙ ap (λ o. record_of_unit kinds (unit_at net n) o q) (put_other words node n (words_after writes s.ws) f)
+          ap (λ l. record_of_unit kinds (unit_at net n) (slice_get l n) q) (after_writes writes words node)
+          ∙ ap (λ o. record_of_unit kinds (unit_at net n) o q) (node_other words node n (words_after writes) f)
 
   -- and where the gate word is 0 it holds none
   pub after_shut : (writes : List WordWrite) → gate_word (slot_words s.kind.words (words_after writes s.ws) slot) ≡ 0 → after writes node slot ≡ None
@@ -216,7 +167,7 @@ module _ (net : List NodeDecl) (kinds : List Meaning) (lawful : All IsLawful kin
       all = writes_from (slot * s.kind.words) vs
 
       taken : (k : ℕ) → ◌≡◌ {A = Held} (held_at net kinds words (write_events node all) k) (after (take k all))
-      taken k = ap (λ l. record_held net kinds (after_events l words)) (take_events k node all)
+      taken k = ap (λ l. record_held net kinds (after_events l words)) (sym (take_events node k all))
 
       of_slot : AreOf s.kind.words slot all
       of_slot = writes_of s.kind.words slot (slot * s.kind.words) vs (omega arith) (omega arith)
@@ -238,7 +189,7 @@ module _ (net : List NodeDecl) (kinds : List Meaning) (lawful : All IsLawful kin
       all = clears_from (slot * s.kind.words) s.kind.words
 
       taken : (k : ℕ) → ◌≡◌ {A = Held} (held_at net kinds words (write_events node all) k) (after (take k all))
-      taken k = ap (λ l. record_held net kinds (after_events l words)) (take_events k node all)
+      taken k = ap (λ l. record_held net kinds (after_events l words)) (sym (take_events node k all))
 
       of_slot : AreOf s.kind.words slot all
       of_slot = clears_of s.kind.words slot s.least

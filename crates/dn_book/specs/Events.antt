@@ -1,5 +1,6 @@
 -- Tables while a device writes them, event by event.
-use Rattle.std.specs.Prelude.{ℕ, zero, suc, List, [], ◌∷◌, take, slice_set}
+use Rattle.std.specs.Prelude.{◌≡◌, ℕ, zero, suc, ◌<◌, Bool, true, false, List, [], ◌∷◌, length, take, slice_set, Option}
+use Rattle.dn_base.specs.Device.{Logged}
 use Rattle.dn_base.specs.declared.device.TableEvent.{TableEvent}
 use Rattle.dn_base.specs.declared.device.TableEvent.TheVariants.{Make, Write, Fence}
 use Rattle.dn_net.specs.declared.node.NodeDecl.{NodeDecl}
@@ -26,3 +27,13 @@ after_events (e ∷ es) words = after_events es (after_event e words)
 -- the records that tables hold after so many events of a log
 abbrev pub held_at : List NodeDecl → List Meaning → List (List ℕ) → List TableEvent → ℕ → Held
 held_at net kinds words log count = record_held net kinds (after_events (take count log) words)
+
+-- Events came in order: all of them, or those before the one that failed. They were added to a log, and
+-- tables changed as they say.
+pub record AreWritten (events : List TableEvent) (failed : Bool) (log log' : Option (List TableEvent))
+    (words words' : List (List ℕ)) : Type 0 where
+  pub made : ℕ
+  pub all : failed ≡ false → made ≡ length events
+  pub less : failed ≡ true → made < length events
+  pub logged : Logged log log' (take made events)
+  pub kept : words' ≡ after_events (take made events) words

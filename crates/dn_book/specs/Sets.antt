@@ -18,7 +18,8 @@ use Rattle.dn_tables.specs.Writes.{clear_writes, put_writes, write_events}
 use Rattle.dn_placement.specs.Placement.{FitsUnit}
 use Rattle.dn_book.specs.declared.grant.Grant.{Grant}
 use Rattle.dn_book.specs.Book.{is_taken}
-use Rattle.dn_book.specs.Writes.{AreAdded, Put, hop_slots}
+use Rattle.dn_book.specs.Events.{AreWritten}
+use Rattle.dn_book.specs.Writes.{Put, hop_slots}
 
 -- the hop takes slots of this unit: it has addresses and fits the unit, which has a plain shape
 pub record TakesSlots (u : UnitPart) (size : ℕ) (hop : Hop) : Type 0 where
@@ -71,7 +72,8 @@ clear_log set ss = flat_map (λ s. write_events s.unit (clear_writes set s.unit 
 pub record ArePut (kinds : List Meaning) (ss : List Put) (failed : Bool)
     (log log' : Option (List TableEvent)) (set set' : List NodeTable) : Type 0 where
   pub done : failed ≡ false → set' ≡ after_puts kinds set (filter (is_used_by 0 set) ss)
-  pub added : AreAdded (put_log kinds set (filter (is_used_by 0 set) ss)) failed log log'
+  pub written : AreWritten (put_log kinds set (filter (is_used_by 0 set) ss)) failed log log'
+      (words_of set) (words_of set')
   pub fits : KeepsFit set set'
 
 -- Those of the slots were cleared in order that one live grant used: all of them, or those before the
@@ -79,7 +81,8 @@ pub record ArePut (kinds : List Meaning) (ss : List Put) (failed : Bool)
 pub record AreCleared (ss : List Put) (failed : Bool) (log log' : Option (List TableEvent))
     (set set' : List NodeTable) : Type 0 where
   pub done : failed ≡ false → set' ≡ after_clears set (filter (is_used_by 1 set) ss)
-  pub added : AreAdded (clear_log set (filter (is_used_by 1 set) ss)) failed log log'
+  pub written : AreWritten (clear_log set (filter (is_used_by 1 set) ss)) failed log log'
+      (words_of set) (words_of set')
   pub fits : KeepsFit set set'
 
 -- each of the slots is there, and where no grant uses it it is empty

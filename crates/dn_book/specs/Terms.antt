@@ -3,7 +3,7 @@ pub use Rattle.dn_book.specs.Book.{IsFaithful, has_id, owed_names, slots_of, wit
 pub use Rattle.dn_book.specs.Between.{BetweenIsOneOrOther, IsCaught, IsOneOrOther, ResolvesAlike}
 pub use Rattle.dn_book.specs.Commands.{GrantLeadsOver, LeadsOver, RevokeLeadsOver}
 pub use Rattle.dn_book.specs.Committed.{IsCommitted}
-pub use Rattle.dn_book.specs.Events.{after_event, after_events, held_at, with_word_in}
+pub use Rattle.dn_book.specs.Events.{AreWritten, after_event, after_events, held_at, with_word_in}
 pub use Rattle.dn_book.specs.Faults.{is_revoke_fault}
 pub use Rattle.dn_book.specs.Going.{AreGoing, Goes}
 pub use Rattle.dn_book.specs.Kept.{BookIsProper, KeptSlotsAreTheBooks}

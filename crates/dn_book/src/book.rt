@@ -4,10 +4,10 @@ ghost use Rattle.std.specs.Prelude.{◌≡◌, ◌≢◌, ◌↔◌, [], ◌∷�
 ghost use Rattle.dn_net.specs.Terms.{Member};
 ghost use Rattle.dn_base.specs.Terms.{IsCounted, is_device_fault};
 ghost use Rattle.dn_kind.specs.Terms.{IsKinded, kinds_of};
-ghost use Rattle.dn_tables.specs.Terms.{AreUnitsMade, FitsNet, IsOnDevice, fresh_set, tables_of_set};
-ghost use Rattle.dn_book.specs.Terms.{AreAdded, IsCommitted, IsFaithful, IsGrantFor, IsKept, grant_events, has_id, is_revoke_fault, revoke_events, without_id};
-ghost use Rattle.dn_base.specs.declared.device.DeviceOrMemory.TheVariants.{OutOfMemory as no_memory};
-ghost use Rattle.dn_book.specs.declared.book.RevokeFault.TheVariants.{NoGrant as no_grant};
+ghost use Rattle.dn_tables.specs.Terms.{AreUnitsMade, FitsNet, IsOnDevice, fresh_set, tables_of_set, words_of};
+ghost use Rattle.dn_book.specs.Terms.{AreAdded, IsCaught, IsCommitted, IsFaithful, IsGrantFor, IsKept, grant_events, has_id, is_revoke_fault, revoke_events, without_id};
+ghost use Rattle.dn_base.specs.declared.device.DeviceOrMemory.TheVariants.{Device as device_fault, OutOfMemory as no_memory};
+ghost use Rattle.dn_book.specs.declared.book.RevokeFault.TheVariants.{Device as revoke_fault, NoGrant as no_grant};
 ghost use Rattle.dn_book.specs.declared.grant.Grant.{Grant as GrantPart};
 
 use crate::clears::clear_grant;
@@ -129,9 +129,9 @@ impl Book {
     /// # Errors
     ///
     /// `Device` only where the device's count of faults rose in this call, or stands at the last value
-    /// of its counter: the writes before the one that failed are done, no grant comes in, and the book
-    /// is only read from then on. `OutOfMemory` for want of memory, or behind 2^64 - 1 grants: nothing has
-    /// changed.
+    /// of its counter: the writes before the one that failed are done, and under them each name resolves
+    /// as before the grant or as with it. No grant comes in, and the book is only read from then on.
+    /// `OutOfMemory` for want of memory, or after 2^64 - 1 grants: nothing has changed.
     pub fn commit<D: Tables>(
         &mut self,
         alloc: Global,
@@ -155,6 +155,9 @@ impl Book {
             (kinds_of meaning on.entry.kinds.now) self.old.grants self.old.cleared grant)
             (is_err result) (D.log device.old) (D.log device.new) }
         ensures untouched { result ≡ Err no_memory → device.new ≡ device.old }
+        ensures caught { result ≡ Err device_fault → IsCaught on.entry.net.now
+            (kinds_of meaning on.entry.kinds.now) (words_of self.new.set) self.old.grants
+            (self.old.grants ++ grant ∷ []) }
     {
         let id = grant.id;
         let Ok(()) = self.grants.push(grant) else {
@@ -180,8 +183,8 @@ impl Book {
     ///
     /// `NoGrant` exactly where no live grant has the id: nothing has changed. `Device` only where the
     /// device's count of faults rose in this call, or stands at the last value of its counter: the
-    /// writes before the one that failed are done, the grants are as they were, and the book is not
-    /// sound any more.
+    /// writes before the one that failed are done, and under them each name resolves as with the grant
+    /// or as without it. The grants are as they were, and the book is not sound any more.
     pub fn revoke<D: Tables>(
         &mut self,
         on: KindedNet,
@@ -208,6 +211,9 @@ impl Book {
         ensures added { (g : GrantPart) → Member g self.old.grants → g.id ≡ id → AreAdded
             (revoke_events on.entry.net.now (kinds_of meaning on.entry.kinds.now) self.old.grants g)
             (is_err result) (D.log device.old) (D.log device.new) }
+        ensures caught { result ≡ Err revoke_fault → IsCaught on.entry.net.now
+            (kinds_of meaning on.entry.kinds.now) (words_of self.new.set) self.old.grants
+            (without_id id self.old.grants) }
         ensures on_device { IsOnDevice self.new.set (D.units device.new) (D.words device.new) }
         ensures counted { IsCounted (D.faults device.old) (D.faults device.new)
             (is_revoke_fault result) }

@@ -5,8 +5,8 @@ ghost use Rattle.dn_base.specs.Terms.{IsCounted};
 ghost use Rattle.dn_net.specs.Terms.{unit_at};
 ghost use Rattle.dn_kind.specs.Terms.{kinds_of};
 ghost use Rattle.dn_placement.specs.Terms.{hop_rights};
-ghost use Rattle.dn_tables.specs.Terms.{IsOnDevice, KeepsFit};
-ghost use Rattle.dn_book.specs.Terms.{AreAdded, ArePut, MayPut, MayPutGrant, MayPutHop, after_puts, fence_events, grant_slots, hop_slots, hop_slots_by, is_used_by, joined_slots, put_at, put_log};
+ghost use Rattle.dn_tables.specs.Terms.{IsOnDevice, KeepsFit, words_of};
+ghost use Rattle.dn_book.specs.Terms.{AreAdded, ArePut, AreWritten, MayPut, MayPutGrant, MayPutHop, after_puts, fence_events, grant_slots, hop_slots, hop_slots_by, is_used_by, joined_slots, put_at, put_log};
 
 use crate::grant::Grant;
 use crate::slots::{end_slot, first_slot, slot_record};
@@ -45,9 +45,10 @@ pub(crate) fn write_grant<D: Tables>(
     ensures done { OnOk result (tables.new ≡ after_puts
         (kinds_of meaning on.entry.kinds.now) tables.old (filter (is_used_by 0 tables.old)
         (joined_slots (reverse (grant_slots on.entry.net.now grant.now))))) }
-    ensures added { AreAdded (fence_events is_due ++ put_log (kinds_of meaning on.entry.kinds.now)
+    ensures written { AreWritten (fence_events is_due ++ put_log (kinds_of meaning on.entry.kinds.now)
         tables.old (filter (is_used_by 0 tables.old) (joined_slots (reverse (grant_slots
-        on.entry.net.now grant.now))))) (is_err result) (D.log device.old) (D.log device.new) }
+        on.entry.net.now grant.now))))) (is_err result) (D.log device.old) (D.log device.new)
+        (words_of tables.old) (words_of tables.new) }
     ensures fits { KeepsFit tables.old tables.new }
     ensures on_device { IsOnDevice tables.new (D.units device.new) (D.words device.new) }
     ensures counted { IsCounted (D.faults device.old) (D.faults device.new) (is_err result) }

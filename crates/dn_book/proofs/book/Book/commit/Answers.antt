@@ -1,21 +1,23 @@
 use Rattle.std.proofs.Common.{◌≡◌, ◌∙◌, ◌++◌, ◌∷◌, [], sym, ap, refl, subst, rules, option_copied, filter, reverse, List, None, Bool, true, false, is_err, IsTrue}
-use Rattle.std.specs.List.{flat_map}
 use Rattle.dn_kind.specs.Kind.{Meaning}
 use Rattle.dn_kind.specs.Kinded.{kinds_of}
 use Rattle.dn_kind.specs.Rights.{are_rights}
-use Rattle.dn_tables.specs.Set.{IsOnDevice}
+use Rattle.dn_tables.specs.Set.{IsOnDevice, words_of}
 use Rattle.dn_tables.proofs.Slots.{all_of_map}
 use Rattle.dn_book.specs.declared.grant.Grant.{Grant}
+use Rattle.dn_book.specs.Between.{IsCaught}
 use Rattle.dn_book.specs.Book.{IsSound, has_id}
+use Rattle.dn_book.specs.Events.{AreWritten}
 use Rattle.dn_book.specs.Laws.{IsGrantFor}
 use Rattle.dn_book.specs.Sets.{after_puts, is_used_by, put_log}
 use Rattle.dn_book.specs.State.{BookState}
-use Rattle.dn_book.specs.Tables.{IsKept}
-use Rattle.dn_book.specs.Writes.{AreAdded, fence_events, grant_events, grant_slots, joined_slots, put_events, puts_of}
-use Rattle.dn_book.proofs.Commit.{Coming, coming_fit, coming_log, coming_open, coming_uses, committed}
+use Rattle.dn_book.specs.Tables.{IsKept, tables_of}
+use Rattle.dn_book.specs.Writes.{AreAdded, fence_events, grant_events, grant_slots, joined_slots}
+use Rattle.dn_book.proofs.Commit.{Coming, coming_caught, coming_fit, coming_open, coming_uses, coming_written, committed}
 use Rattle.dn_book.proofs.Facts.{ok_by_err}
 use Rattle.dn_book.proofs.Serials.{AreApart, is_behind, some_behind, taken_back}
 use Rattle.dn_book.proofs.Sound.{granted_sound}
+use Rattle.dn_book.proofs.Written.{added}
 use Rattle.dn_book.proofs.book.Book.commit.Given.{Over}
 use Rattle.dn_book.proofs.book.Book.commit.Goals.{In-Some, After-write_grant}
 use Rattle.dn_book.proofs.book.Book.commit.Goals as goal
@@ -39,13 +41,19 @@ coming g c = record {
 made : (g : Over) (c : After-write_grant g) → is_err c.write_grant.result ≡ false → c.write_grant.new.tables ≡ after_puts (kinds_of (λ k. (goal.UnitKind-dyn g k).meaning k.1) c.args.on.kinds.now) c.self.inside.tables (filter (is_used_by 0 c.self.inside.tables) (joined_slots (reverse (grant_slots c.args.on.net.now c.in-Some.live.now))))
 made g c was = ok_by_err c.write_grant.result _ c.write_grant.ensures.done was
 
--- what the device was told, whether a write failed or none did
-told : (g : Over) (c : After-write_grant g) (failed : Bool) → c.in-Some.live.now ≡ c.args.grant → Coming c.args.on.net.now (kinds_of (λ k. (goal.UnitKind-dyn g k).meaning k.1) c.args.on.kinds.now) c.self.inside.grants c.in-Some.live.now c.self.inside.tables → is_err c.write_grant.result ≡ failed → AreAdded (grant_events c.args.on.net.now (kinds_of (λ k. (goal.UnitKind-dyn g k).meaning k.1) c.args.on.kinds.now) c.args.self.now.grants c.args.self.now.cleared c.args.grant) failed (g.D.Tables.log c.args.device.now) (g.D.Tables.log c.write_grant.new.device)
+-- what was written, whether a call of the device failed or none did
+told : (g : Over) (c : After-write_grant g) (failed : Bool) → c.in-Some.live.now ≡ c.args.grant → Coming c.args.on.net.now (kinds_of (λ k. (goal.UnitKind-dyn g k).meaning k.1) c.args.on.kinds.now) c.self.inside.grants c.in-Some.live.now c.self.inside.tables → is_err c.write_grant.result ≡ failed → AreWritten (grant_events c.args.on.net.now (kinds_of (λ k. (goal.UnitKind-dyn g k).meaning k.1) c.args.on.kinds.now) c.self.inside.grants c.self.inside.cleared c.in-Some.live.now) failed (g.D.Tables.log c.args.device.now) (g.D.Tables.log c.write_grant.new.device) (tables_of c.args.on.net.now (kinds_of (λ k. (goal.UnitKind-dyn g k).meaning k.1) c.args.on.kinds.now) c.self.inside.grants) (words_of c.write_grant.new.tables)
 told g c failed same comes was =
     let kinds : List Meaning = kinds_of (λ k. (goal.UnitKind-dyn g k).meaning k.1) c.args.on.kinds.now in
-    let log : AreAdded (fence_events c.self.inside.cleared ++ flat_map (put_events c.args.on.net.now kinds) (puts_of c.args.on.net.now c.self.inside.grants c.in-Some.live.now)) failed (g.D.Tables.log c.args.device.now) (g.D.Tables.log c.write_grant.new.device) =
-    subst (λ es. AreAdded (fence_events c.self.inside.cleared ++ es) failed (g.D.Tables.log c.args.device.now) (g.D.Tables.log c.write_grant.new.device)) (coming_log c.args.on.net.now kinds c.self.inside.grants c.in-Some.live.now c.self.inside.tables comes) (subst (λ f. AreAdded (fence_events c.self.inside.cleared ++ put_log kinds c.self.inside.tables (filter (is_used_by 0 c.self.inside.tables) (joined_slots (reverse (grant_slots c.args.on.net.now c.in-Some.live.now))))) f (g.D.Tables.log c.args.device.now) (g.D.Tables.log c.write_grant.new.device)) was c.write_grant.ensures.added) in
-    subst (λ (b : BookState). AreAdded (grant_events c.args.on.net.now kinds b.grants b.cleared c.args.grant) failed (g.D.Tables.log c.args.device.now) (g.D.Tables.log c.write_grant.new.device)) c.self.view_is (subst (λ (w : Grant). AreAdded (grant_events c.args.on.net.now kinds c.self.inside.grants c.self.inside.cleared w) failed (g.D.Tables.log c.args.device.now) (g.D.Tables.log c.write_grant.new.device)) same log)
+    coming_written c.args.on.net.now kinds c.self.inside.grants c.in-Some.live.now c.self.inside.tables comes c.self.inside.cleared failed _ _ (words_of c.write_grant.new.tables)
+    (subst (λ f. AreWritten (fence_events c.self.inside.cleared ++ put_log kinds c.self.inside.tables (filter (is_used_by 0 c.self.inside.tables) (joined_slots (reverse (grant_slots c.args.on.net.now c.in-Some.live.now))))) f (g.D.Tables.log c.args.device.now) (g.D.Tables.log c.write_grant.new.device) (words_of c.self.inside.tables) (words_of c.write_grant.new.tables)) was c.write_grant.ensures.written)
+
+-- what the device was told of it
+logged : (g : Over) (c : After-write_grant g) (failed : Bool) → c.in-Some.live.now ≡ c.args.grant → Coming c.args.on.net.now (kinds_of (λ k. (goal.UnitKind-dyn g k).meaning k.1) c.args.on.kinds.now) c.self.inside.grants c.in-Some.live.now c.self.inside.tables → is_err c.write_grant.result ≡ failed → AreAdded (grant_events c.args.on.net.now (kinds_of (λ k. (goal.UnitKind-dyn g k).meaning k.1) c.args.on.kinds.now) c.args.self.now.grants c.args.self.now.cleared c.args.grant) failed (g.D.Tables.log c.args.device.now) (g.D.Tables.log c.write_grant.new.device)
+logged g c failed same comes was =
+    let kinds : List Meaning = kinds_of (λ k. (goal.UnitKind-dyn g k).meaning k.1) c.args.on.kinds.now in
+    subst (λ (b : BookState). AreAdded (grant_events c.args.on.net.now kinds b.grants b.cleared c.args.grant) failed (g.D.Tables.log c.args.device.now) (g.D.Tables.log c.write_grant.new.device)) c.self.view_is
+    (subst (λ (w : Grant). AreAdded (grant_events c.args.on.net.now kinds c.self.inside.grants c.self.inside.cleared w) failed (g.D.Tables.log c.args.device.now) (g.D.Tables.log c.write_grant.new.device)) same (added _ failed _ _ _ _ (told g c failed same comes was)))
 
 pub write_grant-requires : goal.write_grant-requires
 write_grant-requires g c =
@@ -63,7 +71,17 @@ write_grant-requires g c =
 pub returns-then-is_err-clause-added : goal.returns-then-is_err-clause-added
 returns-then-is_err-clause-added g c other =
     let was : is_err c.write_grant.result ≡ true = search rules in
-    told g (goal.at.returns-then-is_err-clause-added g c).After-write_grant true (same_grant g (goal.at.returns-then-is_err-clause-added g c).In-Some) (coming g (goal.at.returns-then-is_err-clause-added g c).In-Some) was
+    logged g (goal.at.returns-then-is_err-clause-added g c).After-write_grant true (same_grant g (goal.at.returns-then-is_err-clause-added g c).In-Some) (coming g (goal.at.returns-then-is_err-clause-added g c).In-Some) was
+
+pub returns-then-is_err-clause-caught : goal.returns-then-is_err-clause-caught
+returns-then-is_err-clause-caught g c e =
+    let kinds : List Meaning = kinds_of (λ k. (goal.UnitKind-dyn g k).meaning k.1) c.args.on.kinds.now in
+    let was : is_err c.write_grant.result ≡ true = search rules in
+    let same : c.in-Some.live.now ≡ c.args.grant = same_grant g (goal.at.returns-then-is_err-clause-caught g c).In-Some in
+    let comes = coming g (goal.at.returns-then-is_err-clause-caught g c).In-Some in
+    subst (λ (b : BookState). IsCaught c.args.on.net.now kinds (words_of c.write_grant.new.tables) b.grants (b.grants ++ c.args.grant ∷ [])) c.self.view_is
+    (subst (λ (w : Grant). IsCaught c.args.on.net.now kinds (words_of c.write_grant.new.tables) c.self.inside.grants (c.self.inside.grants ++ w ∷ [])) same
+    (coming_caught c.args.on.net.now kinds c.self.inside.grants c.in-Some.live.now c.self.inside.tables comes c.self.inside.cleared true _ _ _ (told g (goal.at.returns-then-is_err-clause-caught g c).After-write_grant true same comes was)))
 
 pub add_uses-requires-clause-hops : goal.add_uses-requires-clause-hops
 add_uses-requires-clause-hops g c = coming_fit _ _ _ _ _ (coming g (goal.at.add_uses-requires-clause-hops g c).In-Some)
@@ -77,8 +95,10 @@ pub returns-clause-committed : goal.returns-clause-committed
 returns-clause-committed g c =
     let kinds : List Meaning = kinds_of (λ k. (goal.UnitKind-dyn g k).meaning k.1) c.args.on.kinds.now in
     let was : is_err c.write_grant.result ≡ false = search rules in
-    let all : c.push.new.self ≡ c.self.inside.grants ++ c.in-Some.live.now ∷ [] = c.in-Ok.ensures.pushed ∙ ap (λ (w : Grant). c.self.inside.grants ++ w ∷ []) (sym (same_grant g (goal.at.returns-clause-committed g c).In-Some)) in
-    let kept : IsKept c.args.on.net.now kinds c.push.new.self c.add_uses.new.tables = subst (λ (b : List Grant). IsKept c.args.on.net.now kinds b c.add_uses.new.tables) (sym all) (committed c.args.on.net.now kinds c.self.inside.grants c.in-Some.live.now c.self.inside.tables (coming g (goal.at.returns-clause-committed g c).In-Some) c.write_grant.new.tables c.add_uses.new.tables (made g (goal.at.returns-clause-committed g c).After-write_grant was) c.add_uses.ensures) in
+    let same : c.in-Some.live.now ≡ c.args.grant = same_grant g (goal.at.returns-clause-committed g c).In-Some in
+    let comes = coming g (goal.at.returns-clause-committed g c).In-Some in
+    let all : c.push.new.self ≡ c.self.inside.grants ++ c.in-Some.live.now ∷ [] = c.in-Ok.ensures.pushed ∙ ap (λ (w : Grant). c.self.inside.grants ++ w ∷ []) (sym same) in
+    let kept : IsKept c.args.on.net.now kinds c.push.new.self c.add_uses.new.tables = subst (λ (b : List Grant). IsKept c.args.on.net.now kinds b c.add_uses.new.tables) (sym all) (committed c.args.on.net.now kinds c.self.inside.grants c.in-Some.live.now c.self.inside.tables comes c.self.inside.cleared _ _ c.write_grant.new.tables c.add_uses.new.tables (made g (goal.at.returns-clause-committed g c).After-write_grant was) (told g (goal.at.returns-clause-committed g c).After-write_grant false same comes was) c.add_uses.ensures) in
     record {
       kept = kept;
       fenced = refl;
@@ -91,7 +111,7 @@ returns-clause-committed g c =
 pub returns-clause-added : goal.returns-clause-added
 returns-clause-added g c other =
     let was : is_err c.write_grant.result ≡ false = search rules in
-    told g (goal.at.returns-clause-added g c).After-write_grant false (same_grant g (goal.at.returns-clause-added g c).In-Some) (coming g (goal.at.returns-clause-added g c).In-Some) was
+    logged g (goal.at.returns-clause-added g c).After-write_grant false (same_grant g (goal.at.returns-clause-added g c).In-Some) (coming g (goal.at.returns-clause-added g c).In-Some) was
 
 pub remove-requires : goal.remove-requires
 remove-requires g c =
