@@ -5,8 +5,8 @@ use Rattle.dn_base.specs.Device.{UnitSize, sizes_of}
 use Rattle.dn_base.specs.declared.device.TableEvent.{TableEvent}
 use Rattle.dn_base.specs.declared.device.UnitWords.{UnitWords}
 use Rattle.std.specs.Option.{IfSome}
+use Rattle.std.proofs.lemmas.Bool.{false≢true}
 use Rattle.std.proofs.lemmas.Option.{same_Some}
-use Rattle.dn_base.proofs.Members.{any_member}
 use Rattle.dn_base.proofs.Orders.{lt-ltb}
 use Rattle.dn_net.specs.declared.node.NodeDecl.{NodeDecl}
 use Rattle.dn_net.specs.declared.node.Unit.{Unit as UnitPart}
@@ -36,7 +36,7 @@ use Rattle.dn_book.specs.Writes.{Put, fence_events, grant_events, grant_slots, h
 use Rattle.dn_book.proofs.Caught.{caught}
 use Rattle.dn_book.proofs.Changes.{has_slot_kept}
 use Rattle.dn_book.proofs.Commands.{grant_leads_over}
-use Rattle.dn_book.proofs.Facts.{fit_then, fits_net_kept}
+use Rattle.dn_book.proofs.Facts.{fit_then, fits_net_kept, none_any}
 use Rattle.dn_book.proofs.Frames.{SameFrame, frame_puts, same_flat}
 use Rattle.dn_book.proofs.Given.{GrantGives, by_owns, by_uses, gives_taken, unused_none}
 use Rattle.dn_book.proofs.Live.{book_held, by_place, few_uses, gives_held, no_owner_of, picked_empty, put_gives, put_gives_behind, used_zero, uses_granted, hop_put_gives}
@@ -149,16 +149,8 @@ module _ (net : List NodeDecl) (kinds : List Meaning) (book : List Grant) (g : G
       alone taken true e o =
           let own : owns_slot net s.unit s.slot g ≡ true = by_owns net g s.unit s.slot hop (subst (λ m. slice_get g.placement.hops m ≡ Some hop) (eqb-true place g.placement.own e) at) taken in
           let f = (comes net legal book sound g c.placed.placed).free in
-          let none : list_any (uses_slot net s.unit s.slot) book ≡ false = by (list_any (uses_slot net s.unit s.slot) book) refl in
+          let none : list_any (uses_slot net s.unit s.slot) book ≡ false = none_any (uses_slot net s.unit s.slot) book (λ x i e'. false≢true (sym (f s.unit s.slot x i own) ∙ e')) in
           eqb-true (uses_of net book s.unit s.slot) 0 (used_zero net book s.unit s.slot ∙ ap is_empty (unused_none net book s.unit s.slot none))
-        where
-          by : (b : Bool) → list_any (uses_slot net s.unit s.slot) book ≡ b → b ≡ false
-          by false g' = refl
-          by true g' =
-              let a = any_member (uses_slot net s.unit s.slot) book g' in
-              let own : owns_slot net s.unit s.slot g ≡ true = by_owns net g s.unit s.slot hop (subst (λ m. slice_get g.placement.hops m ≡ Some hop) (eqb-true place g.placement.own e) at) taken in
-              let x : true ≡ false = sym a.2 ∙ (comes net legal book sound g c.placed.placed).free s.unit s.slot a.0 a.1 own in
-              cc
 
   -- THE BOOK AFTERWARDS
 

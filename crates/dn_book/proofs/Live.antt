@@ -3,6 +3,7 @@ use Rattle.std.proofs.Common.{◌≡◌, ◌≢◌, ℕ, suc, ◌+◌, ◌-◌, 
 use Rattle.std.specs.List.{AllPairs, list_any}
 use Rattle.std.proofs.lemmas.List.Elements.{filter-append}
 use Rattle.std.proofs.lemmas.List.{reverse-append}
+use Rattle.std.proofs.lemmas.Bool.{false≢true}
 use Rattle.std.proofs.lemmas.Option.{get_or_from_slice_get, same_Some, slice_get_within}
 use Rattle.dn_base.proofs.Orders.{ne_eqb, cases_eq}
 use Rattle.dn_base.proofs.Members.{any_member, member_any, member_left, member_right, member_at}
@@ -25,6 +26,7 @@ use Rattle.dn_book.specs.Laws.{IsGrantFor, RevokeClearsSome}
 use Rattle.dn_book.specs.Sets.{AreFit, changed_by, is_at, hop_owner, one_use_less, one_use_more, put_at}
 use Rattle.dn_book.specs.Tables.{use_of}
 use Rattle.dn_book.specs.Writes.{Put, clears_of, empty_slots, grant_slots, hop_slots, hop_slots_by, is_empty, joined_slots, puts_of}
+use Rattle.dn_book.proofs.Facts.{none_any}
 use Rattle.dn_book.proofs.Changes.{is_at_parts, is_at_self}
 use Rattle.dn_book.proofs.Given.{GrantGives, between_gives, by_owns, by_uses, gives_taken, given_by, held_in, held_none, hop_gives, in_held, none_unused, owned_used, owns_by, place_of, taken_gives, unused_none}
 use Rattle.dn_book.proofs.Hops.{first_before, last_there}
@@ -312,14 +314,7 @@ module _ (net : List NodeDecl) (legal : IsLegalNet net) (book : List Grant) (g :
 
   -- no live grant owns a slot that the new one uses
   pub not_owned : (n q : ℕ) → uses_slot net n q g ≡ true → list_any (owns_slot net n q) book ≡ false
-  not_owned n q u = by (list_any (owns_slot net n q) book) refl
-    where
-      by : (b : Bool) → list_any (owns_slot net n q) book ≡ b → b ≡ false
-      by false e = refl
-      by true e =
-          let a = any_member (owns_slot net n q) book e in
-          let c : true ≡ false = sym u ∙ (comes net legal book sound g f.placed).unowned n q a.0 a.1 a.2 in
-          cc
+  not_owned n q u = none_any (owns_slot net n q) book (λ x m e. false≢true (sym ((comes net legal book sound g f.placed).unowned n q x m e) ∙ u))
 
   pub no_owner_of : (n q : ℕ) → uses_slot net n q g ≡ true → owner_of net book n q ≡ None
   no_owner_of n q u = none_owned net n q book (not_owned n q u)
@@ -451,15 +446,7 @@ module _ (net : List NodeDecl) (legal : IsLegalNet net) (book : List Grant) (g :
       ap (λ k. record { uses = k; owner = None }) uses ∙ ap (λ o. record { uses = uses_of net (without_id g.id book) n q; owner = o }) (sym (none_owned net n q (without_id g.id book) none))
     where
       none : list_any (owns_slot net n q) (without_id g.id book) ≡ false
-      none = by (list_any (owns_slot net n q) (without_id g.id book)) refl
-        where
-          by : (b : Bool) → list_any (owns_slot net n q) (without_id g.id book) ≡ b → b ≡ false
-          by false e = refl
-          by true e =
-              let a = any_member (owns_slot net n q) (without_id g.id book) e in
-              let k = without_in g.id book a.0 a.1 in
-              let c : true ≡ false = sym u ∙ sound.alone a.0 g k.0 live k.1 n q a.2 in
-              cc
+      none = none_any (owns_slot net n q) (without_id g.id book) (λ x m e. (let k = without_in g.id book x m in false≢true (sym (sound.alone x g k.0 live k.1 n q e) ∙ u)))
 
   -- and another one is used as before
   same_use : (n q : ℕ) → uses_slot net n q g ≡ false → use_of net book n q ≡ use_of net (without_id g.id book) n q
@@ -511,15 +498,7 @@ module _ (net : List NodeDecl) (legal : IsLegalNet net) (book : List Grant) (g :
 
   -- no other grant uses a slot that the grant owns
   lone : (n q : ℕ) → owns_slot net n q g ≡ true → list_any (uses_slot net n q) (without_id g.id book) ≡ false
-  lone n q owned = by (list_any (uses_slot net n q) (without_id g.id book)) refl
-    where
-      by : (b : Bool) → list_any (uses_slot net n q) (without_id g.id book) ≡ b → b ≡ false
-      by false e = refl
-      by true e =
-          let a = any_member (uses_slot net n q) (without_id g.id book) e in
-          let k = without_in g.id book a.0 a.1 in
-          let c : true ≡ false = sym a.2 ∙ sound.alone g a.0 live k.0 (λ s. k.1 (sym s)) n q owned in
-          cc
+  lone n q owned = none_any (uses_slot net n q) (without_id g.id book) (λ x m e. (let k = without_in g.id book x m in false≢true (sym (sound.alone g x live k.0 (λ s. k.1 (sym s)) n q owned) ∙ e)))
 
   -- so the first slot of its own hop is cleared
   clears_some : 1 ≤ length (clears_of net book g)

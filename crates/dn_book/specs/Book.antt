@@ -142,6 +142,10 @@ IsFaithful net book = (access : Access) (x y : Name) →
 abbrev pub has_id : ℕ → List Grant → Bool
 has_id id book = list_any (λ g. g.id == id) book
 
+-- the book has no room for a further grant
+abbrev pub is_full : List Grant → Bool
+is_full book = nat_le 4096 (length book)
+
 -- the book without the grants of an id
 abbrev pub without_id : ℕ → List Grant → List Grant
 without_id id book = filter (λ g. not (g.id == id)) book

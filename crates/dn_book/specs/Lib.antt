@@ -1,7 +1,7 @@
 pub mod Between
 pub mod Book
+pub mod Changed
 pub mod Commands
-pub mod Committed
 pub mod Events
 pub mod Faults
 pub mod Going

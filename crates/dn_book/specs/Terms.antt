@@ -1,8 +1,8 @@
 -- The words of the crate that clauses cite, from one place.
-pub use Rattle.dn_book.specs.Book.{IsFaithful, has_id, owed_names, slots_of, without_id}
+pub use Rattle.dn_book.specs.Book.{IsFaithful, has_id, is_full, owed_names, slots_of, without_id}
 pub use Rattle.dn_book.specs.Between.{BetweenIsOneOrOther, IsCaught, IsOneOrOther, ResolvesAlike}
+pub use Rattle.dn_book.specs.Changed.{IsChangedBook, MayChange}
 pub use Rattle.dn_book.specs.Commands.{GrantLeadsOver, LeadsOver, RevokeLeadsOver}
-pub use Rattle.dn_book.specs.Committed.{IsCommitted}
 pub use Rattle.dn_book.specs.Events.{AreWritten, after_event, after_events, held_at, with_word_in}
 pub use Rattle.dn_book.specs.Faults.{is_revoke_fault}
 pub use Rattle.dn_book.specs.Going.{AreGoing, Goes}

@@ -5,7 +5,7 @@ ghost use Rattle.dn_net.specs.Terms.{Member};
 ghost use Rattle.dn_base.specs.Terms.{IsCounted, is_device_fault};
 ghost use Rattle.dn_kind.specs.Terms.{IsKinded, kinds_of};
 ghost use Rattle.dn_tables.specs.Terms.{AreUnitsMade, FitsNet, IsOnDevice, fresh_set, tables_of_set, words_of};
-ghost use Rattle.dn_book.specs.Terms.{AreAdded, IsCaught, IsCommitted, IsFaithful, IsGrantFor, IsKept, grant_events, has_id, is_revoke_fault, revoke_events, without_id};
+ghost use Rattle.dn_book.specs.Terms.{AreAdded, IsCaught, IsChangedBook, IsFaithful, IsGrantFor, IsKept, MayChange, grant_events, has_id, is_full, is_revoke_fault, revoke_events, without_id};
 ghost use Rattle.dn_base.specs.declared.device.DeviceOrMemory.TheVariants.{Device as device_fault, OutOfMemory as no_memory};
 ghost use Rattle.dn_book.specs.declared.book.RevokeFault.TheVariants.{Device as revoke_fault, NoGrant as no_grant};
 ghost use Rattle.dn_book.specs.declared.grant.Grant.{Grant as GrantPart};
@@ -21,6 +21,9 @@ use dn_tables::set::TableSet;
 use std::alloc::Global;
 use std::marker::Model;
 use thiserror::Error;
+
+/// The most grants of a book.
+const MAX_GRANTS: usize = 4096;
 
 /// Why a grant is not revoked.
 #[derive(Clone, Copy, Debug, PartialEq, Eq, Error)]
@@ -115,6 +118,13 @@ impl Book {
         self.cleared
     }
 
+    /// Whether there is no room for a further grant.
+    pub fn is_full(&self) -> bool
+        ensures { result ≡ is_full self.now.grants }
+    {
+        self.grants.len() >= MAX_GRANTS
+    }
+
     /// Whether a live grant has the id.
     pub fn has_id(&self, id: u32) -> bool
         ensures { result ≡ has_id id self.now.grants }
@@ -139,14 +149,10 @@ impl Book {
         grant: Grant,
         device: &mut D,
     ) -> Result<(), DeviceOrMemory>
-        requires on { IsKinded meaning on }
-        requires unfailed { self.old.unfailed ≡ true }
-        requires kept { IsKept on.net.now
-            (kinds_of meaning on.kinds.now) self.old.grants self.old.set }
-        requires on_device { IsOnDevice self.old.set (D.units device.old) (D.words device.old) }
+        requires ready { MayChange meaning on self.old (D.units device.old) (D.words device.old) }
         requires placed { IsGrantFor on.net.now self.old.grants grant }
         ensures granted { OnOk result (self.new.grants ≡ self.old.grants ++ grant ∷ []) }
-        ensures committed { IsCommitted on.entry.net.now (kinds_of meaning on.entry.kinds.now)
+        ensures changed { IsChangedBook on.entry.net.now (kinds_of meaning on.entry.kinds.now) false
             result (is_device_fault result) self.new (D.units device.new) (D.words device.new)
             (D.faults device.old) (D.faults device.new) }
         ensures refused { OnErr result (self.new.grants ≡ self.old.grants) }
@@ -191,32 +197,23 @@ impl Book {
         id: u32,
         device: &mut D,
     ) -> Result<(), RevokeFault>
-        requires on { IsKinded meaning on }
-        requires unfailed { self.old.unfailed ≡ true }
-        requires kept { IsKept on.net.now
-            (kinds_of meaning on.kinds.now) self.old.grants self.old.set }
-        requires on_device { IsOnDevice self.old.set (D.units device.old) (D.words device.old) }
+        requires ready { MayChange meaning on self.old (D.units device.old) (D.words device.old) }
         ensures revoked { OnOk result (self.new.grants ≡ without_id id self.old.grants) }
-        ensures kept { OnOk result (IsKept on.entry.net.now
-            (kinds_of meaning on.entry.kinds.now) self.new.grants self.new.set) }
+        ensures changed { IsChangedBook on.entry.net.now (kinds_of meaning on.entry.kinds.now) true
+            result (is_revoke_fault result) self.new (D.units device.new) (D.words device.new)
+            (D.faults device.old) (D.faults device.new) }
         ensures faithful { OnOk result (IsFaithful on.entry.net.now self.old.grants
             → IsFaithful on.entry.net.now self.new.grants) }
-        ensures cleared { OnOk result (self.new.cleared ≡ true) }
         ensures refused { OnErr result (self.new.grants ≡ self.old.grants) }
         ensures unknown { result ≡ Err no_grant ↔ (has_id id self.old.grants ≡ false) }
         ensures unchanged { result ≡ Err no_grant → (self.new ≡ self.old) ×
             (device.new ≡ device.old) }
-        ensures unfailed { self.new.unfailed ≡ not (is_revoke_fault result) }
-        ensures fits { FitsNet on.entry.net.now (kinds_of meaning on.entry.kinds.now) self.new.set }
         ensures added { (g : GrantPart) → Member g self.old.grants → g.id ≡ id → AreAdded
             (revoke_events on.entry.net.now (kinds_of meaning on.entry.kinds.now) self.old.grants g)
             (is_err result) (D.log device.old) (D.log device.new) }
         ensures caught { result ≡ Err revoke_fault → IsCaught on.entry.net.now
             (kinds_of meaning on.entry.kinds.now) (words_of self.new.set) self.old.grants
             (without_id id self.old.grants) }
-        ensures on_device { IsOnDevice self.new.set (D.units device.new) (D.words device.new) }
-        ensures counted { IsCounted (D.faults device.old) (D.faults device.new)
-            (is_revoke_fault result) }
     {
         let Some(live) = self.grants.get(id) else {
             return Err(RevokeFault::NoGrant);

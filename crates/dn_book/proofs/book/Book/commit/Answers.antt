@@ -14,7 +14,7 @@ use Rattle.dn_book.specs.State.{BookState}
 use Rattle.dn_book.specs.Tables.{IsKept, tables_of}
 use Rattle.dn_book.specs.Writes.{AreAdded, fence_events, grant_events, grant_slots, joined_slots}
 use Rattle.dn_book.proofs.Commit.{Coming, coming_caught, coming_fit, coming_open, coming_uses, coming_written, committed}
-use Rattle.dn_book.proofs.Facts.{ok_by_err}
+use Rattle.dn_book.proofs.Facts.{changed_book, ok_by_err}
 use Rattle.dn_book.proofs.Serials.{AreApart, is_behind, some_behind, taken_back}
 use Rattle.dn_book.proofs.Sound.{granted_sound}
 use Rattle.dn_book.proofs.Written.{added}
@@ -31,9 +31,9 @@ same_grant g c =
 -- what is known of it
 coming : (g : Over) (c : In-Some g) → Coming c.args.on.net.now (kinds_of (λ k. (goal.UnitKind-dyn g k).meaning k.1) c.args.on.kinds.now) c.self.inside.grants c.in-Some.live.now c.self.inside.tables
 coming g c = record {
-  lawful = all_of_map _ c.args.on.kinds.now.list.items c.requires.on.lawful;
-  legal = c.requires.on.legal;
-  kept = subst (λ (b : BookState). IsKept c.args.on.net.now (kinds_of (λ k. (goal.UnitKind-dyn g k).meaning k.1) c.args.on.kinds.now) b.grants b.set) (sym c.self.view_is) c.requires.kept;
+  lawful = all_of_map _ c.args.on.kinds.now.list.items c.requires.ready.kinded.lawful;
+  legal = c.requires.ready.kinded.legal;
+  kept = subst (λ (b : BookState). IsKept c.args.on.net.now (kinds_of (λ k. (goal.UnitKind-dyn g k).meaning k.1) c.args.on.kinds.now) b.grants b.set) (sym c.self.view_is) c.requires.ready.kept;
   placed = subst (λ (w : Grant). IsGrantFor c.args.on.net.now c.self.inside.grants w) (sym (same_grant g c)) (subst (λ (b : BookState). IsGrantFor c.args.on.net.now b.grants c.args.grant) (sym c.self.view_is) c.requires.placed);
 }
 
@@ -59,10 +59,10 @@ pub write_grant-requires : goal.write_grant-requires
 write_grant-requires g c =
     let comes = coming g (goal.at.write_grant-requires g c).In-Some in
     record {
-      lawful = c.requires.on.lawful;
-      shaped = c.requires.on.legal.shaped;
+      lawful = c.requires.ready.kinded.lawful;
+      shaped = c.requires.ready.kinded.legal.shaped;
       fits = comes.kept.fits;
-      on_device = subst (λ (b : BookState). IsOnDevice b.set (g.D.Tables.units c.args.device.now) (g.D.Tables.words c.args.device.now)) (sym c.self.view_is) c.requires.on_device;
+      on_device = subst (λ (b : BookState). IsOnDevice b.set (g.D.Tables.units c.args.device.now) (g.D.Tables.words c.args.device.now)) (sym c.self.view_is) c.requires.ready.on_device;
       hops = coming_fit _ _ _ _ _ comes;
       rights = subst (λ (w : Grant). IsTrue (are_rights w.request.rights)) (sym (same_grant g (goal.at.write_grant-requires g c).In-Some)) c.requires.placed.rights;
       opened = coming_open _ _ _ _ _ comes;
@@ -91,22 +91,15 @@ add_uses-requires-clause-may g c =
     let was : is_err c.write_grant.result ≡ false = search rules in
     coming_uses _ _ _ _ _ (coming g (goal.at.add_uses-requires-clause-may g c).In-Some) _ (made g (goal.at.add_uses-requires-clause-may g c).After-write_grant was)
 
-pub returns-clause-committed : goal.returns-clause-committed
-returns-clause-committed g c =
+pub returns-clause-changed : goal.returns-clause-changed
+returns-clause-changed g c =
     let kinds : List Meaning = kinds_of (λ k. (goal.UnitKind-dyn g k).meaning k.1) c.args.on.kinds.now in
     let was : is_err c.write_grant.result ≡ false = search rules in
-    let same : c.in-Some.live.now ≡ c.args.grant = same_grant g (goal.at.returns-clause-committed g c).In-Some in
-    let comes = coming g (goal.at.returns-clause-committed g c).In-Some in
+    let same : c.in-Some.live.now ≡ c.args.grant = same_grant g (goal.at.returns-clause-changed g c).In-Some in
+    let comes = coming g (goal.at.returns-clause-changed g c).In-Some in
     let all : c.push.new.self ≡ c.self.inside.grants ++ c.in-Some.live.now ∷ [] = c.in-Ok.ensures.pushed ∙ ap (λ (w : Grant). c.self.inside.grants ++ w ∷ []) (sym same) in
-    let kept : IsKept c.args.on.net.now kinds c.push.new.self c.add_uses.new.tables = subst (λ (b : List Grant). IsKept c.args.on.net.now kinds b c.add_uses.new.tables) (sym all) (committed c.args.on.net.now kinds c.self.inside.grants c.in-Some.live.now c.self.inside.tables comes c.self.inside.cleared _ _ c.write_grant.new.tables c.add_uses.new.tables (made g (goal.at.returns-clause-committed g c).After-write_grant was) (told g (goal.at.returns-clause-committed g c).After-write_grant false same comes was) c.add_uses.ensures) in
-    record {
-      kept = kept;
-      fenced = refl;
-      unfailed = search rules;
-      fits = kept.fits;
-      on_device = search rules;
-      counted = search rules;
-    }
+    let kept : IsKept c.args.on.net.now kinds c.push.new.self c.add_uses.new.tables = subst (λ (b : List Grant). IsKept c.args.on.net.now kinds b c.add_uses.new.tables) (sym all) (committed c.args.on.net.now kinds c.self.inside.grants c.in-Some.live.now c.self.inside.tables comes c.self.inside.cleared _ _ c.write_grant.new.tables c.add_uses.new.tables (made g (goal.at.returns-clause-changed g c).After-write_grant was) (told g (goal.at.returns-clause-changed g c).After-write_grant false same comes was) c.add_uses.ensures) in
+    changed_book _ _ _ _ _ _ _ _ _ kept refl (search rules) (search rules) (search rules)
 
 pub returns-clause-added : goal.returns-clause-added
 returns-clause-added g c other =
@@ -116,9 +109,9 @@ returns-clause-added g c other =
 pub remove-requires : goal.remove-requires
 remove-requires g c =
     let pushed : c.push.new.self ≡ c.self.inside.grants ++ c.args.grant ∷ [] = c.in-Ok.ensures.pushed in
-    let sound : IsSound c.args.on.net.now c.self.inside.grants = subst (λ (b : BookState). IsSound c.args.on.net.now b.grants) (sym c.self.view_is) c.requires.kept.sound in
+    let sound : IsSound c.args.on.net.now c.self.inside.grants = subst (λ (b : BookState). IsSound c.args.on.net.now b.grants) (sym c.self.view_is) c.requires.ready.kept.sound in
     let placed : IsGrantFor c.args.on.net.now c.self.inside.grants c.args.grant = subst (λ (b : BookState). IsGrantFor c.args.on.net.now b.grants c.args.grant) (sym c.self.view_is) c.requires.placed in
-    subst (λ (gs : List Grant). AreApart gs) (sym pushed) (granted_sound c.args.on.net.now c.requires.on.legal.legal c.self.inside.grants c.args.grant sound placed).ids
+    subst (λ (gs : List Grant). AreApart gs) (sym pushed) (granted_sound c.args.on.net.now c.requires.ready.kinded.legal.legal c.self.inside.grants c.args.grant sound placed).ids
 
 pub returns-then-is_err-clause-refused : goal.returns-then-is_err-clause-refused
 returns-then-is_err-clause-refused g c =

@@ -14,6 +14,7 @@ use Rattle.dn_book.specs.State.{BookState}
 use Rattle.dn_book.specs.Tables.{IsKept, tables_of}
 use Rattle.dn_book.specs.Writes.{AreAdded, grant_slots, joined_slots, revoke_events}
 use Rattle.dn_book.proofs.Faithful.{revoke_keeps_book}
+use Rattle.dn_book.proofs.Facts.{changed_book}
 use Rattle.dn_book.proofs.Live.{one_grant}
 use Rattle.dn_book.proofs.Revoke.{Going, going_caught, going_fit, going_uses, going_written, revoked}
 use Rattle.dn_book.proofs.Serials.{AreApart, IsLive, has_live, live_found, none_live}
@@ -29,9 +30,9 @@ found g c = live_found c.self.inside.grants c.args.id c.in-Some.live.now (sym (a
 -- what is known of it
 going : (g : Over) (c : In-Some g) → Going c.args.on.net.now (kinds_of (λ k. (goal.UnitKind-dyn g k).meaning k.1) c.args.on.kinds.now) c.self.inside.grants c.in-Some.live.now c.self.inside.tables
 going g c = record {
-  lawful = all_of_map _ c.args.on.kinds.now.list.items c.requires.on.lawful;
-  legal = c.requires.on.legal;
-  kept = subst (λ (b : BookState). IsKept c.args.on.net.now (kinds_of (λ k. (goal.UnitKind-dyn g k).meaning k.1) c.args.on.kinds.now) b.grants b.set) (sym c.self.view_is) c.requires.kept;
+  lawful = all_of_map _ c.args.on.kinds.now.list.items c.requires.ready.kinded.lawful;
+  legal = c.requires.ready.kinded.legal;
+  kept = subst (λ (b : BookState). IsKept c.args.on.net.now (kinds_of (λ k. (goal.UnitKind-dyn g k).meaning k.1) c.args.on.kinds.now) b.grants b.set) (sym c.self.view_is) c.requires.ready.kept;
   live = (found g c).live;
 }
 
@@ -50,7 +51,7 @@ told g c failed goes was =
 logged : (g : Over) (c : After-clear_grant g) (failed : Bool) → IsLive c.self.inside.grants c.args.id c.in-Some.live.now → Going c.args.on.net.now (kinds_of (λ k. (goal.UnitKind-dyn g k).meaning k.1) c.args.on.kinds.now) c.self.inside.grants c.in-Some.live.now c.self.inside.tables → is_err c.clear_grant.result ≡ failed → (k : Grant) → Member k c.args.self.now.grants → k.id ≡ c.args.id → AreAdded (revoke_events c.args.on.net.now (kinds_of (λ k. (goal.UnitKind-dyn g k).meaning k.1) c.args.on.kinds.now) c.args.self.now.grants k) failed (g.D.Tables.log c.args.device.now) (g.D.Tables.log c.clear_grant.new.device)
 logged g c failed live goes was k m e =
     let kinds : List Meaning = kinds_of (λ k. (goal.UnitKind-dyn g k).meaning k.1) c.args.on.kinds.now in
-    let one : k ≡ c.in-Some.live.now = one_grant c.args.on.net.now c.requires.on.legal.legal c.self.inside.grants c.in-Some.live.now goes.kept.sound live.live k (subst (λ (b : BookState). Member k b.grants) (sym c.self.view_is) m) (e ∙ sym live.same) in
+    let one : k ≡ c.in-Some.live.now = one_grant c.args.on.net.now c.requires.ready.kinded.legal.legal c.self.inside.grants c.in-Some.live.now goes.kept.sound live.live k (subst (λ (b : BookState). Member k b.grants) (sym c.self.view_is) m) (e ∙ sym live.same) in
     subst (λ (b : BookState). AreAdded (revoke_events c.args.on.net.now kinds b.grants k) failed (g.D.Tables.log c.args.device.now) (g.D.Tables.log c.clear_grant.new.device)) c.self.view_is
     (subst (λ (w : Grant). AreAdded (revoke_events c.args.on.net.now kinds c.self.inside.grants w) failed (g.D.Tables.log c.args.device.now) (g.D.Tables.log c.clear_grant.new.device)) (sym one) (added _ failed _ _ _ _ (told g c failed goes was)))
 
@@ -98,7 +99,7 @@ end_uses-requires-clause-used g c =
     going_uses _ _ _ _ _ (going g (goal.at.end_uses-requires-clause-used g c).In-Some) c.clear_grant.new.tables made
 
 pub remove-requires : goal.remove-requires
-remove-requires g c = subst (λ (b : BookState). AreApart b.grants) (sym c.self.view_is) c.requires.kept.sound.ids
+remove-requires g c = subst (λ (b : BookState). AreApart b.grants) (sym c.self.view_is) c.requires.ready.kept.sound.ids
 
 pub returns-clause-revoked : goal.returns-clause-revoked
 returns-clause-revoked g c = c.remove.ensures ∙ ap (λ (b : BookState). without_id c.args.id b.grants) c.self.view_is
@@ -106,17 +107,18 @@ returns-clause-revoked g c = c.remove.ensures ∙ ap (λ (b : BookState). withou
 pub returns-clause-faithful : goal.returns-clause-faithful
 returns-clause-faithful g c f =
     let left : c.remove.new.self ≡ without_id c.args.id c.args.self.now.grants = c.remove.ensures ∙ ap (λ (b : BookState). without_id c.args.id b.grants) c.self.view_is in
-    subst (λ (b : List Grant). IsFaithful c.args.on.net.now b) (sym left) ((revoke_keeps_book c.args.on.net.now c.args.self.now.grants c.args.id c.requires.on.legal.legal c.requires.kept.sound).1 f)
+    subst (λ (b : List Grant). IsFaithful c.args.on.net.now b) (sym left) ((revoke_keeps_book c.args.on.net.now c.args.self.now.grants c.args.id c.requires.ready.kinded.legal.legal c.requires.ready.kept.sound).1 f)
 
-pub returns-clause-kept : goal.returns-clause-kept
-returns-clause-kept g c =
+pub returns-clause-changed : goal.returns-clause-changed
+returns-clause-changed g c =
     let kinds : List Meaning = kinds_of (λ k. (goal.UnitKind-dyn g k).meaning k.1) c.args.on.kinds.now in
     let was : is_err c.clear_grant.result ≡ false = search rules in
     let made : c.clear_grant.new.tables ≡ after_clears c.self.inside.tables (filter (is_used_by 1 c.self.inside.tables) (joined_slots (grant_slots c.args.on.net.now c.in-Some.live.now))) = c.clear_grant.ensures.cleared.done was in
-    let all : c.remove.new.self ≡ without_id c.in-Some.live.now.id c.self.inside.grants = c.remove.ensures ∙ ap (λ n. without_id n c.self.inside.grants) (sym (found g (goal.at.returns-clause-kept g c).In-Some).same) in
-    let goes = going g (goal.at.returns-clause-kept g c).In-Some in
+    let all : c.remove.new.self ≡ without_id c.in-Some.live.now.id c.self.inside.grants = c.remove.ensures ∙ ap (λ n. without_id n c.self.inside.grants) (sym (found g (goal.at.returns-clause-changed g c).In-Some).same) in
+    let goes = going g (goal.at.returns-clause-changed g c).In-Some in
     let changed : AreHopsChanged c.args.on.net.now c.in-Some.live.now.request.size (λ place. one_use_less) c.in-Some.live.now.placement.hops c.clear_grant.new.tables c.end_uses.new.tables = c.end_uses.ensures in
-    subst (λ (b : List Grant). IsKept c.args.on.net.now kinds b c.end_uses.new.tables) (sym all) (revoked c.args.on.net.now kinds c.self.inside.grants c.in-Some.live.now c.self.inside.tables goes _ _ c.clear_grant.new.tables c.end_uses.new.tables made (told g (goal.at.returns-clause-kept g c).After-clear_grant false goes was) changed)
+    let kept : IsKept c.args.on.net.now kinds c.remove.new.self c.end_uses.new.tables = subst (λ (b : List Grant). IsKept c.args.on.net.now kinds b c.end_uses.new.tables) (sym all) (revoked c.args.on.net.now kinds c.self.inside.grants c.in-Some.live.now c.self.inside.tables goes _ _ c.clear_grant.new.tables c.end_uses.new.tables made (told g (goal.at.returns-clause-changed g c).After-clear_grant false goes was) changed) in
+    changed_book _ _ _ _ _ _ _ _ _ kept refl (search rules) (search rules) (search rules)
 
 pub returns-clause-added : goal.returns-clause-added
 returns-clause-added g c =
