@@ -1,5 +1,5 @@
 -- Gate words: their bits, and the rights that they leave.
-use Rattle.std.proofs.Common.{◌≡◌, ℕ, zero, suc, ◌+◌, ◌*◌, ◌%◌, ◌^◌, ◌-◌, ◌<◌, ◌≤◌, Bool, true, false, if◌then◌else◌, ◌==◌, Option, Some, None, IsTrue, refl, subst, arith}
+use Rattle.std.proofs.Common.{◌≡◌, ℕ, zero, suc, ◌+◌, ◌*◌, ◌%◌, ◌^◌, ◌-◌, ◌<◌, ◌≤◌, Bool, true, false, ◌&&◌, if◌then◌else◌, ◌==◌, Option, Some, None, IsTrue, refl, subst, ap, ◌∙◌, arith}
 use Rattle.std.proofs.Math.Pow.{pow_mono}
 use Rattle.std.proofs.lemmas.Bool.{and_parts, leb-true, ltb-true}
 use Rattle.dn_kind.specs.declared.rights.Access.{Access}
@@ -9,7 +9,7 @@ use Rattle.dn_kind.specs.declared.shape.Shape.{Shape}
 use Rattle.dn_kind.specs.declared.unit_kind.Record.{Record}
 use Rattle.dn_kind.specs.Rights.{allows, are_rights, both_rights}
 use Rattle.dn_kind.specs.Kind.{Meaning, IsPackable, is_plain_unit_shape}
-use Rattle.dn_kinds.specs.Layouts.{bits, denial, denials, read_right, write_right, rights_left, record_with}
+use Rattle.dn_kinds.specs.Layouts.{bits, denial, denials, read_right, write_right, rights_left, record_with, gate_bits, gated}
 
 -- a shape that a unit may have has at most 8 ports, and outputs below 2^56
 pub few_ports : (shape : Shape) → IsTrue (is_plain_unit_shape shape) → shape.ports ≤ 8
@@ -18,20 +18,23 @@ few_ports shape plain = leb-true _ _ (and_parts _ _ plain).1
 pub low_reach : (shape : Shape) → IsTrue (is_plain_unit_shape shape) → shape.reach ≤ 56
 low_reach shape plain = leb-true _ _ (and_parts _ _ (and_parts _ _ (and_parts _ _ plain).0).0).1
 
--- a record that may be packed has a port below 8, and an output page below 2^56
+-- a record that may be packed has a port below 8, and an output address below 2^56
 pub port_small : (kind : Meaning) (shape : Shape) (r : Record) → IsPackable kind shape r → r.port < 8
 port_small kind shape r p =
     let few : shape.ports ≤ 8 = few_ports shape p.plain in
     let there : r.port < shape.ports = ltb-true _ _ (and_parts _ _ p.within).0 in
     omega arith
 
-pub page_small : (kind : Meaning) (shape : Shape) (r : Record) → IsPackable kind shape r → r.page < 2 ^ 56
-page_small kind shape r p =
+pub page_below : (count : ℕ) (kind : Meaning) (shape : Shape) (r : Record) → IsPackable kind shape r → 56 ≤ shape.page + count → r.page < 2 ^ count
+page_below count kind shape r p most =
     let low : shape.reach ≤ 56 = low_reach shape p.plain in
-    let less : shape.reach - shape.page ≤ 56 = omega arith in
-    let bound : 2 ^ (shape.reach - shape.page) ≤ 2 ^ 56 = pow_mono less in
+    let less : shape.reach - shape.page ≤ count = omega arith in
+    let bound : 2 ^ (shape.reach - shape.page) ≤ 2 ^ count = pow_mono less in
     let there : r.page < 2 ^ (shape.reach - shape.page) = ltb-true _ _ (and_parts _ _ p.within).1 in
     omega arith
+
+pub page_small : (kind : Meaning) (shape : Shape) (r : Record) → IsPackable kind shape r → r.page < 2 ^ 56
+page_small kind shape r p = page_below 56 kind shape r p (omega arith)
 
 -- a denial is one bit
 pub denied_small : (access : Access) (rights : Rights) → denial access rights ≤ 1
@@ -41,11 +44,11 @@ denied_small access rights = by (allows rights access)
     by true = omega arith
     by false = omega arith
 
--- so denials are below 64
-pub denials_small : (rights : Rights) → denials rights < 2 ^ 6
-denials_small rights =
-    let read = denied_small Read rights in
-    let write = denied_small Write rights in
+-- so what a gate word has of a record is below 64
+pub gate_small : (r : Record) → r.port < 8 → gate_bits r < 64
+gate_small r port =
+    let read = denied_small Read r.rights in
+    let write = denied_small Write r.rights in
     omega arith
 
 -- rights that are reading, writing or both are what their denials leave
@@ -75,49 +78,36 @@ left_are_rights word rights e = by (bits word 4 1 == 0) (bits word 5 1 == 0) e
     by false false e = cc
 
 -- and so are the rights of a record that is read
-pub read_are_rights : (port page word : ℕ) (b : Bool) (r : Record) → (if b then record_with port page (rights_left word) else None) ≡ Some r → IsTrue (are_rights r.rights)
-read_are_rights port page word false r e = cc
-read_are_rights port page word true r e = by (rights_left word) refl e
+pub read_are_rights : (zeros : Bool) (w page : ℕ) (r : Record) → gated zeros w page ≡ Some r → IsTrue (are_rights r.rights)
+read_are_rights zeros w page r e = by (zeros && (bits w 0 1 == 1)) (rights_left w) refl e
   where
-    by : (o : Option Rights) → rights_left word ≡ o → record_with port page o ≡ Some r → IsTrue (are_rights r.rights)
-    by None f e = cc
-    by (Some rights) f e =
-        let s : ◌≡◌ {A = Record} (record { port = port; page = page; rights = rights }) r = cc in
-        subst (λ (q : Record). IsTrue (are_rights q.rights)) s (left_are_rights word rights f)
+    by : (b : Bool) (o : Option Rights) → rights_left w ≡ o → (if b then record_with (bits w 1 3) page o else None) ≡ Some r → IsTrue (are_rights r.rights)
+    by false o f e = cc
+    by true None f e = cc
+    by true (Some rights) f e =
+        let s : ◌≡◌ {A = Record} (record { port = bits w 1 3; page = page; rights = rights }) r = cc in
+        subst (λ (q : Record). IsTrue (are_rights q.rights)) s (left_are_rights w rights f)
 
 -- a clear gate
-pub gate_clear : (word : ℕ) → word % 2 ≡ 0 → bits word 0 1 ≡ 0
-gate_clear word e = omega arith
+pub gate_clear : (zeros : Bool) (w page : ℕ) → w % 2 ≡ 0 → gated zeros w page ≡ None
+gate_clear false w page e = refl
+gate_clear true w page e =
+    let clear : bits w 0 1 ≡ 0 = omega arith in
+    ap (λ n. if n == 1 then record_with (bits w 1 3) page (rights_left w) else None) clear
 
--- the bits of each layout's gate word
-pub record PagesBits (a b q w : ℕ) : Type 0 where
-  pub gate : bits w 0 1 ≡ 1
-  pub low : bits w 1 3 ≡ 0
-  pub read : bits w 4 1 ≡ a
-  pub write : bits w 5 1 ≡ b
-  pub high : bits w 6 2 ≡ 0
-  pub page : bits w 8 56 ≡ q
-
-pub pages_bits : (a b q : ℕ) → a ≤ 1 → b ≤ 1 → q < 2 ^ 56 → PagesBits a b q (1 + (16 * a + 32 * b) + 256 * q)
-pages_bits a b q ha hb hq = record { gate = omega arith; low = omega arith; read = omega arith; write = omega arith; high = omega arith; page = omega arith }
-
-pub record RemapBits (p a b q w : ℕ) : Type 0 where
-  pub gate : bits w 0 1 ≡ 1
-  pub port : bits w 1 3 ≡ p
-  pub read : bits w 4 1 ≡ a
-  pub write : bits w 5 1 ≡ b
-  pub high : bits w 6 2 ≡ 0
-  pub page : bits w 8 56 ≡ q
-
-pub remap_bits : (p a b q : ℕ) → p < 8 → a ≤ 1 → b ≤ 1 → q < 2 ^ 56 → RemapBits p a b q (1 + 2 * p + (16 * a + 32 * b) + 256 * q)
-remap_bits p a b q hp ha hb hq = record { gate = omega arith; port = omega arith; read = omega arith; write = omega arith; high = omega arith; page = omega arith }
-
-pub record VectorsBits (p a b w : ℕ) : Type 0 where
-  pub gate : bits w 0 1 ≡ 1
-  pub port : bits w 1 3 ≡ p
-  pub read : bits w 4 1 ≡ a
-  pub write : bits w 5 1 ≡ b
-  pub high : bits w 6 58 ≡ 0
-
-pub vectors_bits : (p a b : ℕ) → p < 8 → a ≤ 1 → b ≤ 1 → VectorsBits p a b (1 + 2 * p + (16 * a + 32 * b))
-vectors_bits p a b hp ha hb = record { gate = omega arith; port = omega arith; read = omega arith; write = omega arith; high = omega arith }
+-- the record comes back from a word that ends in what a gate word has of it, and from its page
+pub gated_back : (kind : Meaning) (shape : Shape) (r : Record) → IsPackable kind shape r → (zeros : Bool) (w page : ℕ) → zeros ≡ true → w % 64 ≡ gate_bits r → page ≡ r.page → gated zeros w page ≡ Some r
+gated_back kind shape r p zeros w page clear ends at =
+    let few : r.port < 8 = port_small kind shape r p in
+    let reads = denied_small Read r.rights in
+    let writes = denied_small Write r.rights in
+    let gate : bits w 0 1 ≡ 1 = omega arith in
+    let port : bits w 1 3 ≡ r.port = omega arith in
+    let read : bits w 4 1 ≡ denial Read r.rights = omega arith in
+    let write : bits w 5 1 ≡ denial Write r.rights = omega arith in
+    let left : rights_left w ≡ Some r.rights = rights_back r.rights w p.rights read write in
+    ap (λ b. gated b w page) clear
+    ∙ ap (λ n. if n == 1 then record_with (bits w 1 3) page (rights_left w) else None) gate
+    ∙ ap (λ n. record_with n page (rights_left w)) port
+    ∙ ap (λ n. record_with r.port n (rights_left w)) at
+    ∙ ap (record_with r.port r.page) left

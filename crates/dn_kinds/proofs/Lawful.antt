@@ -7,8 +7,10 @@ use Rattle.dn_kind.specs.declared.shape.Shape.{Shape}
 use Rattle.dn_kind.specs.declared.unit_kind.Record.{Record}
 use Rattle.dn_kind.specs.Rights.{are_rights}
 use Rattle.dn_kind.specs.Kind.{Meaning, IsPackable, IsLawful, gate_word}
-use Rattle.dn_kinds.specs.Layouts.{bits, denial, denials, rights_left, record_with, unpack_word, pack_pages, spelled_pages, pages, pack_remap, spelled_remap, remap, pack_vectors, unpack_vectors, vectors}
-use Rattle.dn_kinds.proofs.Gates.{port_small, page_small, denied_small, denials_small, rights_back, read_are_rights, gate_clear, PagesBits, pages_bits, RemapBits, remap_bits, VectorsBits, vectors_bits}
+use Rattle.dn_kinds.specs.declared.shipped.ShippedKind.{ShippedKind}
+use Rattle.dn_kinds.specs.declared.shipped.ShippedKind.TheVariants.{Pages, Remap, Vectors, Radix}
+use Rattle.dn_kinds.specs.Layouts.{bits, gate_bits, gated, unpack_word, spelled_pages, pages, spelled_remap, remap, pack_vectors, unpack_vectors, vectors, spelled_radix, radix, shipped}
+use Rattle.dn_kinds.proofs.Gates.{port_small, page_below, page_small, denied_small, gate_small, read_are_rights, gate_clear, gated_back}
 
 -- the port of a kind with one port is 0
 lone_port : (kind : Meaning) (shape : Shape) (r : Record) → IsPackable kind shape r → shape.ports ≡ 1 → r.port ≡ 0
@@ -42,78 +44,105 @@ module _ (name : List ℕ) (fits : Shape → Bool) (word : Shape → Record → 
       word_rights (w ∷ []) r e = rights w r e
       word_rights (w ∷ v ∷ ws) r e = cc
 
-pages_back : (shape : Shape) (r : Record) → IsPackable pages shape r → unpack_word spelled_pages (pack_pages shape r) ≡ Some r
-pages_back shape r p =
-    let w : ℕ = 1 + denials r.rights + 256 * r.page in
-    let b : PagesBits (denial Read r.rights) (denial Write r.rights) r.page w = pages_bits _ _ _ (denied_small Read r.rights) (denied_small Write r.rights) (page_small pages shape r p) in
-    let left : rights_left w ≡ Some r.rights = rights_back r.rights w p.rights b.read b.write in
-    let one : shape.ports ≡ 1 = eqb-true shape.ports 1 p.fits in
-    let port : r.port ≡ 0 = lone_port pages shape r p one in
-    ap (λ n. if (n == 1) && (bits w 1 3 == 0) && (bits w 6 2 == 0) then record_with 0 (bits w 8 56) (rights_left w) else None) b.gate
-    ∙ ap (λ n. if true && (n == 0) && (bits w 6 2 == 0) then record_with 0 (bits w 8 56) (rights_left w) else None) b.low
-    ∙ ap (λ n. if n == 0 then record_with 0 (bits w 8 56) (rights_left w) else None) b.high
-    ∙ ap (λ n. record_with 0 n (rights_left w)) b.page
-    ∙ ap (record_with 0 r.page) left
-    ∙ ap (λ n. Some (record { port = n; page = r.page; rights = r.rights })) (sym port)
+-- bits that must be zero and are
+zero_bits : (n : ℕ) → n ≡ 0 → (n == 0) ≡ true
+zero_bits n e = rw e refl
 
-pages_small : (shape : Shape) (r : Record) → IsPackable pages shape r → 1 + denials r.rights + 256 * r.page < 2 ^ 64
+both_zero : (n m : ℕ) → n ≡ 0 → m ≡ 0 → (n == 0) && (m == 0) ≡ true
+both_zero n m e f = rw (e, f) refl
+
+pages_back : (shape : Shape) (r : Record) → IsPackable pages shape r → spelled_pages (gate_bits r + 256 * r.page) ≡ Some r
+pages_back shape r p =
+    let w : ℕ = gate_bits r + 256 * r.page in
+    let gate : gate_bits r < 64 = gate_small r (port_small pages shape r p) in
+    let page : r.page < 2 ^ 56 = page_small pages shape r p in
+    let port : r.port ≡ 0 = lone_port pages shape r p (eqb-true shape.ports 1 p.fits) in
+    let reads = denied_small Read r.rights in
+    let writes = denied_small Write r.rights in
+    let low : bits w 1 3 ≡ 0 = omega arith in
+    let high : bits w 6 2 ≡ 0 = omega arith in
+    gated_back pages shape r p _ w (bits w 8 56) (both_zero _ _ low high) (omega arith) (omega arith)
+
+pages_small : (shape : Shape) (r : Record) → IsPackable pages shape r → gate_bits r + 256 * r.page < 2 ^ 64
 pages_small shape r p =
-    let page = page_small pages shape r p in
-    let denied = denials_small r.rights in
+    let gate : gate_bits r < 64 = gate_small r (port_small pages shape r p) in
+    let page : r.page < 2 ^ 56 = page_small pages shape r p in
     omega arith
 
 pub pages_are_lawful : IsLawful pages
-pages_are_lawful = word_is_lawful pages.name pages.fits (λ shape r. 1 + denials r.rights + 256 * r.page) spelled_pages pages_small pages_back (λ w h. rw (gate_clear w h) refl) (λ w r e. read_are_rights 0 (bits w 8 56) w ((bits w 0 1 == 1) && (bits w 1 3 == 0) && (bits w 6 2 == 0)) r e)
+pages_are_lawful = word_is_lawful pages.name pages.fits (λ shape r. gate_bits r + 256 * r.page) spelled_pages pages_small pages_back (λ w h. gate_clear ((bits w 1 3 == 0) && (bits w 6 2 == 0)) w (bits w 8 56) h) (λ w r e. read_are_rights ((bits w 1 3 == 0) && (bits w 6 2 == 0)) w (bits w 8 56) r e)
 
-remap_back : (shape : Shape) (r : Record) → IsPackable remap shape r → unpack_word spelled_remap (pack_remap shape r) ≡ Some r
+remap_back : (shape : Shape) (r : Record) → IsPackable remap shape r → spelled_remap (gate_bits r + 256 * r.page) ≡ Some r
 remap_back shape r p =
-    let w : ℕ = 1 + 2 * r.port + denials r.rights + 256 * r.page in
-    let b : RemapBits r.port (denial Read r.rights) (denial Write r.rights) r.page w = remap_bits _ _ _ _ (port_small remap shape r p) (denied_small Read r.rights) (denied_small Write r.rights) (page_small remap shape r p) in
-    let left : rights_left w ≡ Some r.rights = rights_back r.rights w p.rights b.read b.write in
-    ap (λ n. if (n == 1) && (bits w 6 2 == 0) then record_with (bits w 1 3) (bits w 8 56) (rights_left w) else None) b.gate
-    ∙ ap (λ n. if n == 0 then record_with (bits w 1 3) (bits w 8 56) (rights_left w) else None) b.high
-    ∙ ap (λ n. record_with n (bits w 8 56) (rights_left w)) b.port
-    ∙ ap (λ n. record_with r.port n (rights_left w)) b.page
-    ∙ ap (record_with r.port r.page) left
+    let w : ℕ = gate_bits r + 256 * r.page in
+    let gate : gate_bits r < 64 = gate_small r (port_small remap shape r p) in
+    let page : r.page < 2 ^ 56 = page_small remap shape r p in
+    let high : bits w 6 2 ≡ 0 = omega arith in
+    gated_back remap shape r p _ w (bits w 8 56) (zero_bits _ high) (omega arith) (omega arith)
 
-remap_small : (shape : Shape) (r : Record) → IsPackable remap shape r → 1 + 2 * r.port + denials r.rights + 256 * r.page < 2 ^ 64
+remap_small : (shape : Shape) (r : Record) → IsPackable remap shape r → gate_bits r + 256 * r.page < 2 ^ 64
 remap_small shape r p =
-    let page = page_small remap shape r p in
-    let port = port_small remap shape r p in
-    let denied = denials_small r.rights in
+    let gate : gate_bits r < 64 = gate_small r (port_small remap shape r p) in
+    let page : r.page < 2 ^ 56 = page_small remap shape r p in
     omega arith
 
 pub remap_is_lawful : IsLawful remap
-remap_is_lawful = word_is_lawful remap.name remap.fits (λ shape r. 1 + 2 * r.port + denials r.rights + 256 * r.page) spelled_remap remap_small remap_back (λ w h. rw (gate_clear w h) refl) (λ w r e. read_are_rights (bits w 1 3) (bits w 8 56) w ((bits w 0 1 == 1) && (bits w 6 2 == 0)) r e)
+remap_is_lawful = word_is_lawful remap.name remap.fits (λ shape r. gate_bits r + 256 * r.page) spelled_remap remap_small remap_back (λ w h. gate_clear (bits w 6 2 == 0) w (bits w 8 56) h) (λ w r e. read_are_rights (bits w 6 2 == 0) w (bits w 8 56) r e)
+
+-- a page of `radix` has 4,096 bytes
+pub radix_page : (shape : Shape) (r : Record) → IsPackable radix shape r → r.page < 2 ^ 44
+radix_page shape r p =
+    let page : shape.page ≡ 12 = eqb-true shape.page 12 (and_parts _ _ p.fits).1 in
+    page_below 44 radix shape r p (omega arith)
+
+radix_back : (shape : Shape) (r : Record) → IsPackable radix shape r → spelled_radix (gate_bits r + 4096 * r.page) ≡ Some r
+radix_back shape r p =
+    let w : ℕ = gate_bits r + 4096 * r.page in
+    let gate : gate_bits r < 64 = gate_small r (port_small radix shape r p) in
+    let page : r.page < 2 ^ 44 = radix_page shape r p in
+    let low : bits w 6 6 ≡ 0 = omega arith in
+    let high : bits w 56 8 ≡ 0 = omega arith in
+    gated_back radix shape r p _ w (bits w 12 44) (both_zero _ _ low high) (omega arith) (omega arith)
+
+radix_small : (shape : Shape) (r : Record) → IsPackable radix shape r → gate_bits r + 4096 * r.page < 2 ^ 64
+radix_small shape r p =
+    let gate : gate_bits r < 64 = gate_small r (port_small radix shape r p) in
+    let page : r.page < 2 ^ 44 = radix_page shape r p in
+    omega arith
+
+pub radix_is_lawful : IsLawful radix
+radix_is_lawful = word_is_lawful radix.name radix.fits (λ shape r. gate_bits r + 4096 * r.page) spelled_radix radix_small radix_back (λ w h. gate_clear ((bits w 6 6 == 0) && (bits w 56 8 == 0)) w (bits w 12 44) h) (λ w r e. read_are_rights ((bits w 6 6 == 0) && (bits w 56 8 == 0)) w (bits w 12 44) r e)
 
 vectors_back : (shape : Shape) (r : Record) → IsPackable vectors shape r → unpack_vectors (pack_vectors shape r) ≡ Some r
 vectors_back shape r p =
-    let w : ℕ = 1 + 2 * r.port + denials r.rights in
-    let b : VectorsBits r.port (denial Read r.rights) (denial Write r.rights) w = vectors_bits _ _ _ (port_small vectors shape r p) (denied_small Read r.rights) (denied_small Write r.rights) in
-    let left : rights_left w ≡ Some r.rights = rights_back r.rights w p.rights b.read b.write in
-    ap (λ n. if (n == 1) && (bits w 6 58 == 0) then record_with (bits w 1 3) r.page (rights_left w) else None) b.gate
-    ∙ ap (λ n. if n == 0 then record_with (bits w 1 3) r.page (rights_left w) else None) b.high
-    ∙ ap (λ n. record_with n r.page (rights_left w)) b.port
-    ∙ ap (record_with r.port r.page) left
+    let w : ℕ = gate_bits r in
+    let gate : gate_bits r < 64 = gate_small r (port_small vectors shape r p) in
+    let high : bits w 6 58 ≡ 0 = omega arith in
+    gated_back vectors shape r p _ w r.page (zero_bits _ high) (omega arith) refl
 
 vectors_shut : (ws : List ℕ) → length ws ≡ 2 → gate_word ws % 2 ≡ 0 → unpack_vectors ws ≡ None
 vectors_shut [] n h = refl
 vectors_shut (a ∷ []) n h = refl
-vectors_shut (a ∷ w ∷ []) n h = rw (gate_clear w h) refl
+vectors_shut (a ∷ w ∷ []) n h = gate_clear (bits w 6 58 == 0) w a h
 vectors_shut (a ∷ w ∷ v ∷ ws) n h = refl
 
 vectors_rights : (ws : List ℕ) (r : Record) → unpack_vectors ws ≡ Some r → IsTrue (are_rights r.rights)
 vectors_rights [] r e = cc
 vectors_rights (a ∷ []) r e = cc
-vectors_rights (a ∷ w ∷ []) r e = read_are_rights (bits w 1 3) a w ((bits w 0 1 == 1) && (bits w 6 58 == 0)) r e
+vectors_rights (a ∷ w ∷ []) r e = read_are_rights (bits w 6 58 == 0) w a r e
 vectors_rights (a ∷ w ∷ v ∷ ws) r e = cc
 
 vectors_small : (shape : Shape) (r : Record) → IsPackable vectors shape r → IsTrue (list_all (λ w. nat_lt w (2 ^ 64)) (pack_vectors shape r))
 vectors_small shape r p =
     let page = page_small vectors shape r p in
-    let port = port_small vectors shape r p in
-    let denied = denials_small r.rights in
-    rw (lt-ltb r.page (2 ^ 64) (omega arith), lt-ltb (1 + 2 * r.port + denials r.rights) (2 ^ 64) (omega arith)) refl
+    let gate : gate_bits r < 64 = gate_small r (port_small vectors shape r p) in
+    rw (lt-ltb r.page (2 ^ 64) (omega arith), lt-ltb (gate_bits r) (2 ^ 64) (omega arith)) refl
 
 pub vectors_are_lawful : IsLawful vectors
 vectors_are_lawful = lawful vectors (lit≤ tt) (lit≤ tt) (λ shape r p. refl) vectors_small vectors_back vectors_shut vectors_rights
+
+pub shipped_are_lawful : (kind : ShippedKind) → IsLawful (shipped kind)
+shipped_are_lawful Pages = pages_are_lawful
+shipped_are_lawful Remap = remap_is_lawful
+shipped_are_lawful Vectors = vectors_are_lawful
+shipped_are_lawful Radix = radix_is_lawful

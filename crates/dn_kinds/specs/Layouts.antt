@@ -1,5 +1,5 @@
 -- The layouts of the shipped kinds. Bits of a word are counted from 0, the lowest.
-use Rattle.std.specs.Prelude.{ℕ, ◌+◌, ◌*◌, ◌/◌, ◌%◌, ◌^◌, ◌&&◌, nat_le, ◌==◌, List, [], ◌∷◌, Option, Some, None, codes, if◌then◌else◌}
+use Rattle.std.specs.Prelude.{ℕ, ◌+◌, ◌*◌, ◌/◌, ◌%◌, ◌^◌, Bool, ◌&&◌, nat_le, ◌==◌, List, [], ◌∷◌, Option, Some, None, codes, if◌then◌else◌}
 use Rattle.dn_kind.specs.declared.rights.Access.{Access}
 use Rattle.dn_kind.specs.declared.rights.Access.TheVariants.{Read, Write}
 use Rattle.dn_kind.specs.declared.rights.Rights.{Rights}
@@ -7,6 +7,8 @@ use Rattle.dn_kind.specs.declared.shape.Shape.{Shape}
 use Rattle.dn_kind.specs.declared.unit_kind.Record.{Record}
 use Rattle.dn_kind.specs.Rights.{allows, both_rights}
 use Rattle.dn_kind.specs.Kind.{Meaning}
+use Rattle.dn_kinds.specs.declared.shipped.ShippedKind.{ShippedKind}
+use Rattle.dn_kinds.specs.declared.shipped.ShippedKind.TheVariants.{Pages, Remap, Vectors, Radix}
 
 -- so many bits of a word, from a bit on, as a number
 abbrev pub bits : ℕ → ℕ → ℕ → ℕ
@@ -46,17 +48,30 @@ unpack_word spelled [] = None
 unpack_word spelled (w ∷ []) = spelled w
 unpack_word spelled (w ∷ v ∷ ws) = None
 
--- the word of a record of `pages`: bit 0 the gate, bits 1 to 3 zero, bits 4 and 5 the denials, bits
--- 6 and 7 zero, bits 8 to 63 the output page; the port is 0
-abbrev pub pack_pages : Shape → Record → List ℕ
-pack_pages shape r = (1 + denials r.rights + 2 ^ 8 * r.page) ∷ []
+-- what a gate word has of a record: bit 0 the gate, bits 1 to 3 the port, bits 4 and 5 the denials
+abbrev pub gate_bits : Record → ℕ
+gate_bits r = 1 + 2 ^ 1 * r.port + denials r.rights
 
--- the record that a word spells in `pages`
-abbrev pub spelled_pages : ℕ → Option Record
-spelled_pages w =
-    if (bits w 0 1 == 1) && (bits w 1 3 == 0) && (bits w 6 2 == 0)
-    then record_with 0 (bits w 8 56) (rights_left w)
+-- the record of a gate word and an output page, where the bits that must be zero are, the gate is
+-- set, and an access is left
+abbrev pub gated : Bool → ℕ → ℕ → Option Record
+gated zeros w page =
+    if zeros && (bits w 0 1 == 1)
+    then record_with (bits w 1 3) page (rights_left w)
     else None
+
+-- the word of a record that is a gate word with the output page from a bit on
+abbrev pub page_word : ℕ → Shape → Record → List ℕ
+page_word first shape r = (gate_bits r + 2 ^ first * r.page) ∷ []
+
+-- a shape has 1 to 8 ports
+abbrev pub has_ports : Shape → Bool
+has_ports shape = nat_le 1 shape.ports && nat_le shape.ports 8
+
+-- the record that a word spells in `pages`: bits 1 to 3 zero, so that the port is 0, bits 6 and 7
+-- zero, bits 8 to 63 the output page
+abbrev pub spelled_pages : ℕ → Option Record
+spelled_pages w = gated ((bits w 1 3 == 0) && (bits w 6 2 == 0)) w (bits w 8 56)
 
 -- the kind `pages`
 abbrev pub pages : Meaning
@@ -64,44 +79,33 @@ pages = record {
   name = codes "pages";
   words = 1;
   fits = λ shape. shape.ports == 1;
-  pack = pack_pages;
+  pack = page_word 8;
   unpack = unpack_word spelled_pages;
 }
 
--- the word of a record of `remap`: as in `pages`, but for the port in bits 1 to 3
-abbrev pub pack_remap : Shape → Record → List ℕ
-pack_remap shape r = (1 + 2 ^ 1 * r.port + denials r.rights + 2 ^ 8 * r.page) ∷ []
-
--- the record that a word spells in `remap`
+-- the record that a word spells in `remap`: bits 6 and 7 zero, bits 8 to 63 the output page
 abbrev pub spelled_remap : ℕ → Option Record
-spelled_remap w =
-    if (bits w 0 1 == 1) && (bits w 6 2 == 0)
-    then record_with (bits w 1 3) (bits w 8 56) (rights_left w)
-    else None
+spelled_remap w = gated (bits w 6 2 == 0) w (bits w 8 56)
 
 -- the kind `remap`
 abbrev pub remap : Meaning
 remap = record {
   name = codes "remap";
   words = 1;
-  fits = λ shape. nat_le 1 shape.ports && nat_le shape.ports 8;
-  pack = pack_remap;
+  fits = has_ports;
+  pack = page_word 8;
   unpack = unpack_word spelled_remap;
 }
 
--- the words of a record of `vectors`: word 0 the output address; in word 1 bit 0 the gate, bits 1
--- to 3 the port, bits 4 and 5 the denials, bits 6 to 63 zero
+-- the words of a record of `vectors`: word 0 the output address, word 1 the gate word
 abbrev pub pack_vectors : Shape → Record → List ℕ
-pack_vectors shape r = r.page ∷ (1 + 2 ^ 1 * r.port + denials r.rights) ∷ []
+pack_vectors shape r = r.page ∷ gate_bits r ∷ []
 
--- the record that two words spell in `vectors`
+-- the record that two words spell in `vectors`: bits 6 to 63 of word 1 zero
 abbrev pub unpack_vectors : List ℕ → Option Record
 unpack_vectors [] = None
 unpack_vectors (a ∷ []) = None
-unpack_vectors (a ∷ w ∷ []) =
-    if (bits w 0 1 == 1) && (bits w 6 58 == 0)
-    then record_with (bits w 1 3) a (rights_left w)
-    else None
+unpack_vectors (a ∷ w ∷ []) = gated (bits w 6 58 == 0) w a
 unpack_vectors (a ∷ w ∷ v ∷ ws) = None
 
 -- the kind `vectors`
@@ -109,7 +113,29 @@ abbrev pub vectors : Meaning
 vectors = record {
   name = codes "vectors";
   words = 2;
-  fits = λ shape. nat_le 1 shape.ports && nat_le shape.ports 8 && (shape.page == 0);
+  fits = λ shape. has_ports shape && (shape.page == 0);
   pack = pack_vectors;
   unpack = unpack_vectors;
 }
+
+-- the record that a word spells in `radix`: bits 6 to 11 zero, bits 12 to 55 the output page, bits
+-- 56 to 63 zero
+abbrev pub spelled_radix : ℕ → Option Record
+spelled_radix w = gated ((bits w 6 6 == 0) && (bits w 56 8 == 0)) w (bits w 12 44)
+
+-- the kind `radix`
+abbrev pub radix : Meaning
+radix = record {
+  name = codes "radix";
+  words = 1;
+  fits = λ shape. has_ports shape && (shape.page == 12);
+  pack = page_word 12;
+  unpack = unpack_word spelled_radix;
+}
+
+-- what a shipped kind means
+abbrev pub shipped : ShippedKind → Meaning
+shipped Pages = pages
+shipped Remap = remap
+shipped Vectors = vectors
+shipped Radix = radix

@@ -1,11 +1,9 @@
-//! The kinds of units that the program knows: [`pages::Pages`], [`remap::Remap`] and
-//! [`vectors::Vectors`].
+//! The kinds of units that the program ships: those of [`shipped::ShippedKind`].
 //!
-//! Each has its layout in its own page. In all three bit 0 of the last word is the gate, and bits 4
-//! and 5 of that word deny reading and writing; a record that allows both has neither bit.
+//! In all of them bit 0 of the last word is the gate, bits 1 to 3 of that word are the port, and
+//! bits 4 and 5 deny reading and writing; a record that allows both has neither bit. What differs is
+//! where the output page stands, and which shapes the kind fits.
 #![tactic(auto)]
 
 mod layout;
-pub mod pages;
-pub mod remap;
-pub mod vectors;
+pub mod shipped;

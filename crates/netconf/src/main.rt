@@ -6,9 +6,7 @@ use dn_base::sink::Sink;
 use dn_base::source::Source;
 use dn_base::streams::{StdSink, StdSource};
 use dn_kind::kinds::Kinds;
-use dn_kinds::pages::{Pages, pages_are_lawful};
-use dn_kinds::remap::{Remap, remap_is_lawful};
-use dn_kinds::vectors::{Vectors, vectors_are_lawful};
+use dn_kinds::shipped::{ShippedKind, shipped_are_lawful};
 use dn_tool::run;
 use dn_tool::words::Words;
 use std::alloc::{AllocError, Global};
@@ -49,8 +47,8 @@ fn words_of<R: Env + AllocGlobal>(rt: &R) -> Result<Words, WordsFault> {
     Ok(words)
 }
 
-/// Answers the words with the kinds of units that the program knows: `pages`, `remap` and `vectors`,
-/// in this order. The tables are emulated in memory, and keep no log. Want of memory for kinds and
+/// Answers the words with the kinds of units that the program knows: `pages`, `remap`, `vectors` and
+/// `radix`, in this order. The tables are emulated in memory, and keep no log. Want of memory for kinds and
 /// tables is an error, and then nothing was read or written.
 fn answer<S: Source, K: Sink>(
     alloc: Global,
@@ -58,13 +56,12 @@ fn answer<S: Source, K: Sink>(
     source: &mut S,
     sink: &mut K,
 ) -> Result<u8, AllocError> {
-    pages_are_lawful();
-    remap_is_lawful();
-    vectors_are_lawful();
+    shipped_are_lawful();
     let mut kinds = Kinds::none(alloc);
-    kinds.add(Box::new(alloc, Pages)?)?;
-    kinds.add(Box::new(alloc, Remap)?)?;
-    kinds.add(Box::new(alloc, Vectors)?)?;
+    kinds.add(Box::new(alloc, ShippedKind::Pages)?)?;
+    kinds.add(Box::new(alloc, ShippedKind::Remap)?)?;
+    kinds.add(Box::new(alloc, ShippedKind::Vectors)?)?;
+    kinds.add(Box::new(alloc, ShippedKind::Radix)?)?;
     let mut device = MemTables::new(alloc, 0, Vec::new(alloc))?;
     Ok(run::run(alloc, words, &kinds, source, sink, &mut device))
 }

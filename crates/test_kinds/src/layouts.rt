@@ -6,9 +6,7 @@ use crate::shape;
 use dn_kind::rights::Rights;
 use dn_kind::shape::Shape;
 use dn_kind::unit_kind::{Record, UnitKind};
-use dn_kinds::pages::Pages;
-use dn_kinds::remap::Remap;
-use dn_kinds::vectors::Vectors;
+use dn_kinds::shipped::ShippedKind::{Pages, Radix, Remap, Vectors};
 
 /// A record.
 fn to(port: u8, page: u64, rights: Rights) -> Record
@@ -80,6 +78,26 @@ fn reads_words_of_vectors(rt: HostRuntime) {
 }
 
 #[test]
+fn reads_words_of_radix(rt: HostRuntime) {
+    let last = 0x00ff_ffff_ffff_f001;
+    let rows = [
+        (0x80004001, spelled(0, 0x80004, Rights::both())),
+        (0x8000401f, spelled(7, 0x80004, Rights::WRITE)),
+        (0x80004027, spelled(3, 0x80004, Rights::READ)),
+        (last, spelled(0, 0xfff_ffff_ffff, Rights::both())),
+        (0x80004031, None),
+        (0x80004000, None),
+        (0x80004041, None),
+        (0x80004801, None),
+        (0x0100_0000_8000_4001, None),
+        (0x8000_0000_8000_4001, None),
+    ];
+    for (word, wanted) in rows {
+        assert_eq!(rt; Radix.unpack(&[word]), wanted, "{word:x}");
+    }
+}
+
+#[test]
 fn packs_records(rt: HostRuntime) {
     let mut words = [u64::MAX; 4];
     let both = to(0, 0x80004, Rights::both());
@@ -91,24 +109,29 @@ fn packs_records(rt: HostRuntime) {
     let reading = to(2, 0x20, Rights::READ);
     Vectors.pack(wide(0, 8), reading, &mut words);
     assert_eq!(rt; words, [0x20, 0x25, 0, 0]);
+    Radix.pack(wide(12, 8), writing, &mut words);
+    assert_eq!(rt; words, [0x80004017, 0, 0, 0]);
 }
 
 #[test]
 fn fits_shapes(rt: HostRuntime) {
-    for (page, ports, pages, remap, vectors) in [
-        (12, 0, false, false, false),
-        (12, 1, true, true, false),
-        (12, 2, false, true, false),
-        (12, 8, false, true, false),
-        (12, 9, false, false, false),
-        (0, 1, true, true, true),
-        (0, 8, false, true, true),
-        (0, 9, false, false, false),
-        (1, 8, false, true, false),
+    for (page, ports, pages, remap, vectors, radix) in [
+        (12, 0, false, false, false, false),
+        (12, 1, true, true, false, true),
+        (12, 2, false, true, false, true),
+        (12, 8, false, true, false, true),
+        (12, 9, false, false, false, false),
+        (0, 1, true, true, true, false),
+        (0, 8, false, true, true, false),
+        (0, 9, false, false, false, false),
+        (1, 8, false, true, false, false),
+        (11, 1, true, true, false, false),
+        (13, 1, true, true, false, false),
     ] {
         let shape = wide(page, ports);
         assert_eq!(rt; Pages.fits(shape), pages, "pages, {page}, {ports}");
         assert_eq!(rt; Remap.fits(shape), remap, "remap, {page}, {ports}");
         assert_eq!(rt; Vectors.fits(shape), vectors, "vectors, {page}, {ports}");
+        assert_eq!(rt; Radix.fits(shape), radix, "radix, {page}, {ports}");
     }
 }

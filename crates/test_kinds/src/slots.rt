@@ -3,31 +3,35 @@
 use crate::{shape, unit_of};
 use dn_kind::rights::Rights;
 use dn_kind::slots::held_record;
-use dn_kind::unit_kind::Record;
-use dn_kinds::remap::Remap;
+use dn_kind::unit_kind::{Record, UnitKind};
+use dn_kinds::shipped::ShippedKind::{Radix, Remap};
 use std::test::Fail;
-use test_plans::REMAP;
+use test_plans::{RADIX, REMAP};
+
+/// A record of both rights that is held.
+fn held(port: u8, page: u64) -> Option<Record> {
+    let rights = Rights::both();
+    Some(Record { port, page, rights })
+}
 
 #[test]
 fn holds_records_within_the_unit(rt: HostRuntime) -> Result<(), Fail> {
     // Outputs are below 2^32 and pages have 2^12 addresses, so output pages are below 0x100000.
-    let unit = unit_of(rt.alloc(), REMAP, shape(12, 16, 32, 2))?;
-    for (word, wanted) in [
-        (0x8000403, Some((1, 0x80004))),
-        (0x8000405, None),
-        (0xfffff01, Some((0, 0xfffff))),
-        (0x10000001, None),
-        (0x8000402, None),
+    for (number, kind, word, wanted) in [
+        (REMAP, Remap, 0x8000403, held(1, 0x80004)),
+        (REMAP, Remap, 0x8000405, None),
+        (REMAP, Remap, 0xfffff01, held(0, 0xfffff)),
+        (REMAP, Remap, 0x10000001, None),
+        (REMAP, Remap, 0x8000402, None),
+        (RADIX, Radix, 0x80004003, held(1, 0x80004)),
+        (RADIX, Radix, 0x80004005, None),
+        (RADIX, Radix, 0xfffff001, held(0, 0xfffff)),
+        (RADIX, Radix, 0x100000001, None),
+        (RADIX, Radix, 0x80004002, None),
     ] {
-        let wanted = match wanted {
-            Some((port, page)) => Some(Record {
-                port,
-                page,
-                rights: Rights::both(),
-            }),
-            None => None,
-        };
-        assert_eq!(rt; held_record(&unit, &Remap, &[word]), wanted, "{word:x}");
+        let unit = unit_of(rt.alloc(), number, shape(12, 16, 32, 2))?;
+        assert!(rt; kind.words() == 1);
+        assert_eq!(rt; held_record(&unit, &kind, &[word]), wanted, "{word:x}");
     }
     Ok(())
 }

@@ -10,15 +10,14 @@ use dn_kind::kinds::Kinds;
 use dn_kind::shape::Shape;
 use dn_kind::unit_kind::UnitKind;
 use dn_kind::units::{UnitFault, check_units};
-use dn_kinds::pages::{Pages, pages_are_lawful};
-use dn_kinds::remap::{Remap, remap_is_lawful};
-use dn_kinds::vectors::{Vectors, vectors_are_lawful};
+use dn_kinds::shipped::ShippedKind::{Pages, Radix, Remap, Vectors};
+use dn_kinds::shipped::shipped_are_lawful;
 use dn_net::net::Net;
 use dn_net::node::{Role, Unit};
 use std::alloc::Global;
 use std::process::Abort;
 use std::test::Fail;
-use test_plans::{PAGES, REMAP, VECTORS, bare_node, program_kinds};
+use test_plans::{PAGES, RADIX, REMAP, VECTORS, bare_node, program_kinds};
 
 /// Adds a unit, or a plain node, whose kind is one of so many, and answers its number. `None`, and an unchanged
 /// net, where the name is taken or the net is full.
@@ -88,17 +87,21 @@ fn checked(
 #[test]
 fn lists_kinds_in_their_order(rt: HostRuntime) -> Result<(), Fail> {
     let alloc = rt.alloc();
-    pages_are_lawful();
-    remap_is_lawful();
-    vectors_are_lawful();
+    shipped_are_lawful();
     let mut kinds = Kinds::none(alloc);
     assert_eq!(rt; kinds.len(), 0);
     kinds.add(Box::new(alloc, Pages)?)?;
     assert_eq!(rt; kinds.len(), 1);
     kinds.add(Box::new(alloc, Remap)?)?;
     kinds.add(Box::new(alloc, Vectors)?)?;
-    assert_eq!(rt; kinds.len(), 3);
-    for (number, name, words) in [(0, "pages", 1), (1, "remap", 1), (2, "vectors", 2)] {
+    kinds.add(Box::new(alloc, Radix)?)?;
+    assert_eq!(rt; kinds.len(), 4);
+    for (number, name, words) in [
+        (0, "pages", 1),
+        (1, "remap", 1),
+        (2, "vectors", 2),
+        (3, "radix", 1),
+    ] {
         assert!(rt; number < kinds.len());
         assert_eq!(rt; kinds.kind(number).name(), name);
         assert_eq!(rt; kinds.kind(number).words(), words);
@@ -118,6 +121,7 @@ fn takes_units_up_to_each_limit(rt: HostRuntime) -> Result<(), Fail> {
         (REMAP, shape(12, 16, 32, 8), Ok(())),
         (PAGES, shape(12, 16, 32, 1), Ok(())),
         (VECTORS, shape(0, 16, 32, 8), Ok(())),
+        (RADIX, shape(12, 16, 12, 8), Ok(())),
         (REMAP, shape(12, 262_145, 32, 1), refused),
         (REMAP, shape(12, 0, 32, 1), refused),
         (REMAP, shape(41, 1, 56, 1), refused),
@@ -127,6 +131,8 @@ fn takes_units_up_to_each_limit(rt: HostRuntime) -> Result<(), Fail> {
         (REMAP, shape(12, 16, 32, 0), refused),
         (PAGES, shape(12, 16, 32, 2), refused),
         (VECTORS, shape(1, 16, 32, 8), refused),
+        (RADIX, shape(11, 16, 32, 8), refused),
+        (RADIX, shape(13, 16, 32, 8), refused),
     ] {
         let given = checked(&rt, rt.alloc(), right, (kind, shape))?;
         assert_eq!(rt; given, wanted, "{kind} {shape:?}");

@@ -20,17 +20,19 @@ pub const REMAP: u8 = 1;
 /// The number of the kind `vectors`.
 pub const VECTORS: u8 = 2;
 
-/// The kinds of the program: `pages`, `remap` and `vectors`. Want of memory leaves the function.
+/// The number of the kind `radix`.
+pub const RADIX: u8 = 3;
+
+/// The kinds of the program: `pages`, `remap`, `vectors` and `radix`. Want of memory leaves the function.
 #[macro_export]
 macro_rules! program_kinds {
     ($alloc:expr) => {{
-        dn_kinds::pages::pages_are_lawful();
-        dn_kinds::remap::remap_is_lawful();
-        dn_kinds::vectors::vectors_are_lawful();
+        dn_kinds::shipped::shipped_are_lawful();
         let mut kinds = dn_kind::kinds::Kinds::none($alloc);
-        kinds.add(Box::new($alloc, dn_kinds::pages::Pages)?)?;
-        kinds.add(Box::new($alloc, dn_kinds::remap::Remap)?)?;
-        kinds.add(Box::new($alloc, dn_kinds::vectors::Vectors)?)?;
+        kinds.add(Box::new($alloc, dn_kinds::shipped::ShippedKind::Pages)?)?;
+        kinds.add(Box::new($alloc, dn_kinds::shipped::ShippedKind::Remap)?)?;
+        kinds.add(Box::new($alloc, dn_kinds::shipped::ShippedKind::Vectors)?)?;
+        kinds.add(Box::new($alloc, dn_kinds::shipped::ShippedKind::Radix)?)?;
         kinds
     }};
 }
@@ -39,16 +41,16 @@ macro_rules! program_kinds {
 #[macro_export]
 macro_rules! sure_kinds {
     ($rt:expr, $alloc:expr) => {{
-        dn_kinds::pages::pages_are_lawful();
-        dn_kinds::remap::remap_is_lawful();
-        dn_kinds::vectors::vectors_are_lawful();
+        dn_kinds::shipped::shipped_are_lawful();
         let mut kinds = dn_kind::kinds::Kinds::none($alloc);
-        let pages = Box::new($alloc, dn_kinds::pages::Pages).expect($rt, "memory");
+        let pages = Box::new($alloc, dn_kinds::shipped::ShippedKind::Pages).expect($rt, "memory");
         kinds.add(pages).expect($rt, "memory");
-        let remap = Box::new($alloc, dn_kinds::remap::Remap).expect($rt, "memory");
+        let remap = Box::new($alloc, dn_kinds::shipped::ShippedKind::Remap).expect($rt, "memory");
         kinds.add(remap).expect($rt, "memory");
-        let vectors = Box::new($alloc, dn_kinds::vectors::Vectors).expect($rt, "memory");
+        let vectors = Box::new($alloc, dn_kinds::shipped::ShippedKind::Vectors).expect($rt, "memory");
         kinds.add(vectors).expect($rt, "memory");
+        let radix = Box::new($alloc, dn_kinds::shipped::ShippedKind::Radix).expect($rt, "memory");
+        kinds.add(radix).expect($rt, "memory");
         kinds
     }};
 }

@@ -4,8 +4,8 @@ use crate::images::{image_with, words_with};
 use crate::unit_of;
 use crate::wide::{Wide, wide_is_lawful};
 use dn_kind::rights::Rights;
-use dn_kind::unit_kind::Record;
-use dn_kinds::pages::{Pages, pages_are_lawful};
+use dn_kind::unit_kind::{Record, UnitKind};
+use dn_kinds::shipped::{ShippedKind, shipped_are_lawful};
 use dn_radix::build::build;
 use dn_radix::fault::Bad;
 use dn_radix::laws;
@@ -21,20 +21,35 @@ fn page_at(
     slots: u32,
     slot: u32,
 ) -> Result<Option<Record>, Bad> {
-    pages_are_lawful();
+    found_at(rt, alloc, ShippedKind::Pages, image, slots, slot)
+}
+
+/// What a walk finds at a slot of a unit of so many slots, of a kind with one word for each record.
+fn found_at(
+    rt: &impl Abort,
+    alloc: Global,
+    kind: ShippedKind,
+    image: &[u8],
+    slots: u32,
+    slot: u32,
+) -> Result<Option<Record>, Bad> {
+    shipped_are_lawful();
     let unit = unit_of(alloc, slots).expect(rt, "memory");
     assert!(rt; unit.has_plain_shape());
+    assert!(rt; kind.words() == 1);
     assert!(rt; slot < slots && slots <= 262_144 && image.len() <= 4_194_304);
-    walk(image, &unit, &Pages, slot)
+    walk(image, &unit, &kind, slot)
 }
 
 /// The record of an output page, with both rights.
 fn page(page: u64) -> Result<Option<Record>, Bad> {
-    Ok(Some(Record {
-        port: 0,
-        page,
-        rights: Rights::both(),
-    }))
+    page_for(page, Rights::both())
+}
+
+/// The record of an output page.
+fn page_for(page: u64, rights: Rights) -> Result<Option<Record>, Bad> {
+    let port = 0;
+    Ok(Some(Record { port, page, rights }))
 }
 
 #[test]
@@ -53,6 +68,34 @@ fn the_tree_of_a_unit_is_walked(rt: HostRuntime) {
         (600, Ok(None)),
     ] {
         let found = page_at(&rt, alloc, image.as_slice(), 1024, slot);
+        assert_eq!(rt; found, wanted, "{slot}");
+    }
+}
+
+#[test]
+fn a_tree_of_output_addresses_is_walked(rt: HostRuntime) {
+    let alloc = rt.alloc();
+    let given = [
+        (0, 0x80004001),
+        (1, 0x80005011),
+        (2, 0x80005021),
+        (3, 0x80005003),
+        (600, 0x80006041),
+        (1023, 0x80007001),
+    ];
+    let words = words_with(&rt, alloc, 1024, &given);
+    assert!(rt; words.len() <= 1_048_576);
+    let image = build(alloc, words.as_slice(), 3).expect(&rt, "a tree");
+    for (slot, wanted) in [
+        (0, page(0x80004)),
+        (1, page_for(0x80005, Rights::WRITE)),
+        (2, page_for(0x80005, Rights::READ)),
+        (3, Ok(None)),
+        (600, Ok(None)),
+        (1023, page(0x80007)),
+    ] {
+        let radix = ShippedKind::Radix;
+        let found = found_at(&rt, alloc, radix, image.as_slice(), 1024, slot);
         assert_eq!(rt; found, wanted, "{slot}");
     }
 }

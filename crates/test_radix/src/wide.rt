@@ -5,7 +5,7 @@ ghost use Rattle.test_radix.specs.Wide.{wide};
 
 use dn_kind::shape::Shape;
 use dn_kind::unit_kind::{Record, UnitKind};
-use dn_kinds::vectors::Vectors;
+use dn_kinds::shipped::ShippedKind::Vectors;
 
 /// Units as those of the kind `vectors`, with a word more before the two of each record. It is 0 in
 /// the words of a record, and says nothing.
