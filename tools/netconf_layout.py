@@ -9,7 +9,7 @@ from dataclasses import dataclass, field
 from netconf_source import TOP, Unreadable, nodes_of, noted_nodes_of
 from netconf_text import Trouble, refusal_of, run, views_of
 
-WORDS = {"pages": 1, "remap": 1, "vectors": 2}
+WORDS = {"pages": 1, "remap": 1, "vectors": 2, "radix": 1}
 """How many words a record of each kind has."""
 
 MOST_AGENTS = 64

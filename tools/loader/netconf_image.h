@@ -28,7 +28,7 @@
 #define NETCONF_LAST_ADDRESS 0xffffffffffffffULL /* of a node: 2^56 - 1 */
 
 /* The kinds of units: what their words hold. */
-enum netconf_kind { NETCONF_PAGES, NETCONF_REMAP, NETCONF_VECTORS };
+enum netconf_kind { NETCONF_PAGES, NETCONF_REMAP, NETCONF_VECTORS, NETCONF_RADIX };
 
 /* Addresses `first` to `last`, both included, of an agent or a port: `first` comes to input `input` of the unit `unit`, the
  * next address to the next input, and so on. Units are counted from 0 in the order of the layout. */
@@ -124,7 +124,7 @@ static inline uint64_t netconf_number(const unsigned char *bytes, unsigned count
 /* How many words a record of a unit has; 0 where its kind is unknown. */
 static inline unsigned netconf_words_of(const struct netconf_unit *unit)
 {
-    return unit->kind == NETCONF_VECTORS ? 2 : unit->kind <= NETCONF_REMAP ? 1 : 0;
+    return unit->kind == NETCONF_VECTORS ? 2 : unit->kind <= NETCONF_RADIX ? 1 : 0;
 }
 
 static inline struct netconf_problem netconf_problem_at(enum netconf_fault fault, uint64_t place)
@@ -195,15 +195,18 @@ static inline uint64_t netconf_raw_word(const struct netconf_image *image, unsig
 static inline int netconf_slot(const struct netconf_image *image, unsigned unit, uint32_t slot, struct netconf_record *record)
 {
     const struct netconf_unit *shape;
-    uint64_t gate, page;
-    unsigned words, must_be_clear;
+    uint64_t gate, page, must_be_clear;
+    unsigned words;
     if (unit >= image->layout->unit_count || slot >= image->layout->units[unit].slots) return 0;
     shape = &image->layout->units[unit];
     words = netconf_words_of(shape);
     gate = netconf_raw_word(image, unit, slot, words - 1);
-    must_be_clear = shape->kind == NETCONF_PAGES ? 0xce : 0xc0;
-    if (!(gate & 1) || (gate & must_be_clear) || (shape->kind == NETCONF_VECTORS && gate >> 8)) return 0;
-    page = words == 2 ? netconf_raw_word(image, unit, slot, 0) : gate >> 8;
+    must_be_clear = shape->kind == NETCONF_PAGES   ? 0xce
+                    : shape->kind == NETCONF_REMAP ? 0xc0
+                    : shape->kind == NETCONF_RADIX ? 0xff00000000000fc0ULL
+                                                   : ~0x3fULL;
+    if (!(gate & 1) || (gate & must_be_clear)) return 0;
+    page = words == 2 ? netconf_raw_word(image, unit, slot, 0) : gate >> (shape->kind == NETCONF_RADIX ? 12 : 8);
     record->port = (uint8_t)(gate >> 1 & 7);
     record->may_read = (uint8_t)(~gate >> 4 & 1);
     record->may_write = (uint8_t)(~gate >> 5 & 1);

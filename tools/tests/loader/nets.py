@@ -44,7 +44,8 @@ class Net:
             unit = f"{name}.u{depth}"
             slots = chance.randrange(1, min(room, 24) + 1)
             room = max(room // slots, 1)
-            kind, width = chance.choice(("pages", "remap")), chance.randrange(1, len(ports) + 1)
+            kinds = ("pages", "remap", "radix") if page == 12 else ("pages", "remap")
+            kind, width = chance.choice(kinds), chance.randrange(1, len(ports) + 1)
             chosen = ports[:1] if kind == "pages" else chance.sample(ports, width)
             self.lines.append(f"unit {unit} kind {kind} page {page} slots {slots} reach {max(reach, page)} to {', '.join(chosen)};")
             inner_size, inner_page = slots << page, page

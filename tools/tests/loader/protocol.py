@@ -1,6 +1,6 @@
 """What the harness is asked and answers: layouts, images and lists as lines of numbers."""
 
-KIND = {"pages": 0, "remap": 1, "vectors": 2}
+KIND = {"pages": 0, "remap": 1, "vectors": 2, "radix": 3}
 
 
 def view_numbers(view):

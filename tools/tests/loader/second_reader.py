@@ -1,6 +1,5 @@
 """A second reader of images, in the words of docs/image.md: faults, records and lookups. It shares no code with the tools."""
 
-KINDS = ("pages", "remap", "vectors")
 LAST = (1 << 56) - 1
 KEPT = [None, []]
 
@@ -59,13 +58,13 @@ def record(layout, data, place, slot):
 def record_of(unit, words, version):
     """The record that words spell in a unit."""
     gate = words[-1]
-    bits = [gate >> bit & 1 for bit in range(8)]
-    if not bits[0] or bits[6] or bits[7] or (unit.kind == "pages" and (bits[1] or bits[2] or bits[3])):
-        return None
-    if unit.kind == "vectors" and gate >> 8:
+    bits = [gate >> bit & 1 for bit in range(64)]
+    zeros = {"pages": (1, 2, 3, 6, 7), "remap": (6, 7), "vectors": range(6, 64), "radix": (*range(6, 12), *range(56, 64))}
+    if not bits[0] or any(bits[bit] for bit in zeros[unit.kind]):
         return None
     port = bits[1] + 2 * bits[2] + 4 * bits[3]
-    output = words[0] if unit.kind == "vectors" else (gate >> 8) * 2 ** unit.page
+    first = {"vectors": 64, "radix": 12}.get(unit.kind, 8)
+    output = words[0] if unit.kind == "vectors" else sum(bits[bit] * 2 ** (bit - first) for bit in range(first, 64)) * 2 ** unit.page
     may_read, may_write = not bits[4], not bits[5]
     if not may_read and not may_write or port >= len(unit.ports) or output >= 2 ** unit.reach:
         return None
