@@ -3,7 +3,6 @@ first one that is broken. `Wide` is left out: a net of a judge has few walks."""
 
 import nets
 
-KINDS = ("pages", "remap", "vectors")
 SLOTS_LIMIT = 1048576
 VECTORS_LIMIT = 4096
 
@@ -64,7 +63,8 @@ def node_fault(net):
 def fits_shape(unit):
     """The shape of a unit is plain, and its kind fits it."""
     plain = unit.page <= 40 and 1 <= unit.slots <= 262144 and unit.page <= unit.reach <= 56 and 1 <= len(unit.ports) <= 8
-    return plain and (unit.kind != "pages" or len(unit.ports) == 1) and (unit.kind != "vectors" or unit.page == 0)
+    pages = {"vectors": 0, "radix": 12}
+    return plain and (unit.kind != "pages" or len(unit.ports) == 1) and unit.page == pages.get(unit.kind, unit.page)
 
 
 def shape_fault(net):

@@ -9,7 +9,7 @@ import nets
 READ, WRITE = "read", "write"
 ACCESSES = (READ, WRITE)
 BOTH = frozenset(ACCESSES)
-WORDS = {"pages": 1, "remap": 1, "vectors": 2}
+WORDS = {"pages": 1, "remap": 1, "vectors": 2, "radix": 1}
 
 
 class Record(typing.NamedTuple):
@@ -54,7 +54,7 @@ def words_of(kind, record):
     """The words that spell a record of a kind."""
     shut = (READ not in record.rights) << 4 | (WRITE not in record.rights) << 5
     gate = 1 | record.port << 1 | shut
-    return [record.page, gate] if kind == "vectors" else [record.page << 8 | gate]
+    return [record.page, gate] if kind == "vectors" else [record.page << (12 if kind == "radix" else 8) | gate]
 
 
 def image_of(net, held):
