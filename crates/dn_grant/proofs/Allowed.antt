@@ -14,7 +14,7 @@ use Rattle.dn_placement.specs.declared.request.Request.{Request}
 use Rattle.dn_book.specs.declared.grant.Grant.{Grant}
 use Rattle.dn_book.specs.Book.{IsFaithful, IsSound, has_id, slots_of}
 use Rattle.dn_book.specs.Laws.{IsGrantFor}
-use Rattle.dn_grant.specs.Grant.{NoAddition, grant_of_request}
+use Rattle.dn_grant.specs.Grant.{IsUnplaced, NoAddition, grant_of_request}
 use Rattle.dn_grant.specs.Refusal.{id_used, no_agent, no_target, book_full, grant_refusal, is_target_at, refusal_by, refused_address}
 use Rattle.dn_grant.proofs.Unaccepted.{accepted_within}
 
@@ -90,12 +90,15 @@ still_faithful net book next id rq p legal sound none rights first appended fait
     let keeps = grant_keeps_book net book (grant_of_request id rq p) legal sound (allowed_grant net book id rq p none rights first) in
     subst (λ (b : List Grant). IsFaithful net b) (sym appended) (keeps.1 faithful first.suited.admissible)
 
--- where no placement is admissible, no addition gives one address
-pub no_addition : (net : List NodeDecl) (book : List Grant) (id : ℕ) (rq : Request) → IsLegalNet net → IsSound net book →
-    grant_refusal net book id rq ≡ None → IsTrue (are_rights rq.rights) → rq.size ≡ 1 →
-    NoneSuited net (slots_of net book) rq None → NoAddition net book rq
-no_addition net book id rq legal sound none rights one unsuited v added ad ex =
-    let is = allowed_is net book id rq none in
-    let proper = book_is_proper net book legal sound in
-    let p = refusal_is_complete net (slots_of net book) rq v added legal proper is.agent rights one ad ex in
-    unsuited p.0 (record { is_placement = p.1.is_placement; is_at = tt; admissible = p.1.admissible })
+-- where no placement is admissible, no addition gives one address either
+pub unplaced : (net : List NodeDecl) (book : List Grant) (id : ℕ) (rq : Request) → IsLegalNet net → IsSound net book →
+    grant_refusal net book id rq ≡ None → IsTrue (are_rights rq.rights) →
+    NoneSuited net (slots_of net book) rq None → IsUnplaced net book id rq
+unplaced net book id rq legal sound allowed rights none = record { allowed = allowed; none = none; complete = complete }
+  where
+    complete : rq.size ≡ 1 → NoAddition net book rq
+    complete one v added ad ex =
+        let is = allowed_is net book id rq allowed in
+        let proper = book_is_proper net book legal sound in
+        let p = refusal_is_complete net (slots_of net book) rq v added legal proper is.agent rights one ad ex in
+        none p.0 (record { is_placement = p.1.is_placement; is_at = tt; admissible = p.1.admissible })

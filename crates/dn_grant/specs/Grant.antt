@@ -1,5 +1,5 @@
 -- What a request for a grant comes to: a refusal, or a grant at the first admissible placement.
-use Rattle.std.specs.Prelude.{◌≡◌, ◌≢◌, ℕ, Bool, false, List, [], ◌∷◌, ◌++◌, Option, Some, None, Result, Ok, Err}
+use Rattle.std.specs.Prelude.{◌≡◌, ◌≢◌, ℕ, Bool, true, false, List, [], ◌∷◌, ◌++◌, Option, Some, None, Result, Ok, Err}
 use Rattle.dn_base.specs.declared.device.TableEvent.{TableEvent}
 use Rattle.dn_net.specs.declared.node.NodeDecl.{NodeDecl}
 use Rattle.dn_kind.specs.Kind.{Meaning}
@@ -9,6 +9,7 @@ use Rattle.dn_placement.specs.declared.request.Request.{Request}
 use Rattle.dn_placement.specs.Order.{IsFirst, NoneSuited}
 use Rattle.dn_view.specs.Addition.{GivesExactly, IsAddition}
 use Rattle.dn_book.specs.declared.grant.Grant.{Grant}
+use Rattle.dn_book.specs.Between.{IsCaught}
 use Rattle.dn_book.specs.Book.{slots_of}
 use Rattle.dn_book.specs.Writes.{AreAdded, grant_events}
 use Rattle.dn_grant.specs.declared.fault.GrantFault.{GrantFault}
@@ -65,14 +66,17 @@ abbrev pub IsGrantOutcome : List NodeDecl → List Grant → ℕ → Request →
 IsGrantOutcome net book id rq (Some made) next = IsGrantAnswer net book id rq made next
 IsGrantOutcome net book id rq None next = (grant_refusal net book id rq ≡ None) × (next ≡ book)
 
--- the events of a grant at the first admissible placement were added to a log: all of them, or those
--- before the one that failed
+-- The events of a grant at the first admissible placement were added to a log: all of them, or those
+-- before the one that failed. After a failure each name resolves under the words that stand then as
+-- before the grant or as with it.
 pub record IsGrantLogged (net : List NodeDecl) (kinds : List Meaning) (book : List Grant)
     (cleared : Bool) (id : ℕ) (rq : Request) (failed : Bool) (log log' : Option (List TableEvent))
-    : Type 0 where
+    (words' : List (List ℕ)) : Type 0 where
   pub place : Place
   pub placed : IsPlaced net book id rq place
   pub added : AreAdded (grant_events net kinds book cleared (grant_of_request id rq place)) failed log log'
+  pub caught : failed ≡ true →
+      IsCaught net kinds words' book (book ++ grant_of_request id rq place ∷ [])
 
 -- what is known of a fault that is told before a placement is sought: it says the first refusal that holds, and comes
 -- neither of the search nor of the device

@@ -1,11 +1,11 @@
 -- Why a request for a grant is refused, and the refusals that need no search.
-use Rattle.std.specs.Prelude.{ℕ, zero, suc, ◌+◌, Bool, false, if◌then◌else◌, not, nat_eq, nat_le, List, length, slice_get, Option, Some, None}
+use Rattle.std.specs.Prelude.{ℕ, zero, suc, ◌+◌, Bool, false, if◌then◌else◌, not, nat_eq, List, slice_get, Option, Some, None}
 use Rattle.dn_net.specs.declared.node.NodeDecl.{NodeDecl}
 use Rattle.dn_net.specs.Decode.{is_accepted_at, is_agent_at}
 use Rattle.dn_net.specs.Rules.{is_vectors}
 use Rattle.dn_placement.specs.declared.request.Request.{Request}
 use Rattle.dn_book.specs.declared.grant.Grant.{Grant}
-use Rattle.dn_book.specs.Book.{has_id}
+use Rattle.dn_book.specs.Book.{has_id, is_full}
 
 -- why a request is refused: a live grant has the id; the agent is none; the node is none or has
 -- interrupt vectors; the node does not accept this address; the book is full; no placement serves
@@ -37,7 +37,7 @@ refused_address n base size =
 -- the refusal for an address, and where there is none the one for want of room in the book
 abbrev pub refusal_by : List Grant → Option ℕ → Option GrantRefusal
 refusal_by book (Some first) = Some (not_accepted first)
-refusal_by book None = if nat_le 4096 (length book) then Some book_full else None
+refusal_by book None = if is_full book then Some book_full else None
 
 -- the first refusal of a request that holds, of those that need no search: the id is that of a live
 -- grant; the agent is none; the node is none or has interrupt vectors; the node does not accept all

@@ -2,8 +2,8 @@
 
 ghost use Rattle.std.specs.Prelude.{◌≡◌, ◌≢◌, true, false, is_err, OnOk, IsTrue};
 ghost use Rattle.dn_kind.specs.Terms.{are_rights, kinds_of};
-ghost use Rattle.dn_tables.specs.Terms.{IsOnDevice};
-ghost use Rattle.dn_book.specs.Terms.{IsCommitted, IsFaithful, IsKept};
+ghost use Rattle.dn_tables.specs.Terms.{words_of};
+ghost use Rattle.dn_book.specs.Terms.{IsChangedBook, IsFaithful, MayChange};
 ghost use Rattle.dn_view.specs.Terms.{IsSystem};
 ghost use Rattle.dn_grant.specs.Terms.{IsGrantLogged, IsGrantOutcome, grant_answer_view, is_grant_fault};
 
@@ -28,8 +28,8 @@ use std::alloc::Global;
 /// where the definition of the refusal says so; they take no memory. `NoPlacement` exactly where no
 /// placement is admissible. `OutOfMemory` for want of memory. After all of these nothing has changed.
 /// `Device` only where the device's count of faults rose in this call, or stands at the last value of
-/// its counter: the writes before the one that failed are done, no grant comes in, and the book is only
-/// read from then on.
+/// its counter: the writes before the one that failed are done, and under them each name resolves as
+/// before the grant or as with it. No grant comes in, and the book is only read from then on.
 pub fn grant<D: Tables>(
     alloc: Global,
     book: &mut Book,
@@ -39,26 +39,25 @@ pub fn grant<D: Tables>(
     device: &mut D,
 ) -> Result<u64, GrantFault>
     requires system { IsSystem meaning system }
-    requires unfailed { book.old.unfailed ≡ true }
-    requires kept { IsKept system.on.net.now
-        (kinds_of meaning system.on.kinds.now) book.old.grants book.old.set }
-    requires on_device { IsOnDevice book.old.set (D.units device.old) (D.words device.old) }
+    requires ready { MayChange meaning system.on book.old (D.units device.old) (D.words device.old) }
     requires rights { IsTrue (are_rights request.now.rights) }
     ensures turn { IsGrantOutcome system.entry.on.net.now book.old.grants id request.now
         (grant_answer_view result) book.new.grants }
     ensures unchanged { is_err result ≡ true → result ≢ Err GrantFault.Device →
         (book.new ≡ book.old) × (device.new ≡ device.old) }
-    ensures committed { IsCommitted system.entry.on.net.now
-        (kinds_of meaning system.entry.on.kinds.now) result (is_grant_fault result) book.new
+    ensures changed { IsChangedBook system.entry.on.net.now
+        (kinds_of meaning system.entry.on.kinds.now) false result (is_grant_fault result) book.new
         (D.units device.new) (D.words device.new) (D.faults device.old) (D.faults device.new) }
     ensures faithful { OnOk result (IsFaithful system.entry.on.net.now book.old.grants
         → IsFaithful system.entry.on.net.now book.new.grants) }
     ensures granted { OnOk result (IsGrantLogged system.entry.on.net.now
         (kinds_of meaning system.entry.on.kinds.now) book.old.grants
-        book.old.cleared id request.now false (D.log device.old) (D.log device.new)) }
+        book.old.cleared id request.now false (D.log device.old) (D.log device.new)
+        (words_of book.new.set)) }
     ensures stopped { result ≡ Err GrantFault.Device
         → IsGrantLogged system.entry.on.net.now (kinds_of meaning system.entry.on.kinds.now)
-        book.old.grants book.old.cleared id request.now true (D.log device.old) (D.log device.new) }
+        book.old.grants book.old.cleared id request.now true (D.log device.old) (D.log device.new)
+        (words_of book.new.set) }
 {
     if let Some(why) = refusal(book, CheckedNet { net: system.on.net }, id, request) {
         return Err(why);

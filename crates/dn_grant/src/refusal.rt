@@ -12,9 +12,6 @@ use dn_net::net::Net;
 use dn_placement::request::Request;
 use dn_placement::roles::{is_agent, is_vectors};
 
-/// The most grants of a book.
-const MAX_GRANTS: usize = 4096;
-
 /// The first refusal of a request that holds before a placement is sought. It takes no memory.
 pub fn refusal(book: &Book, checked: CheckedNet, id: u32, request: &Request) -> Option<GrantFault>
     ensures same { option_map grant_fault_view result ≡ option_map (λ why. Some why)
@@ -37,7 +34,7 @@ pub fn refusal(book: &Book, checked: CheckedNet, id: u32, request: &Request) -> 
     if let Some(first) = refused_address(checked, request.node, request.base, request.size) {
         return Some(GrantFault::NotAccepted { first });
     }
-    if book.grants().len() >= MAX_GRANTS {
+    if book.is_full() {
         return Some(GrantFault::BookFull);
     }
     None

@@ -1,5 +1,6 @@
-use Rattle.std.proofs.Common.{refl}
-use Rattle.dn_grant.proofs.Allowed.{allowed_is, allowed_within, allowed_grant, no_addition, still_faithful}
+use Rattle.std.proofs.Common.{Err, ap, refl}
+use Rattle.dn_base.specs.declared.device.DeviceOrMemory.{DeviceOrMemory}
+use Rattle.dn_grant.proofs.Allowed.{allowed_is, allowed_within, allowed_grant, still_faithful, unplaced}
 use Rattle.dn_grant.proofs.grant.grant.Goals as goal
 
 pub first_in_book-requires-clause-request : goal.first_in_book-requires-clause-request
@@ -19,19 +20,15 @@ returns-in-Err-Device-clause-stopped g c =
       place = c.in-Ok-Some.placement;
       placed = record { allowed = c.refusal.ensures.none c.in_default.is; first = (rw c.in-Ok-Some.field-0-is at c.in-Ok-Some.ensures.first) };
       added = c.in-Err-Device.ensures.added (λ m. let device = c.in-Err-Device.field-0-is in cc);
+      caught = λ f. c.in-Err-Device.ensures.caught (ap (λ (x : DeviceOrMemory). Err x) c.in-Err-Device.field-0-is);
     }
 
 pub returns-in-Ok-None-clause-turn : goal.returns-in-Ok-None-clause-turn
-returns-in-Ok-None-clause-turn g c =
-    let allowed = c.refusal.ensures.none c.in_default.is in
-    let none = c.in-Ok-None.ensures.none c.in-Ok-None.field-0-is in (
-      record {
-        allowed = allowed;
-        none = none;
-        complete = λ one. no_addition c.args.system.on.net.now c.args.book.now.grants c.args.id c.args.request.now c.requires.system.kinded.legal.legal c.requires.kept.sound allowed c.requires.rights one none;
-      },
-      refl,
-    )
+returns-in-Ok-None-clause-turn g c = (
+  unplaced c.args.system.on.net.now c.args.book.now.grants c.args.id c.args.request.now c.requires.system.kinded.legal.legal c.requires.ready.kept.sound
+      (c.refusal.ensures.none c.in_default.is) c.requires.rights (c.in-Ok-None.ensures.none c.in-Ok-None.field-0-is),
+  refl,
+)
 
 pub returns-in-Ok-clause-turn : goal.returns-in-Ok-clause-turn
 returns-in-Ok-clause-turn g c =
@@ -44,7 +41,7 @@ returns-in-Ok-clause-turn g c =
 
 pub returns-in-Ok-clause-faithful : goal.returns-in-Ok-clause-faithful
 returns-in-Ok-clause-faithful g c =
-    still_faithful c.args.system.on.net.now c.args.book.now.grants _ c.args.id c.args.request.now c.in-Ok-Some.placement c.requires.system.kinded.legal.legal c.requires.kept.sound
+    still_faithful c.args.system.on.net.now c.args.book.now.grants _ c.args.id c.args.request.now c.in-Ok-Some.placement c.requires.system.kinded.legal.legal c.requires.ready.kept.sound
     (c.refusal.ensures.none c.in_default.is) c.requires.rights (rw c.in-Ok-Some.field-0-is at c.in-Ok-Some.ensures.first) c.in-Ok.ensures.granted
 
 pub returns-in-Ok-clause-granted : goal.returns-in-Ok-clause-granted
@@ -52,4 +49,5 @@ returns-in-Ok-clause-granted g c = record {
   place = c.in-Ok-Some.placement;
   placed = record { allowed = c.refusal.ensures.none c.in_default.is; first = (rw c.in-Ok-Some.field-0-is at c.in-Ok-Some.ensures.first) };
   added = c.in-Ok.ensures.added (λ e. cc);
+  caught = λ f. cc;
 }
