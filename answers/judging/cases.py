@@ -1,10 +1,13 @@
 """The cases of the judge: texts with what is due, made from seeds."""
 
+import functools
 import typing
 
 import books
 import dice
 import drawn
+import narrow
+import nets
 import placements
 import replies
 import rules
@@ -23,6 +26,11 @@ SEEDS = {
     "lines": 450,
     "bridges": 300,
     "ruined": 350,
+    "ports": 240,
+    "rows": 240,
+    "aliases": 200,
+    "full": 240,
+    "remappers": 240,
 }
 """How many seeds each shape has."""
 BEGINNINGS = 6
@@ -30,6 +38,12 @@ BEGINNINGS = 6
 FULL_SEEDS = 40
 """How many seeds of each shape are tried for small nets, on which each addition is tried, of at most so many."""
 MOST_ADDITIONS = 800
+SHAPES = shapes.SHAPES + narrow.SHAPES
+FIXED = shapes.FIXED + narrow.FIXED
+REQUESTED = shapes.FIXED[:3] + narrow.FIXED
+"""The fixed nets of which each request is tried."""
+MOST_RECORDS = {narrow.eight_ports: 2}
+"""How many records an addition over a fixed net has at most, where these are not three."""
 
 
 class Case(typing.NamedTuple):
@@ -66,15 +80,19 @@ def refused(name, thrown, net, fault):
 
 
 def of_seed(shape, seed):
-    """The cases of a net of a shape: mixed commands; of one net in eight how it is printed; and of some, drawn out."""
+    """The cases of a net of a shape: commands over it; of one net in eight how it is printed; and of some, drawn out."""
     thrown = dice.Dice(seed)
     name = f"{shape.__name__} {seed}"
     net = shape(thrown)
     fault = rules.fault(net)
     if fault is not None:
         return refused(name, thrown, net, fault)
-    script = scripts.Script(thrown, net)
-    script.mixed()
+    if shape in narrow.SHAPES:
+        script = scripts.Script(thrown, net, scripts.MANY_IDS)
+        script.crowded()
+    else:
+        script = scripts.Script(thrown, net)
+        script.mixed()
     cases = [case_of(name, thrown, script)]
     if thrown.once_in(8):
         cases.append(Case(f"{name} check", ["check"], cases[0].text, (0, replies.net_text(net).encode())))
@@ -86,7 +104,7 @@ def of_seed(shape, seed):
 
 def mixed(few=1, part=0, parts=1):
     """Cases of every shape and of one seed of so many; or of one part of these, where there are several."""
-    for shape in shapes.SHAPES:
+    for shape in SHAPES:
         for seed in range(FIRST_SEED, FIRST_SEED + SEEDS[shape.__name__] // few)[part::parts]:
             yield from of_seed(shape, seed)
 
@@ -97,10 +115,26 @@ def requests(net):
             if node.accepts for base in range(6) for size in range(1, 5) for access in (units.READ, units.WRITE, None)]
 
 
-def begun(shape, seed, count):
-    """A script over a net of a shape in which so many changes were made, where it breaks no rule."""
+def cut_down(thrown, net, most):
+    """The net with fewer slots, outputs and ports, so that there are at most so many additions. Windows stay as they are."""
+    while count_of_additions(net, books.Book(net).slots()) > most:
+        unit = thrown.one_of([net.nodes[number].unit for number in net.units()])
+        if unit.slots > 1 and thrown.roll(3):
+            unit.slots -= 1
+        elif unit.reach > unit.page + 1 and thrown.roll(3):
+            unit.reach -= 1
+        elif len(unit.ports) > 1:
+            unit.ports.pop(thrown.roll(len(unit.ports)))
+    return nets.Net(net.nodes)
+
+
+def begun(shape, seed, count, most=None):
+    """A script over a net of a shape in which so many changes were made, where it breaks no rule. Where it is to have at most
+    so many additions, it is cut down."""
     thrown = dice.Dice(seed)
     net = shape(thrown)
+    if most and rules.fault(net) is None:
+        net = cut_down(thrown, net, most)
     if rules.fault(net) is not None:
         return thrown, None
     script = scripts.Script(thrown, net)
@@ -111,11 +145,13 @@ def begun(shape, seed, count):
 
 def of_all_requests(few=1):
     """Each request of the fixed nets, over no live grant and over a few: what it is answered, and the tables with it."""
-    for shape in shapes.FIXED[:3]:
+    for shape in REQUESTED:
         for seed in range(FIRST_SEED, FIRST_SEED + max(BEGINNINGS // few, 1)):
             thrown, script = begun(shape, seed, 0 if seed == FIRST_SEED else 8)
             for request in requests(script.net):
                 script.tried("grant", *request)
+            if shape is narrow.row_of_remappers:
+                one_lines(script)
             yield case_of(f"{shape.__name__} {seed}, each request", thrown, script)
 
 
@@ -187,20 +223,37 @@ def complete(name, thrown, script, access, most):
 
 def of_refusals():
     """Refusals of one address and of a line over the fixed nets, beside all additions of up to three records."""
-    for shape in shapes.FIXED:
-        for access in (None,) if shape is shapes.two_remappers else (units.READ, units.WRITE, None):
+    for shape in FIXED:
+        thrown, script = begun(shape, FIRST_SEED, 4)
+        for access in (None,) if script.cores else (units.READ, units.WRITE, None):
             thrown, script = begun(shape, FIRST_SEED, 4)
-            yield complete(f"{shape.__name__} {FIRST_SEED}", thrown, script, access, 3)
+            yield complete(f"{shape.__name__} {FIRST_SEED}", thrown, script, access, MOST_RECORDS.get(shape, 3))
+
+
+def small(shape, seed):
+    """A script over a net of a shape whose free slots can hold few records, with its dice and an access; or None."""
+    thrown, script = begun(shape, seed, 3, MOST_ADDITIONS if shape in narrow.SHAPES else None)
+    if script is None or count_of_additions(script.net, script.book.slots()) > MOST_ADDITIONS:
+        return None
+    return thrown, script, None if script.cores else thrown.one_of([units.READ, units.WRITE, None])
 
 
 def of_small_refusals(few=1):
     """The same over generated nets whose free slots can hold few records, beside additions of any number."""
-    for shape in shapes.SHAPES:
+    for shape in SHAPES:
         for seed in range(FIRST_SEED, FIRST_SEED + FULL_SEEDS // few):
-            thrown, script = begun(shape, seed, 3)
-            if script and count_of_additions(script.net, script.book.slots()) <= MOST_ADDITIONS:
-                access = None if script.cores else thrown.one_of([units.READ, units.WRITE, None])
-                yield complete(f"{shape.__name__} {seed}", thrown, script, access, MOST_ADDITIONS)
+            found = small(shape, seed)
+            if found:
+                yield complete(f"{shape.__name__} {seed}", *found, MOST_ADDITIONS)
+
+
+def completeness(count):
+    """For each shape and so many seeds a call that says whether the refusals over that small net are complete."""
+    def is_complete_over(shape, seed):
+        found = small(shape, seed)
+        return found is None or is_complete(*found[1:], MOST_ADDITIONS)
+    seeds = range(FIRST_SEED, FIRST_SEED + count)
+    return [functools.partial(is_complete_over, shape, seed) for seed in seeds for shape in SHAPES]
 
 
 def of_name(name):
@@ -209,5 +262,5 @@ def of_name(name):
     if "," in name:
         made = [*of_all_nodes(), *of_all_requests(), *of_refusals(), *of_small_refusals()]
     else:
-        made = of_seed(getattr(shapes, shape), int(seed))
+        made = of_seed(next(each for each in SHAPES if each.__name__ == shape), int(seed))
     return [case for case in made if case.name == name]

@@ -104,25 +104,30 @@ def fits(net, slots, request, hop):
 
 
 def hops_from(net, slots, request, name):
-    """All hops that a name meets and that fit: of each stop of it, through each port, to each output below the edge."""
+    """All hops that a name meets and that fit: of each stop of it, through each port, to each output below the edge
+    that agrees with it within the page."""
     for unit, x in nets.stops(net, name):
         if meets_hop(net, request, name, (unit, x)):
             part = net.nodes[unit].unit
-            for port, y in itertools.product(range(len(part.ports)), range(min(1 << part.reach, net.edge))):
+            outputs = range(x % (1 << part.page), min(1 << part.reach, net.edge), 1 << part.page)
+            for port, y in itertools.product(range(len(part.ports)), outputs):
                 hop = Hop(unit, port, x, y)
                 if fits(net, slots, request, hop):
                     yield hop
 
 
-def ways(net, slots, request, name, before=()):
-    """All rows of one to three hops from a name to the buffer, behind those before."""
-    for hop in hops_from(net, slots, request, name):
-        hops = before + (hop,)
-        output = net.nodes[hop.unit].unit.ports[hop.port], hop.y
-        if meets_buffer(net, request, output):
-            yield hops
-        if len(hops) < 3:
-            yield from ways(net, slots, request, output, hops)
+def ways(net, slots, request, name, most=3, known=None):
+    """All rows of one to so many hops from a name to the buffer. What was found from other names is known."""
+    known = {} if known is None else known
+    if (name, most) not in known:
+        found = known[name, most] = []
+        for hop in hops_from(net, slots, request, name):
+            output = net.nodes[hop.unit].unit.ports[hop.port], hop.y
+            if meets_buffer(net, request, output):
+                found.append((hop,))
+            if most > 1:
+                found += [(hop, *rest) for rest in ways(net, slots, request, output, most - 1, known)]
+    return known[name, most]
 
 
 def is_free_hop(net, slots, request, hop):
@@ -132,9 +137,10 @@ def is_free_hop(net, slots, request, hop):
 
 def placements(net, slots, request, at=None):
     """All placements of a request, at the agent's address that is asked for, or at any."""
+    known = {}
     for v in range(net.edge) if at is None else [at]:
         if request.size >= 1 and v + request.size <= nets.TOP + 1:
-            for hops in ways(net, slots, request, (request.agent, v)):
+            for hops in ways(net, slots, request, (request.agent, v), 3, known):
                 for own, hop in enumerate(hops):
                     if is_free_hop(net, slots, request, hop):
                         yield Placement(v, hops, own)

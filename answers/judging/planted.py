@@ -14,7 +14,7 @@ import rules
 import units
 
 RIGHT = {module: dict(vars(module)) for module in (books, placements, replies, rules, units)}
-OWED = books.Book.owed
+OWED, SLOTS = books.Book.owed, books.Book.slots
 
 
 def right(module, name):
@@ -82,6 +82,54 @@ def first_port(fits, net, slots, request, hop):
     return hop.port == 0 and fits(net, slots, request, hop)
 
 
+def three_ports(fits, net, slots, request, hop):
+    """Records go through the first three ports alone."""
+    return hop.port < 3 and fits(net, slots, request, hop)
+
+
+def from_page(fits, net, slots, request, hop):
+    """A hop begins where a slot begins."""
+    return hop.x % (1 << net.nodes[hop.unit].unit.page) == 0 and fits(net, slots, request, hop)
+
+
+def to_page(fits, net, slots, request, hop):
+    """A hop ends where a slot ends."""
+    return (hop.x + request.size) % (1 << net.nodes[hop.unit].unit.page) == 0 and fits(net, slots, request, hop)
+
+
+def end_owned(net, slots, request, at=None):
+    """Of three hops the middle one is never the own one."""
+    found = right(placements, "placements")(net, slots, request, at)
+    return (placement for placement in found if len(placement.hops) < 3 or placement.own != 1)
+
+
+def two_records(net, held, access, name, most=2):
+    """Records are followed in two units at most."""
+    names = nets.resolved(net, name)
+    for stop in nets.stops(net, name) if most else []:
+        output = units.sent(net, held, access, stop)
+        if output is not None:
+            names = names | two_records(net, held, access, output, most - 1)
+    return names
+
+
+def ever_used(book):
+    """Slots stay in use when their buffer is taken back."""
+    slots = SLOTS(book)
+    ever = book.__dict__.setdefault("ever", {})
+    ever.update(dict.fromkeys(slots.uses, 1))
+    return placements.Slots(slots.held, {**ever, **slots.uses}, slots.owned)
+
+
+def given_beside(net, slots, before, added, rights):
+    """The first name that records give, whatever else they show."""
+    for name in (name for access, name in before if access in rights):
+        found = right(placements, "given_by")(net, slots, {key: before[key] for key in before if key[1] == name}, added, rights)
+        if found:
+            return found
+    return None
+
+
 def rights_everywhere(net, request, placement):
     """Records of all hops have the rights of the request."""
     records = right(placements, "placed_records")(net, request, placement)
@@ -104,9 +152,9 @@ def any_record(net, slots, hop, slot):
     return not slots.has_owner((hop.unit, slot))
 
 
-def two_hops(net, slots, request, name, before=()):
+def two_hops(net, slots, request, name, most=3, known=None):
     """No placement has three hops."""
-    return (hops for hops in right(placements, "ways")(net, slots, request, name, before) if len(hops) < 3)
+    return right(placements, "ways")(net, slots, request, name, min(most, 2), known)
 
 
 def shared_too(book, id):
@@ -261,6 +309,12 @@ DEFINITIONS = [
     ("the last output is left out", placements, "fits", fits_where(below_reach)),
     ("the last slot is left out", placements, "fits", fits_where(but_last_slot)),
     ("the first port alone is tried", placements, "fits", fits_where(first_port)),
+    ("the first three ports alone are tried", placements, "fits", fits_where(three_ports)),
+    ("a hop begins where a slot begins", placements, "fits", fits_where(from_page)),
+    ("a hop ends where a slot ends", placements, "fits", fits_where(to_page)),
+    ("the middle one of three hops is never the own one", placements, "placements", end_owned),
+    ("slots stay in use when their buffer is taken back", books.Book, "slots", ever_used),
+    ("records are followed in two units at most", units, "resolved_under", two_records),
     ("three units are too many", placements, "ways", two_hops),
     ("records of all hops have the rights of the request", placements, "placed_records", rights_everywhere),
     ("a revoke clears shared slots", books, "revoked", shared_too),
@@ -332,8 +386,34 @@ def finds(cases, plant):
     if len(plant) == 2:
         return any(plant[1](case.due[1]) != case.due[1] for case in cases)
     _, place, name, wrong = plant
+    asks_rules = place in (rules, nets)
+    # A wrong rule is found soonest by what a rule refuses.
+    with_nets = sorted((case for case in cases if case.net), key=lambda case: asks_rules and bool(case.commands))
     with planted(place, name, wrong):
-        return any(answer(case, place in (rules, nets)) != case.due[1] for case in cases if case.net)
+        return any(answer(case, asks_rules) != case.due[1] for case in with_nets)
+
+
+def is_incomplete(calls, plant):
+    """With a wrong definition some call says that refusals are not complete."""
+    _, place, name, wrong = plant
+    with planted(place, name, wrong):
+        return not all(call() for call in calls)
 
 
 PLANTS = DEFINITIONS + TEXTS
+COMPLETE = {
+    "nothing is admissible",
+    "every placement is admissible",
+    "no slot is shared",
+    "the last output is left out",
+    "the last slot is left out",
+    "the first three ports alone are tried",
+    "three units are too many",
+}
+# Searches that refuse what some addition gives exactly, or grant what none does; and other additions.
+INCOMPLETE = [plant for plant in DEFINITIONS if plant[0] in COMPLETE] + [
+    ("additions have one record", placements, "additions",
+     lambda net, slots, rights, most: right(placements, "additions")(net, slots, rights, 1)),
+    ("ways through slots that are owned count", placements, "passes_owned", lambda net, slots, held, name, end: False),
+    ("what is seen beside is not looked at", placements, "given_by", given_beside),
+]

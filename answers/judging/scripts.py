@@ -7,15 +7,17 @@ import replies
 import units
 
 IDS = ["g0", "g1", "g2", "g3", "g4", "g5"]
+MANY_IDS = [f"b{number}" for number in range(12)]
 TRIED = "tried"
+TRIES = 6
 NO_NODE = "nowhere"
 
 
 class Script:
     """Commands over a legal net with the replies that are due, made one after the other."""
 
-    def __init__(self, dice, net):
-        self.dice, self.net, self.book = dice, net, books.Book(net)
+    def __init__(self, dice, net, ids=tuple(IDS)):
+        self.dice, self.net, self.book, self.ids = dice, net, books.Book(net), ids
         self.commands, self.due = [], []
         self.all = [node.name for node in net.nodes]
         self.agents = [net.nodes[number].name for number in net.agents()]
@@ -44,12 +46,12 @@ class Script:
 
     def new_id(self):
         """An id: mostly one that is not live."""
-        free = [id for id in IDS if not self.book.live(id)]
-        return self.dice.one_of(free if free and self.dice.roll(12) else IDS)
+        free = [id for id in self.ids if not self.book.live(id)]
+        return self.dice.one_of(free if free and self.dice.roll(12) else self.ids)
 
     def live_id(self):
         """An id: mostly one that is live."""
-        return self.dice.one_of([grant.id for grant in self.book.grants] if self.book.grants and self.dice.roll(8) else IDS)
+        return self.dice.one_of([grant.id for grant in self.book.grants] if self.book.grants and self.dice.roll(8) else self.ids)
 
     def sight(self):
         """A buffer's first name that an agent could be shown by some records, with the agent and a size; or None."""
@@ -161,6 +163,69 @@ class Script:
             if self.dice.roll(4):
                 self.ask("dump")
             else:
+                self.question()
+        self.views()
+        if self.dice.once_in(4):
+            self.addresses()
+
+    def part(self):
+        """An agent, and a buffer of which some records could show it the first address: it begins and ends anywhere in a page,
+        mostly within what its node accepts."""
+        found = self.sight()
+        if found is None:
+            return self.buffer()
+        agent, (node, base), _ = found
+        page = self.dice.one_of(self.pages)
+        size = self.dice.one_of([1, 1, page, page, max(page // 2, 1), page + 1, 2 * page])
+        begin = base // page * page if self.dice.once_in(2) else base
+        room = next((by for by in range(size) if not nets.is_accepted(self.net, (node, begin + by))), size)
+        return self.net.nodes[agent].name, self.net.nodes[node].name, begin, room if room and self.dice.roll(8) else size
+
+    def fitting(self):
+        """An id, a buffer, and an access or none: the first of a few that is granted, or the last of them."""
+        id, slots = self.new_id(), self.book.slots()
+        for _ in range(TRIES):
+            agent, node, base, size = part = self.part()
+            access, numbers = self.access(), (self.net.number(agent), self.net.number(node))
+            if books.grant_refusal(self.book, id, *numbers, base, size) is None:
+                request = placements.Request(*numbers, base, size, books.rights_of(access))
+                if placements.first(self.net, slots, request):
+                    break
+        return id, *part, access
+
+    def given_again(self):
+        """Adds the revoke of a live grant, and asks for what it gave by another id, and maybe for a half of it."""
+        grant = self.dice.one_of(self.book.grants)
+        agent, node, base, size, rights = grant.request
+        names = self.net.nodes[agent].name, self.net.nodes[node].name
+        self.ask("revoke", grant.id)
+        if books.has_vectors(self.net, node):
+            self.ask("route", self.new_id(), names[0], grant.placement.v, self.dice.one_of([names[1], *self.cores]))
+            return
+        if size > 1 and self.dice.once_in(2):
+            self.ask("grant", self.new_id(), *names, base + self.dice.roll(2) * (size // 2), size // 2, self.access())
+        said = None if rights == units.BOTH else min(rights)
+        self.ask("grant", self.new_id(), *names, base, size, said if self.dice.roll(3) else self.access())
+
+    def is_refused(self):
+        """The last two changes that were asked for are refused."""
+        replies = [due for command, due in zip(self.commands, self.due) if command[0] in ("grant", "route")]
+        return len(replies) > 1 and all(" refused: " in due for due in replies[-2:])
+
+    def crowded(self):
+        """Adds buffers and parts of buffers until units are full, with some that are taken back and asked for anew, the tables
+        behind each of these, and at the end what all agents see."""
+        for _ in range(self.dice.between(8, 16)):
+            if self.book.grants and self.dice.once_in(2 if self.is_refused() else 8):
+                self.given_again()
+            elif self.cores and self.dice.roll(12):
+                self.ask("route", self.new_id(), *self.line(), self.mostly(self.cores))
+            elif self.dice.once_in(4):
+                self.ask("grant", self.new_id(), *self.part(), self.access())
+            else:
+                self.ask("grant", *self.fitting())
+            self.ask("dump")
+            if self.dice.once_in(6):
                 self.question()
         self.views()
         if self.dice.once_in(4):
