@@ -15,9 +15,10 @@ use Rattle.dn_placement.specs.Roles.{is_vectors_at}
 use Rattle.dn_book.specs.declared.grant.Grant.{Grant}
 use Rattle.dn_book.specs.Book.{IsFaithful, IsSound, has_id, slots_of}
 use Rattle.dn_book.specs.Laws.{IsGrantFor}
+use Rattle.dn_book.specs.Between.{IsCaught}
 use Rattle.dn_book.specs.Writes.{AreAdded, grant_events}
 use Rattle.dn_vector.specs.Refusal.{id_used, no_agent, no_target, book_full, route_refusal}
-use Rattle.dn_vector.specs.Route.{IsLeastVector, IsPlacedRoute, IsRouteLogged, IsRouteMade, NoRouteAddition, NoVector, grant_of_route}
+use Rattle.dn_vector.specs.Route.{IsLeastVector, IsPlacedRoute, IsRouteLogged, IsRouteMade, IsUnplacedRoute, NoRouteAddition, NoVector, grant_of_route}
 use Rattle.dn_vector.specs.Vectors.{vector_request}
 
 -- the id is new, the agent is one, the node has vectors, the book has room
@@ -113,23 +114,28 @@ placed_made net book next id agent line node v p g e is appended = record {
 -- the events of a route that is placed
 pub placed_logged : (net : List NodeDecl) (kinds : List Meaning) (book : List Grant) (cleared : Bool)
     (id agent line node v : ℕ) (p : Place) (g : Grant) (failed : Bool)
-    (log log' : Option (List TableEvent)) → g ≡ grant_of_route id agent node v p →
+    (log log' : Option (List TableEvent)) (words' : List (List ℕ)) → g ≡ grant_of_route id agent node v p →
     IsPlacedRoute net book id agent line node v p →
     AreAdded (grant_events net kinds book cleared g) failed log log' →
-    IsRouteLogged net kinds book cleared id agent line node failed log log'
-placed_logged net kinds book cleared id agent line node v p g failed log log' e is added = record {
+    (failed ≡ true → IsCaught net kinds words' book (book ++ g ∷ [])) →
+    IsRouteLogged net kinds book cleared id agent line node failed log log' words'
+placed_logged net kinds book cleared id agent line node v p g failed log log' words' e is added caught = record {
   vector = v;
   place = p;
   placed = is;
   added = subst (λ (x : Grant). AreAdded (grant_events net kinds book cleared x) failed log log') e added;
+  caught = λ f. subst (λ (x : Grant). IsCaught net kinds words' book (book ++ x ∷ [])) e (caught f);
 }
 
--- where no vector has an admissible placement, no addition gives one
-pub no_addition : (net : List NodeDecl) (book : List Grant) (id agent line node : ℕ) → IsLegalNet net → IsSound net book →
+-- where no vector has an admissible placement, no addition gives one either
+pub unplaced : (net : List NodeDecl) (book : List Grant) (id agent line node : ℕ) → IsLegalNet net → IsSound net book →
     route_refusal net book id agent node ≡ None → NoVector net book agent line node →
-    NoRouteAddition net book agent line node
-no_addition net book id agent line node legal sound none unplaced vector added free ad ex =
-    let is = allowed_is net book id agent node none in
-    let proper = book_is_proper net book legal sound in
-    let p = refusal_is_complete net (slots_of net book) (vector_request agent node vector) line added legal proper is.agent_is refl refl ad ex in
-    unplaced vector free p.0 p.1
+    IsUnplacedRoute net book id agent line node
+unplaced net book id agent line node legal sound allowed none = record { allowed = allowed; none = none; complete = complete }
+  where
+    complete : NoRouteAddition net book agent line node
+    complete vector added free ad ex =
+        let is = allowed_is net book id agent node allowed in
+        let proper = book_is_proper net book legal sound in
+        let p = refusal_is_complete net (slots_of net book) (vector_request agent node vector) line added legal proper is.agent_is refl refl ad ex in
+        none vector free p.0 p.1

@@ -2,39 +2,22 @@
 -- at the line.
 use Rattle.std.specs.Prelude.{◌≡◌, ◌≢◌, ℕ, ◌<◌, Bool, true, false, List, [], ◌∷◌, ◌++◌, Option, Some, None, Result, Ok, Err, IsTrue}
 use Rattle.dn_base.specs.declared.device.TableEvent.{TableEvent}
-use Rattle.dn_base.specs.declared.device.UnitWords.{UnitWords}
-use Rattle.dn_base.specs.Device.{UnitSize}
 use Rattle.dn_net.specs.declared.node.NodeDecl.{NodeDecl}
 use Rattle.dn_kind.specs.Kind.{Meaning}
-use Rattle.dn_kind.specs.Kinded.{kinds_of}
 use Rattle.dn_kind.specs.Rights.{both_rights}
 use Rattle.dn_kind.specs.Tables.{Held}
 use Rattle.dn_tables.specs.Placement.{Place}
-use Rattle.dn_tables.specs.Set.{IsOnDevice}
 use Rattle.dn_placement.specs.Order.{IsFirst, NoneSuited}
-use Rattle.dn_view.specs.declared.system.System.{System}
 use Rattle.dn_view.specs.Addition.{GivesExactly, IsAddition}
-use Rattle.dn_view.specs.Systems.{IsSystem}
 use Rattle.dn_book.specs.declared.grant.Grant.{Grant}
+use Rattle.dn_book.specs.Between.{IsCaught}
 use Rattle.dn_book.specs.Book.{slots_of}
-use Rattle.dn_book.specs.State.{BookState}
-use Rattle.dn_book.specs.Tables.{IsKept}
 use Rattle.dn_book.specs.Writes.{AreAdded, grant_events}
 use Rattle.dn_vector.specs.declared.fault.RouteFault.{RouteFault}
 use Rattle.dn_vector.specs.declared.fault.RouteFault.TheVariants.{NoPlacement, Device}
 use Rattle.dn_vector.specs.Faults.{route_answer_view, is_route_fault}
 use Rattle.dn_vector.specs.Refusal.{RouteRefusal, no_placement, route_refusal}
 use Rattle.dn_vector.specs.Vectors.{is_free_vector, vector_request}
-
--- the system is one, no call of the device failed so far, and the tables, which the device has, keep
--- the grants of the book
-pub record MayRoute {K : Type 0} {V : K → Type 0} (means : (k : K) × V k → Meaning)
-    (system : System K V) (book : BookState) (units : List UnitSize) (words : Option (List UnitWords))
-    : Type 0 where
-  pub is_system : IsSystem means system
-  pub unfailed : book.unfailed ≡ true
-  pub kept : IsKept system.on.net.now (kinds_of means system.on.kinds.now) book.grants book.set
-  pub on_device : IsOnDevice book.set units words
 
 -- the grant of a vector to an agent at a placement
 abbrev pub grant_of_route : ℕ → ℕ → ℕ → ℕ → Place → Grant
@@ -111,15 +94,18 @@ IsRouteOutcome net book id agent line node (Some made) next =
 IsRouteOutcome net book id agent line node None next =
     (route_refusal net book id agent node ≡ None) × (next ≡ book)
 
--- the events of a route were added to a log: all of them, or those before the one that failed
+-- The events of a route were added to a log: all of them, or those before the one that failed. After a
+-- failure each name resolves under the words that stand then as before the route or as with it.
 pub record IsRouteLogged (net : List NodeDecl) (kinds : List Meaning) (book : List Grant)
     (cleared : Bool) (id agent line node : ℕ) (failed : Bool)
-    (log log' : Option (List TableEvent)) : Type 0 where
+    (log log' : Option (List TableEvent)) (words' : List (List ℕ)) : Type 0 where
   pub vector : ℕ
   pub place : Place
   pub placed : IsPlacedRoute net book id agent line node vector place
   pub added : AreAdded
       (grant_events net kinds book cleared (grant_of_route id agent node vector place)) failed log log'
+  pub caught : failed ≡ true →
+      IsCaught net kinds words' book (book ++ grant_of_route id agent node vector place ∷ [])
 
 -- what is known of a fault that is told before a vector is looked at: it says the first refusal that holds, whatever
 -- the line, and comes neither of the search nor of the device

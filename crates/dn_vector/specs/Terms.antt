@@ -1,6 +1,6 @@
 -- The words of the crate that clauses cite, from one place.
 pub use Rattle.dn_vector.specs.Faults.{is_route_fault, route_answer_view, route_fault_view}
 pub use Rattle.dn_vector.specs.Refusal.{route_refusal}
-pub use Rattle.dn_vector.specs.Route.{HasNoPlace, IsLeastVector, IsRouteLogged, IsRouteOutcome, IsTold, MayRoute, NoRouteAddition, NoVector, grant_of_route}
+pub use Rattle.dn_vector.specs.Route.{HasNoPlace, IsLeastVector, IsRouteLogged, IsRouteOutcome, IsTold, NoRouteAddition, NoVector, grant_of_route}
 pub use Rattle.dn_vector.specs.Search.{IsLeastOfSpan, IsRouteAsked}
 pub use Rattle.dn_vector.specs.Vectors.{has_vector, in_some_span, is_free_vector, vector_request}

@@ -9,9 +9,6 @@ use dn_book::book::Book;
 use dn_net::net::Net;
 use dn_placement::roles::{is_agent, is_vectors};
 
-/// The most grants of a book.
-const MAX_GRANTS: usize = 4096;
-
 /// The first refusal of a route that holds before a vector is looked at. It takes no memory.
 pub fn refusal(book: &Book, net: &Net, id: u32, agent: u16, node: u16) -> Option<RouteFault>
     ensures same { option_map route_fault_view result ≡ option_map (λ why. Some why)
@@ -28,7 +25,7 @@ pub fn refusal(book: &Book, net: &Net, id: u32, agent: u16, node: u16) -> Option
     if !is_vectors(net, node) {
         return Some(RouteFault::NoTarget);
     }
-    if book.grants().len() >= MAX_GRANTS {
+    if book.is_full() {
         return Some(RouteFault::BookFull);
     }
     None

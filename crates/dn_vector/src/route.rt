@@ -2,8 +2,10 @@
 
 ghost use Rattle.std.specs.Prelude.{◌≡◌, ◌≢◌, true, false, is_err, OnOk};
 ghost use Rattle.dn_kind.specs.Terms.{kinds_of};
-ghost use Rattle.dn_book.specs.Terms.{IsCommitted, IsFaithful};
-ghost use Rattle.dn_vector.specs.Terms.{IsRouteLogged, IsRouteOutcome, MayRoute, is_route_fault, route_answer_view};
+ghost use Rattle.dn_tables.specs.Terms.{words_of};
+ghost use Rattle.dn_book.specs.Terms.{IsChangedBook, IsFaithful, MayChange};
+ghost use Rattle.dn_view.specs.Terms.{IsSystem};
+ghost use Rattle.dn_vector.specs.Terms.{IsRouteLogged, IsRouteOutcome, is_route_fault, route_answer_view};
 
 use crate::fault::RouteFault;
 use crate::refusal::refusal;
@@ -23,8 +25,9 @@ use std::alloc::Global;
 /// definition of the refusal says so; they take no memory. `NoPlacement` exactly where no such vector
 /// is there. `OutOfMemory` for want of memory. After all of these nothing has changed. `Device` only
 /// where the device's count of faults rose in this call, or stands at the last value of its counter:
-/// the writes before the one that failed are done, no grant comes in, and the book is only read from
-/// then on. `NoPlacement` is complete: records other than those of placements give no free vector either.
+/// the writes before the one that failed are done, and under them each name resolves as before the
+/// route or as with it. No grant comes in, and the book is only read from then on. `NoPlacement` is
+/// complete: records other than those of placements give no free vector either.
 pub fn route<D: Tables>(
     alloc: Global,
     book: &mut Book,
@@ -35,22 +38,25 @@ pub fn route<D: Tables>(
     node: u16,
     device: &mut D,
 ) -> Result<u64, RouteFault>
-    requires ready { MayRoute meaning system book.old (D.units device.old) (D.words device.old) }
+    requires system { IsSystem meaning system }
+    requires ready { MayChange meaning system.on book.old (D.units device.old) (D.words device.old) }
     ensures turn { IsRouteOutcome system.entry.on.net.now book.old.grants id agent line node
         (route_answer_view result) book.new.grants }
     ensures unchanged { is_err result ≡ true → result ≢ Err RouteFault.Device →
         (book.new ≡ book.old) × (device.new ≡ device.old) }
-    ensures committed { IsCommitted system.entry.on.net.now
-        (kinds_of meaning system.entry.on.kinds.now) result (is_route_fault result) book.new
+    ensures changed { IsChangedBook system.entry.on.net.now
+        (kinds_of meaning system.entry.on.kinds.now) false result (is_route_fault result) book.new
         (D.units device.new) (D.words device.new) (D.faults device.old) (D.faults device.new) }
     ensures faithful { OnOk result (IsFaithful system.entry.on.net.now book.old.grants
         → IsFaithful system.entry.on.net.now book.new.grants) }
     ensures routed { OnOk result (IsRouteLogged system.entry.on.net.now
         (kinds_of meaning system.entry.on.kinds.now) book.old.grants
-        book.old.cleared id agent line node false (D.log device.old) (D.log device.new)) }
+        book.old.cleared id agent line node false (D.log device.old) (D.log device.new)
+        (words_of book.new.set)) }
     ensures stopped { result ≡ Err RouteFault.Device → IsRouteLogged system.entry.on.net.now
         (kinds_of meaning system.entry.on.kinds.now) book.old.grants
-        book.old.cleared id agent line node true (D.log device.old) (D.log device.new) }
+        book.old.cleared id agent line node true (D.log device.old) (D.log device.new)
+        (words_of book.new.set) }
 {
     if let Some(why) = refusal(book, system.on.net, id, agent, node) {
         return Err(why);
