@@ -3,9 +3,13 @@
 //! The crates whose tests use them know no texts of the language. A [`plan::Plan`] has nodes with
 //! their parts, and gives a net once all rules are kept, so that whoever has that net may ask what its
 //! calls require. The kinds of its units are those of [`program_kinds`].
+//!
+//! Under test alone stand the tests of what lies below tables and texts.
 #![tactic(auto)]
 
 pub mod plan;
+#[cfg(test)]
+mod tests;
 pub mod unmade;
 
 pub use plan::{Plan, bare_node, to};
@@ -52,6 +56,16 @@ macro_rules! sure_kinds {
         let radix = Box::new($alloc, dn_kinds::shipped::ShippedKind::Radix).expect($rt, "memory");
         kinds.add(radix).expect($rt, "memory");
         kinds
+    }};
+}
+
+/// The plan of these parts, each a call on it, in a test: what cannot be made ends it.
+#[macro_export]
+macro_rules! sure_plan {
+    ($rt:expr, $alloc:expr; $($part:ident($($value:expr),+));+) => {{
+        let mut plan = $crate::plan::Plan::new($alloc);
+        $( plan.$part($($value),+).expect($rt, "a plan"); )+
+        plan
     }};
 }
 

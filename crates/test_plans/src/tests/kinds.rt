@@ -1,0 +1,43 @@
+//! Tests of the kinds of units: the records that words spell in each layout and the words of records, the shapes
+//! that each kind fits, the list of kinds, the rule on the shape of each unit, and the record that a slot holds.
+//!
+//! The wanted values are worked out by hand from the layouts and the limits. No text with a unit is taken, so the
+//! nets are made by calls.
+
+ghost use Rattle.std.specs.Prelude.{◌≡◌, IfOk};
+ghost use Rattle.dn_kind.specs.Terms.{unit_shape};
+
+use dn_base::items::Items;
+use dn_kind::shape::Shape;
+use dn_net::node::Unit;
+use std::alloc::{AllocError, Global};
+
+mod layouts;
+mod slots;
+mod units;
+
+/// A shape of page, slots, reach and ports.
+pub fn shape(page: u8, slots: u32, reach: u8, ports: u8) -> Shape
+    ensures { result ≡ record { page = page; slots = slots; reach = reach; ports = ports } }
+{
+    Shape {
+        page,
+        slots,
+        reach,
+        ports,
+    }
+}
+
+/// A unit of this shape, of the kind of a number. Its ports are all node 0. `Err` is want of memory.
+pub fn unit_of(alloc: Global, kind: u8, shape: Shape) -> Result<Unit, AllocError>
+    ensures { IfOk result (λ u. unit_shape u ≡ shape) }
+{
+    let ports = vec![in alloc; 0; usize::from(shape.ports)]?;
+    Ok(Unit {
+        kind,
+        page: shape.page,
+        slots: shape.slots,
+        reach: shape.reach,
+        ports: Items::from_vec(ports),
+    })
+}

@@ -1,0 +1,108 @@
+//! The list of kinds, and the rule on the shape of each unit.
+
+use crate::tests::kinds::shape;
+use crate::{PAGES, Plan, RADIX, REMAP, Unmade, VECTORS, program_kinds};
+use dn_kind::kinds::Kinds;
+use dn_kind::shape::Shape;
+use dn_kind::unit_kind::UnitKind;
+use dn_kind::units::UnitFault;
+use dn_kinds::shipped::ShippedKind::{Pages, Radix, Remap, Vectors};
+use dn_kinds::shipped::shipped_are_lawful;
+use dn_net::node::Role;
+use std::alloc::Global;
+use std::test::Fail;
+
+/// A unit's kind, by its number, and its shape, which has at most nine ports.
+type ShapedUnit = (u8, Shape);
+
+/// Adds a unit to a plan, all of whose ports are node 0.
+fn add_unit(plan: &mut Plan, title: &str, row: ShapedUnit) -> Result<(), Unmade> {
+    let (kind, shape) = row;
+    let ports = usize::from(shape.ports).min(9);
+    let zeros = [0; 9];
+    let Shape {
+        page,
+        slots,
+        reach,
+        ..
+    } = shape;
+    plan.unit(title, kind, page, slots, reach, &zeros[..ports])
+}
+
+/// What the rule says of a net of a plain node, which is node 0, and two units behind it.
+fn checked(alloc: Global, first: ShapedUnit, second: ShapedUnit) -> Result<(), Unmade> {
+    let kinds = program_kinds!(alloc);
+    let mut plan = Plan::new(alloc);
+    plan.node("ram", Role::Plain)?;
+    add_unit(&mut plan, "first", first)?;
+    add_unit(&mut plan, "second", second)?;
+    plan.check_shapes(alloc, &kinds)
+}
+
+#[test]
+fn lists_kinds_in_their_order(rt: HostRuntime) -> Result<(), Fail> {
+    let alloc = rt.alloc();
+    shipped_are_lawful();
+    let mut kinds = Kinds::none(alloc);
+    assert_eq!(rt; kinds.len(), 0);
+    kinds.add(Box::new(alloc, Pages)?)?;
+    assert_eq!(rt; kinds.len(), 1);
+    kinds.add(Box::new(alloc, Remap)?)?;
+    kinds.add(Box::new(alloc, Vectors)?)?;
+    kinds.add(Box::new(alloc, Radix)?)?;
+    assert_eq!(rt; kinds.len(), 4);
+    for (number, name, words) in [
+        (0, "pages", 1),
+        (1, "remap", 1),
+        (2, "vectors", 2),
+        (3, "radix", 1),
+    ] {
+        assert!(rt; number < kinds.len());
+        assert_eq!(rt; kinds.kind(number).name(), name);
+        assert_eq!(rt; kinds.kind(number).words(), words);
+    }
+    Ok(())
+}
+
+#[test]
+fn takes_units_up_to_each_limit(rt: HostRuntime) -> Result<(), Fail> {
+    let right = (REMAP, shape(12, 16, 32, 1));
+    let refused = Err(Unmade::Units(UnitFault::UnitShape { node: 2 }));
+    for (kind, shape, wanted) in [
+        (REMAP, shape(12, 262_144, 32, 1), Ok(())),
+        (REMAP, shape(40, 1, 40, 1), Ok(())),
+        (REMAP, shape(12, 16, 56, 1), Ok(())),
+        (REMAP, shape(12, 16, 12, 1), Ok(())),
+        (REMAP, shape(12, 16, 32, 8), Ok(())),
+        (PAGES, shape(12, 16, 32, 1), Ok(())),
+        (VECTORS, shape(0, 16, 32, 8), Ok(())),
+        (RADIX, shape(12, 16, 12, 8), Ok(())),
+        (REMAP, shape(12, 262_145, 32, 1), refused),
+        (REMAP, shape(12, 0, 32, 1), refused),
+        (REMAP, shape(41, 1, 56, 1), refused),
+        (REMAP, shape(12, 16, 57, 1), refused),
+        (REMAP, shape(12, 16, 11, 1), refused),
+        (REMAP, shape(12, 16, 32, 9), refused),
+        (REMAP, shape(12, 16, 32, 0), refused),
+        (PAGES, shape(12, 16, 32, 2), refused),
+        (VECTORS, shape(1, 16, 32, 8), refused),
+        (RADIX, shape(11, 16, 32, 8), refused),
+        (RADIX, shape(13, 16, 32, 8), refused),
+    ] {
+        let given = checked(rt.alloc(), right, (kind, shape));
+        assert_eq!(rt; given, wanted, "{kind} {shape:?}");
+    }
+    Ok(())
+}
+
+#[test]
+fn names_the_first_wrong_unit(rt: HostRuntime) -> Result<(), Fail> {
+    let right = (REMAP, shape(12, 16, 32, 1));
+    let wrong = (REMAP, shape(12, 0, 32, 1));
+    let named = Err(Unmade::Units(UnitFault::UnitShape { node: 1 }));
+    assert_eq!(rt; checked(rt.alloc(), wrong, right), named);
+    assert_eq!(rt; checked(rt.alloc(), wrong, wrong), named);
+    let printed = format!(in rt.alloc(); "{}", UnitFault::UnitShape { node: 1 })?;
+    assert_eq!(rt; printed.as_str(), "UnitShape");
+    Ok(())
+}
