@@ -1,1 +1,4 @@
 mod Held
+pub mod Keeping
+pub mod Owns
+pub mod Parts

@@ -1,25 +1,21 @@
-//! Tests of tables, of their images and of lookups in these.
+//! Tests of tables, of their images and of lookups in these (`tables`), and of the grants and routes that fill
+//! tables (`grants`).
 //!
-//! The nets are made by calls, in `boards`. A call on a slot of a set asks that the slot is
-//! there, and some that it is empty and that a record fits: `slots` tests this first. The wanted
-//! words, events, bytes and names are worked out by hand. What needs the kinds of the program is
-//! called by one test, in `all`, since making these kinds is the dearest part of each.
+//! The nets are made by calls. A call asks much of its arguments, so it is made by a function that tests this
+//! first. On a slot of a set these functions are in `slots`: they test that the slot is there, and for some calls
+//! that it is empty and that a record fits. On a book of grants they are in `calls`. The wanted words, events, bytes
+//! and names are worked out by hand.
 #![tactic(auto)]
 
-#[cfg(test)]
-mod all;
 pub mod bench;
 #[cfg(test)]
-mod boards;
+mod calls;
+pub mod desk;
 #[cfg(test)]
-mod devices;
+mod grants;
 #[cfg(test)]
-mod images;
-#[cfg(test)]
-mod lookups;
-#[cfg(test)]
-mod sets;
+mod own;
 #[cfg(test)]
 mod slots;
 #[cfg(test)]
-mod units;
+mod tables;

@@ -91,7 +91,7 @@ fn can_hold(unit: &Unit, wanted: Record) -> bool
 }
 
 /// Whether rights are those of a record: one access, or both.
-fn are_rights(rights: Rights) -> bool
+pub fn are_rights(rights: Rights) -> bool
     ensures { result ≡ are_rights rights }
 {
     1 <= rights.bits() && rights.bits() <= 3

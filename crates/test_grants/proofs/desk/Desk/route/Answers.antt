@@ -1,8 +1,0 @@
-use Rattle.test_grants.proofs.Keeping.{desk_after, routed_keeps}
-use Rattle.test_grants.proofs.desk.Desk.route.Goals as goal
-
-pub returns : goal.returns
-returns g c =
-    desk_after c.requires.system
-    (routed_keeps _ _ _ _ _ c.route.result c.requires.kept c.route.ensures.committed.kept c.route.ensures.unchanged c.route.ensures.committed.unfailed)
-    c.route.ensures.committed.fits c.route.ensures.committed.on_device

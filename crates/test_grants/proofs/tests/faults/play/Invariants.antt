@@ -1,6 +1,0 @@
--- The book keeps its grants from one call to the next.
-use Rattle.test_grants.specs.Desk.{IsDesk}
-use Rattle.test_grants.proofs.tests.faults.play.Given as goal
-
-abbrev pub invariant-loop-turn : goal.invariant-loop-turn
-invariant-loop-turn g l = IsDesk (λ k. (goal.UnitKind-dyn g k).meaning k.1) l.desk

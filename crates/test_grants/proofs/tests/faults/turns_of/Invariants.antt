@@ -1,6 +1,0 @@
--- The book keeps its grants from one call to the next.
-use Rattle.test_grants.specs.Desk.{IsDesk}
-use Rattle.test_grants.proofs.tests.faults.turns_of.Given as goal
-
-abbrev pub invariant-loop : goal.invariant-loop
-invariant-loop g l = IsDesk (λ k. (goal.UnitKind-dyn g k).meaning k.1) l.desk
