@@ -1,10 +1,10 @@
 //! One step of decoding.
 
+use crate::machine::Machine;
 use dn_net::node::{Name, TOP};
 use dn_net::step::Step;
 use std::alloc::Global;
 use std::test::Fail;
-use test_kit::Machine;
 
 /// A bus that accepts, maps and sends on, a memory behind it, and a unit in front of both, which is node 2.
 fn board(alloc: Global) -> Result<Machine, Fail> {

@@ -1,7 +1,9 @@
-//! Tests of nets: the nodes that a net shows, sets of names, the rules on nodes, one step of decoding, and the
-//! live walks with the rules on them.
+//! Tests of nets: what a net shows of its nodes, sets of names, the rules on nodes, one step of decoding, the live
+//! walks with the rules on them, what nodes see, stages, and the limits that split and absorbed nets keep.
 //!
-//! The wanted values are worked out by hand. The nets are those of texts.
+//! The wanted values are worked out by hand. The nets are those of texts or of plans, in `nets`; a net with its live
+//! walks is a machine, in `machine`. What an agent sees, and what splitting and absorbing make of small nets, is shown
+//! by texts of `answers/`, and compared with a plain search by the judge there.
 #![tactic(auto)]
 
 ghost use Rattle.std.specs.Prelude.{◌≡◌, IfNone, None};
@@ -14,9 +16,19 @@ use std::alloc::Global;
 #[cfg(test)]
 mod decoding;
 #[cfg(test)]
+mod limits;
+#[cfg(test)]
+mod machine;
+#[cfg(test)]
+mod nets;
+#[cfg(test)]
 mod nodes;
 #[cfg(test)]
 mod rules;
+#[cfg(test)]
+mod stages;
+#[cfg(test)]
+mod views;
 #[cfg(test)]
 mod walking;
 

@@ -1,10 +1,10 @@
 //! What a net shows of its nodes, and sets of names.
 
+use crate::nets::net_of;
 use dn_net::names::Names;
 use dn_net::net::Net;
 use dn_net::node::{Block, Name, Role};
 use std::test::Fail;
-use test_kit::texts::net_of;
 
 #[test]
 fn numbers_nodes_in_their_order(rt: HostRuntime) -> Result<(), Fail> {

@@ -1,10 +1,10 @@
 //! The rules on nodes: the fault of the first node that breaks one.
 
 use crate::fault_of;
+use crate::nets::net_of;
 use dn_net::node::TOP;
 use dn_net::rules::NodeFault;
 use std::test::Fail;
-use test_kit::texts::net_of;
 
 /// The fault of node 0, two of whose blocks have an address, which is the least of such.
 fn overlap(addr: u64) -> Option<NodeFault> {

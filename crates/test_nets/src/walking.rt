@@ -1,5 +1,6 @@
 //! The live walks of nets, and the rules on walks.
 
+use crate::nets::net_of;
 use dn_base::items::Items;
 use dn_net::node::Name;
 use dn_walk::fault::WalkFault;
@@ -7,7 +8,6 @@ use dn_walk::walks::{WalkRow, WalkTable, walks};
 use std::alloc::{AllocError, Global};
 use std::process::Abort;
 use std::test::Fail;
-use test_kit::texts::net_of;
 
 /// What `walks` answers for the net of a text: the rows, each as `start lo-hi end@base len`, with the addresses
 /// in hexadecimal, or the rule that is broken, with the names and units that it shows. A net whose units have

@@ -4,8 +4,9 @@ ghost use Rattle.std.specs.Prelude.{◌<◌, length};
 ghost use Rattle.dn_flat.specs.Terms.{IsStage};
 ghost use Rattle.dn_net.specs.Terms.{IsLegalNet};
 
-use crate::{legal, names_at};
+use crate::nets::legal;
 use dn_flat::stage::Stage;
+use dn_interval::Rows;
 use dn_net::names::Names;
 use dn_net::net::Net;
 use dn_net::node::{Dest, Name, Role};
@@ -14,6 +15,21 @@ use std::alloc::{AllocError, Global};
 use std::process::Abort;
 use std::test::Fail;
 use test_plans::{PAGES, Plan, Unmade, to};
+
+/// The names that rows give to an address.
+fn names_at(alloc: Global, rows: &Rows, addr: u64) -> Result<Vec<Name>, AllocError> {
+    let mut names = Vec::new(alloc);
+    if let Some(row) = rows.at(addr) {
+        let by = addr.wrapping_sub(row.span().lo);
+        for end in row.ends() {
+            if let Some(addr) = end.base.checked_add(by) {
+                let node = end.node;
+                names.push(Name { node, addr })?;
+            }
+        }
+    }
+    Ok(names)
+}
 
 /// Where chains of steps from a name are after some steps, and the accepted names and the names in units that
 /// they met before.

@@ -2,14 +2,18 @@
 
 ghost use Rattle.dn_net.specs.Terms.{IsLegalNet};
 
-use crate::first_end;
+use crate::machine::Machine;
 use dn_flat::stage::Stage;
 use dn_interval::onward::follow;
 use dn_interval::{End, Row, Rows, Seg, Span, TOP};
 use dn_net::net::Net;
 use std::alloc::{AllocError, Global};
 use std::process::Abort;
-use test_kit::Machine;
+
+/// The end of a row that goes on from a node's first address.
+fn first_end(node: u16) -> End {
+    End { node, base: 0 }
+}
 
 /// Two nodes a level, each of which sends all of its addresses to both of the next: 1,048,500 live walks.
 const CROWD: &str = "agent a[0] is map [0x0-0xff to a[1] and b[1]];

@@ -1,6 +1,6 @@
 //! Nets that pass a limit when they are split or a node is absorbed, and nets that just keep it.
 
-use crate::legal;
+use crate::nets::legal;
 use dn_net::node::{Dest, Role};
 use dn_shape::absorb::absorb;
 use dn_shape::fault::{AbsorbFault, SplitFault, Why};
