@@ -6,7 +6,7 @@
 //! what needs a source, a sink and a device that a test can direct: a read or a write that fails
 //! ends the run with its status, no call is made again or beside those that are needed, and words of
 //! no form read nothing (`faults`). Each call of the device fails in turn: where the units of a net
-//! are made (`devices`), in grants, routes and revokes (`stops`), and in a demonstration (`demos`).
+//! are made (`devices`), in grants, routes and revokes (`stops`, and with rights of each access `rights`), and in a demonstration (`demos`).
 //! `failing` says which calls fail, `outcome` runs the words over a text, `rows` compares what comes of it, and `words` has the words
 //! of the faults of a text.
 #![tactic(auto)]

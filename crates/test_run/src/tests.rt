@@ -3,6 +3,7 @@
 mod demos;
 mod devices;
 mod faults;
+mod rights;
 mod rows;
 mod stops;
 mod words;

@@ -4,23 +4,28 @@ use crate::failing::failing_calls;
 use crate::outcome::{Outcome, answer};
 use crate::tests::rows::front;
 use dn_base::device::TableEvent;
+use dn_kind::rights::Access;
 use dn_tool::run::{DEVICE_FAULT, DONE};
 use std::alloc::Global;
 use std::process::Abort;
 
 /// The board of a script.
 #[derive(Clone, Copy)]
-enum Board {
+pub(crate) enum Board {
     /// A card behind `bridge`, node 2, and `smmu`, node 4.
     Card,
     /// A network card whose interrupts go through `irt`, node 2.
     Network,
+    /// The same card, and a network card behind `irt`, node 7, whose four lines come after the pages of the card.
+    Both,
+    /// A card behind `smpt`, node 5, and `iommu`, node 7, which leads to a bus.
+    Bus,
 }
 
 /// A script, and what is worked out by hand for a run in which no call fails: the replies and the
 /// events.
 #[derive(Clone, Copy)]
-struct Script<'a> {
+pub(crate) struct Script<'a> {
     platform: Board,
     text: &'a str,
     replies: &'a str,
@@ -28,7 +33,7 @@ struct Script<'a> {
 }
 
 /// A script with these replies and events.
-fn script_of<'a>(
+pub(crate) fn script_of<'a>(
     platform: Board,
     text: &'a str,
     replies: &'a str,
@@ -44,23 +49,23 @@ fn script_of<'a>(
 
 /// How many events there are, and how many bytes of replies, once some turns were gone through.
 #[derive(Clone, Copy)]
-struct Done {
-    events: u32,
-    bytes: usize,
+pub(crate) struct Done {
+    pub(crate) events: u32,
+    pub(crate) bytes: usize,
 }
 
 /// The event of a unit that is made.
-fn made(unit: u16, words: u32) -> TableEvent {
+pub(crate) fn made(unit: u16, words: u32) -> TableEvent {
     TableEvent::Make { unit, words }
 }
 
 /// The event of a write.
-fn written(unit: u16, word: u32, value: u64) -> TableEvent {
+pub(crate) fn written(unit: u16, word: u32, value: u64) -> TableEvent {
     TableEvent::Write { unit, word, value }
 }
 
 /// The event of a write that leaves a word free.
-fn freed(unit: u16, word: u32) -> TableEvent {
+pub(crate) fn freed(unit: u16, word: u32) -> TableEvent {
     written(unit, word, 0)
 }
 
@@ -82,24 +87,47 @@ fn word_in(events: &[TableEvent], unit: u16, word: u32) -> u64 {
     last
 }
 
-/// Where the words that events leave lead a page of the card or a line of the network card: to a
-/// page of the memory or to a vector, or nowhere.
-fn end_of(platform: Board, events: &[TableEvent], input: u16) -> Option<u64> {
+/// Whether a record with this gate word lets an access through.
+fn is_open(gate: u64, access: Access) -> bool {
+    let shut = match access {
+        Access::Read => 16,
+        Access::Write => 32,
+    };
+    gate % 2 == 1 && (gate / shut) % 2 == 0
+}
+
+/// Where the words of two units in a row lead a page of a card: the slot of the near one may send its pages to the first
+/// slots of the far one alone.
+fn page_of(near: u64, far: u64, access: Access) -> Option<u64> {
+    let passed = is_open(near, access) && near / 256 == 0 && is_open(far, access);
+    passed.then_some(far / 256)
+}
+
+/// Where the words that events leave lead a page of the card or a line of the network card, for an
+/// access: to a page of the memory or to a vector, or nowhere.
+pub(crate) fn end_of(
+    platform: Board,
+    events: &[TableEvent],
+    input: u16,
+    access: Access,
+) -> Option<u64> {
     let input = u32::from(input);
-    match platform {
-        Board::Card => {
-            // Four pages are a slot of `bridge`, which may send them to the four slots of `smmu`
-            // alone.
-            let near = word_in(events, 2, input / 4);
-            let far = word_in(events, 4, input % 4);
-            (near == 1 && far % 256 == 1).then_some(far / 256)
+    let (irt, line) = match platform {
+        Board::Card => (0, None),
+        Board::Network => (2, Some(input)),
+        Board::Both => (7, input.checked_sub(16)),
+        Board::Bus => {
+            let near = word_in(events, 5, 0);
+            let page = page_of(near, word_in(events, 7, input), access);
+            return page.and_then(|page| page.checked_sub(0x80000));
         }
-        Board::Network => {
-            let vector = word_in(events, 2, 2 * input);
-            let gate = word_in(events, 2, 2 * input + 1);
-            (gate == 1).then_some(vector)
-        }
-    }
+    };
+    let Some(line) = line else {
+        let near = word_in(events, 2, input / 4);
+        return page_of(near, word_in(events, 4, input % 4), access);
+    };
+    let vector = word_in(events, irt, 2 * line);
+    is_open(word_in(events, irt, 2 * line + 1), access).then_some(vector)
 }
 
 /// Runs a script over a device of which one call fails.
@@ -109,7 +137,7 @@ fn run_failing(rt: &impl Abort, alloc: Global, script: &Script<'_>, call: u32) -
     answer(rt, alloc, &["run"], script.text.as_bytes(), 4096, failing)
 }
 
-/// Each page or line leads where it did before a turn, or where it does behind it.
+/// Each page or line leads for each access where it did before a turn, or where it does after it.
 fn compare_ends(
     rt: &impl Abort,
     script: &Script<'_>,
@@ -119,11 +147,13 @@ fn compare_ends(
 ) {
     let old = front(script.events, before.events);
     let new = front(script.events, behind.events);
-    for input in 0..16u16 {
-        let given = end_of(script.platform, log, input);
-        let is_old = given == end_of(script.platform, old, input);
-        let is_new = given == end_of(script.platform, new, input);
-        assert!(rt; is_old || is_new, "input {input} of {log:?}");
+    for input in 0..20u16 {
+        for access in [Access::Read, Access::Write] {
+            let given = end_of(script.platform, log, input, access);
+            let is_old = given == end_of(script.platform, old, input, access);
+            let is_new = given == end_of(script.platform, new, input, access);
+            assert!(rt; is_old || is_new, "input {input} of {log:?}");
+        }
     }
 }
 
@@ -144,7 +174,7 @@ fn fail_in_turn(rt: &impl Abort, alloc: Global, script: &Script<'_>, before: Don
 }
 
 /// Fails each call of a script, turn by turn, and then one more, which is not made.
-fn fail_each(rt: &impl Abort, alloc: Global, script: &Script<'_>, turns: &[Done]) {
+pub(crate) fn fail_each(rt: &impl Abort, alloc: Global, script: &Script<'_>, turns: &[Done]) {
     let mut before = Done {
         events: 0,
         bytes: 0,
@@ -210,7 +240,11 @@ fn stops_in_grants_and_revokes(rt: HostRuntime) {
         (4, None),
     ] {
         let granted = front(&events, 6);
-        assert_eq!(rt; end_of(Board::Card, granted, page), end, "{page}");
+        assert_eq!(rt;
+            end_of(Board::Card, granted, page, Access::Read),
+            end,
+            "{page}"
+        );
     }
     let turns = [
         (2, 0),
@@ -256,8 +290,12 @@ fn stops_in_routes(rt: HostRuntime) {
         written(2, 7, 1),
     ];
     let script = script_of(Board::Network, NETWORK, ROUTED, &events);
-    assert_eq!(rt; end_of(Board::Network, front(&events, 3), 2), Some(0x20));
-    assert_eq!(rt; end_of(Board::Network, front(&events, 3), 3), None);
+    let routed = front(&events, 3);
+    assert_eq!(rt;
+        end_of(Board::Network, routed, 2, Access::Write),
+        Some(0x20)
+    );
+    assert_eq!(rt; end_of(Board::Network, routed, 3, Access::Write), None);
     let turns = [(1, 0), (3, 15), (3, 34), (5, 45), (8, 60)].map(|(events, bytes)| Done {
         events,
         bytes,
