@@ -99,8 +99,8 @@ stopped_inside P t r next log log' e is a =
 -- grants
 
 -- a grant that was made
-pub granted_turn : (kinds : List Meaning) (net : List NodeDecl) (s next : State) (id : List ℕ) (rq : Request) (v : ℕ) (book' : List Grant) (log log' : Option (List TableEvent)) → IsGrantMade net s.book (id_number s.ids id) rq v book' → IsGrantLogged net kinds s.book s.cleared (id_number s.ids id) rq false log log' → record { book = book'; cleared = false; ids = with_id s.ids id } ≡ next → IsChanged (IsGrantTurn kinds net s id rq) next (granted_text id v) log log'
-granted_turn kinds net s next id rq v book' log log' made logged left =
+pub granted_turn : (kinds : List Meaning) (net : List NodeDecl) (s next : State) (id : List ℕ) (rq : Request) (v : ℕ) (book' : List Grant) (log log' : Option (List TableEvent)) (words' : List (List ℕ)) → IsGrantMade net s.book (id_number s.ids id) rq v book' → IsGrantLogged net kinds s.book s.cleared (id_number s.ids id) rq false log log' words' → record { book = book'; cleared = false; ids = with_id s.ids id } ≡ next → IsChanged (IsGrantTurn kinds net s id rq) next (granted_text id v) log log'
+granted_turn kinds net s next id rq v book' log log' words' made logged left =
     let n : ℕ = id_number s.ids id in
     let same : logged.place ≡ made.place = first_is_one net (slots_of net s.book) rq None logged.place made.place logged.placed.first made.placed.first in
     let all : Logged log log' (grant_events net kinds s.book s.cleared (grant_of_request n rq logged.place)) = added_all _ log log' logged.added in
@@ -113,8 +113,8 @@ granted_turn kinds net s next id rq v book' log log' made logged left =
     }
 
 -- a grant at which the device failed
-pub grant_stopped : (kinds : List Meaning) (net : List NodeDecl) (s next : State) (id : List ℕ) (rq : Request) (r : Result (List ℕ) RunHalt) (log log' : Option (List TableEvent)) → r ≡ Err DeviceFault → IsGrantLogged net kinds s.book s.cleared (id_number s.ids id) rq true log log' → CameThroughChange (IsGrantTurn kinds net s id rq) r next log log'
-grant_stopped kinds net s next id rq r log log' e logged =
+pub grant_stopped : (kinds : List Meaning) (net : List NodeDecl) (s next : State) (id : List ℕ) (rq : Request) (r : Result (List ℕ) RunHalt) (log log' : Option (List TableEvent)) (words' : List (List ℕ)) → r ≡ Err DeviceFault → IsGrantLogged net kinds s.book s.cleared (id_number s.ids id) rq true log log' words' → CameThroughChange (IsGrantTurn kinds net s id rq) r next log log'
+grant_stopped kinds net s next id rq r log log' words' e logged =
     stopped_inside (IsGrantTurn kinds net s id rq) (turn_with_grant net kinds s id (grant_of_request (id_number s.ids id) rq logged.place) (granted_text id logged.place.v)) r next log log' e (inl (record { place = logged.place; placed = logged.placed; is_turn = refl })) logged.added
 
 -- a fault that comes neither of the device nor of want of memory says a refusal
@@ -163,8 +163,8 @@ same_place net book n agent line node v w p q a b e =
     first_is_one net (slots_of net book) (vector_request agent node w) (Some line) p q c.placed.first b.placed.first
 
 -- a route that was made
-pub routed_turn : (kinds : List Meaning) (net : List NodeDecl) (s next : State) (id : List ℕ) (agent line node v : ℕ) (book' : List Grant) (log log' : Option (List TableEvent)) → IsRouteMade net s.book (id_number s.ids id) agent line node v book' → IsRouteLogged net kinds s.book s.cleared (id_number s.ids id) agent line node false log log' → record { book = book'; cleared = false; ids = with_id s.ids id } ≡ next → IsChanged (IsRouteTurn kinds net s id agent line node) next (routed_text id v) log log'
-routed_turn kinds net s next id agent line node v book' log log' made logged left =
+pub routed_turn : (kinds : List Meaning) (net : List NodeDecl) (s next : State) (id : List ℕ) (agent line node v : ℕ) (book' : List Grant) (log log' : Option (List TableEvent)) (words' : List (List ℕ)) → IsRouteMade net s.book (id_number s.ids id) agent line node v book' → IsRouteLogged net kinds s.book s.cleared (id_number s.ids id) agent line node false log log' words' → record { book = book'; cleared = false; ids = with_id s.ids id } ≡ next → IsChanged (IsRouteTurn kinds net s id agent line node) next (routed_text id v) log log'
+routed_turn kinds net s next id agent line node v book' log log' words' made logged left =
     let n : ℕ = id_number s.ids id in
     let vector : logged.vector ≡ v = same_vector net s.book n agent line node logged.vector v logged.place made.place logged.placed made.placed in
     let place : logged.place ≡ made.place = same_place net s.book n agent line node logged.vector v logged.place made.place logged.placed made.placed vector in
@@ -179,8 +179,8 @@ routed_turn kinds net s next id agent line node v book' log log' made logged lef
     }
 
 -- a route at which the device failed
-pub route_stopped : (kinds : List Meaning) (net : List NodeDecl) (s next : State) (id : List ℕ) (agent line node : ℕ) (r : Result (List ℕ) RunHalt) (log log' : Option (List TableEvent)) → r ≡ Err DeviceFault → IsRouteLogged net kinds s.book s.cleared (id_number s.ids id) agent line node true log log' → CameThroughChange (IsRouteTurn kinds net s id agent line node) r next log log'
-route_stopped kinds net s next id agent line node r log log' e logged =
+pub route_stopped : (kinds : List Meaning) (net : List NodeDecl) (s next : State) (id : List ℕ) (agent line node : ℕ) (r : Result (List ℕ) RunHalt) (log log' : Option (List TableEvent)) (words' : List (List ℕ)) → r ≡ Err DeviceFault → IsRouteLogged net kinds s.book s.cleared (id_number s.ids id) agent line node true log log' words' → CameThroughChange (IsRouteTurn kinds net s id agent line node) r next log log'
+route_stopped kinds net s next id agent line node r log log' words' e logged =
     stopped_inside (IsRouteTurn kinds net s id agent line node) (turn_with_grant net kinds s id (grant_of_route (id_number s.ids id) agent node logged.vector logged.place) (routed_text id logged.vector)) r next log log' e (inl (record { vector = logged.vector; place = logged.place; placed = logged.placed; is_turn = refl })) logged.added
 
 -- a fault that comes neither of the device nor of want of memory says a refusal
@@ -359,18 +359,18 @@ on_ok (Err e) P p = tt
 
 -- a change of a state that is kept, made under the number of its id
 
-pub state_granted : (kinds : List Meaning) (net : List NodeDecl) (k after : Kept) (id : List ℕ) (rq : Request) (n v : ℕ) (book : BookState) (log log' : Option (List TableEvent)) → n ≡ id_number k.ids id → IsGrantMade net k.book.grants n rq v book.grants → IsGrantLogged net kinds k.book.grants k.book.cleared n rq false log log' → after.book ≡ book → after.ids ≡ with_id k.ids id → book.cleared ≡ false → IsChanged (IsGrantTurn kinds net (state_view k) id rq) (state_view after) (granted_text id v) log log'
-state_granted kinds net k after id rq n v book log log' number made logged b i fenced =
-    granted_turn kinds net (state_view k) (state_view after) id rq v book.grants log log'
+pub state_granted : (kinds : List Meaning) (net : List NodeDecl) (k after : Kept) (id : List ℕ) (rq : Request) (n v : ℕ) (book : BookState) (log log' : Option (List TableEvent)) (words' : List (List ℕ)) → n ≡ id_number k.ids id → IsGrantMade net k.book.grants n rq v book.grants → IsGrantLogged net kinds k.book.grants k.book.cleared n rq false log log' words' → after.book ≡ book → after.ids ≡ with_id k.ids id → book.cleared ≡ false → IsChanged (IsGrantTurn kinds net (state_view k) id rq) (state_view after) (granted_text id v) log log'
+state_granted kinds net k after id rq n v book log log' words' number made logged b i fenced =
+    granted_turn kinds net (state_view k) (state_view after) id rq v book.grants log log' words'
     (subst (λ m. IsGrantMade net k.book.grants m rq v book.grants) number made)
-    (subst (λ m. IsGrantLogged net kinds k.book.grants k.book.cleared m rq false log log') number logged)
+    (subst (λ m. IsGrantLogged net kinds k.book.grants k.book.cleared m rq false log log' words') number logged)
     (state_left after book (with_id k.ids id) false b i fenced)
 
-pub state_routed : (kinds : List Meaning) (net : List NodeDecl) (k after : Kept) (id : List ℕ) (agent line node n v : ℕ) (book : BookState) (log log' : Option (List TableEvent)) → n ≡ id_number k.ids id → IsRouteMade net k.book.grants n agent line node v book.grants → IsRouteLogged net kinds k.book.grants k.book.cleared n agent line node false log log' → after.book ≡ book → after.ids ≡ with_id k.ids id → book.cleared ≡ false → IsChanged (IsRouteTurn kinds net (state_view k) id agent line node) (state_view after) (routed_text id v) log log'
-state_routed kinds net k after id agent line node n v book log log' number made logged b i fenced =
-    routed_turn kinds net (state_view k) (state_view after) id agent line node v book.grants log log'
+pub state_routed : (kinds : List Meaning) (net : List NodeDecl) (k after : Kept) (id : List ℕ) (agent line node n v : ℕ) (book : BookState) (log log' : Option (List TableEvent)) (words' : List (List ℕ)) → n ≡ id_number k.ids id → IsRouteMade net k.book.grants n agent line node v book.grants → IsRouteLogged net kinds k.book.grants k.book.cleared n agent line node false log log' words' → after.book ≡ book → after.ids ≡ with_id k.ids id → book.cleared ≡ false → IsChanged (IsRouteTurn kinds net (state_view k) id agent line node) (state_view after) (routed_text id v) log log'
+state_routed kinds net k after id agent line node n v book log log' words' number made logged b i fenced =
+    routed_turn kinds net (state_view k) (state_view after) id agent line node v book.grants log log' words'
     (subst (λ m. IsRouteMade net k.book.grants m agent line node v book.grants) number made)
-    (subst (λ m. IsRouteLogged net kinds k.book.grants k.book.cleared m agent line node false log log') number logged)
+    (subst (λ m. IsRouteLogged net kinds k.book.grants k.book.cleared m agent line node false log log' words') number logged)
     (state_left after book (with_id k.ids id) false b i fenced)
 
 pub state_revoked : (kinds : List Meaning) (net : List NodeDecl) (k after : Kept) (id : List ℕ) (n : ℕ) (book : BookState) (log log' : Option (List TableEvent)) → n ≡ id_number k.ids id → (has_id n k.book.grants ≡ false → ⊥) → ((g : Grant) → Member g k.book.grants → g.id ≡ n → AreAdded (revoke_events net kinds k.book.grants g) false log log') → book.grants ≡ without_id n k.book.grants → after.book ≡ book → after.ids ≡ with_id k.ids id → book.cleared ≡ true → IsChanged (IsRevokeTurn kinds net (state_view k) id) (state_view after) (revoked_text id) log log'

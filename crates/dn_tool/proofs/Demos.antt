@@ -10,7 +10,6 @@ use Rattle.dn_base.specs.declared.device.DeviceOrMemory.TheVariants.{Device, Out
 use Rattle.dn_base.specs.Device.{Logged, UnitSize, is_device_fault}
 use Rattle.dn_base.specs.Outside.{IsWritten}
 use Rattle.dn_base.proofs.Logs.{Logged-none}
-use Rattle.dn_base.proofs.Told.{if_some_then}
 use Rattle.dn_net.specs.declared.node.NodeDecl.{NodeDecl}
 use Rattle.dn_net.specs.Rules.{count_below}
 use Rattle.dn_net.proofs.Tally.{count_below-suc}
@@ -18,7 +17,6 @@ use Rattle.dn_kind.specs.Kind.{Meaning}
 use Rattle.dn_module.specs.declared.command.Command.{Command}
 use Rattle.dn_tables.specs.declared.table.NodeTable.{NodeTable}
 use Rattle.dn_tables.specs.Set.{IsOnDevice, device_tables, fresh_set, tables_of_set}
-use Rattle.dn_tables.proofs.Devices.{device_told}
 use Rattle.dn_tables.specs.Writes.{AreUnitsMade}
 use Rattle.dn_book.specs.declared.grant.Grant.{Grant as GrantPart}
 use Rattle.dn_book.specs.Tables.{IsKept, tables_of}
@@ -31,9 +29,12 @@ use Rattle.dn_tool.specs.Demo.{IsShown, IsSummedUp, has_granted, has_revoked, pa
 use Rattle.dn_tool.specs.Halt.{ending_status, is_device_halt, is_write_halt, make_halt}
 use Rattle.dn_tool.specs.Played.{IsPlayed, make_turn}
 use Rattle.dn_tool.specs.State.{CameThrough, IsChanged, IsTurned}
+use Rattle.dn_tool.specs.Stopped.{IsStopped}
 use Rattle.dn_tool.specs.Turn.{IsTurn, State, Turn, is_change, reply, reply_turn, start, state_after}
 use Rattle.dn_tool.proofs.Played.{IsGone, gone_more, gone_start, halted_by, halted_unmade, more_turns, played_whole, turns_count, unmade_by, whole_turns}
 use Rattle.dn_tool.proofs.Changes.{still_turn}
+use Rattle.dn_tool.proofs.Kept.{IsLawfulNet}
+use Rattle.dn_tool.proofs.Stopped.{words_told}
 
 -- a test that passes counts one at most
 pub one_at_most : (b : Bool) → (if b then 1 else 0) ≤ 1
@@ -96,11 +97,11 @@ abbrev pub IsTalliedOn : List Meaning → List NodeDecl → List Command → ℕ
 IsTalliedOn kinds net commands count s made log' granted revoked = (log : Option (List TableEvent)) → Logged log made (make_turn kinds net).events → IsTallied kinds net commands count s log log' granted revoked
 
 -- the units were made, and no command was gone through
-pub tallied_start : (kinds : List Meaning) (net : List NodeDecl) (commands : List Command) (i : ℕ) (s : State) (log log' : Option (List TableEvent)) → i ≡ 0 → s ≡ start → GivesOwed kinds net s.book → Logged log log' (make_turn kinds net).events → IsTallied kinds net commands i s log log' 0 0
-tallied_start kinds net commands i s log log' first is owed made =
+pub tallied_start : (kinds : List Meaning) (net : List NodeDecl) (commands : List Command) (i : ℕ) (s : State) (log log' : Option (List TableEvent)) → IsLawfulNet kinds net → i ≡ 0 → s ≡ start → GivesOwed kinds net s.book → Logged log log' (make_turn kinds net).events → IsTallied kinds net commands i s log log' 0 0
+tallied_start kinds net commands i s log log' known first is owed made =
     let empty : GivesOwed kinds net [] = subst (λ (z : State). GivesOwed kinds net z.book) is owed in
     let begun : IsTallied kinds net commands 0 start log log' 0 0 = record {
-      gone = gone_start kinds net commands 0 start None None log log' refl refl empty refl made;
+      gone = gone_start kinds net commands 0 start None None log log' known refl refl empty refl made;
       granted_are = refl;
       revoked_are = refl;
     } in
@@ -138,11 +139,6 @@ tallied_more kinds net commands i s c log log' log'' granted revoked granted' re
         ∙ ap (λ (cs : List Command). passing_turns p start cs (f.gone.turns ++ turned.turn ∷ [])) (sym first)
         ∙ ap (passing_turns p start (take (i + 1) commands)) (sym turns)
 
--- the words that a device tells are the tables of the book
-words_told : (kinds : List Meaning) (net : List NodeDecl) (book : List GrantPart) (set : List NodeTable) (sizes : List UnitSize) (told : Option (List UnitWords)) → IsKept net kinds book set → IsOnDevice set sizes told → IfSome told (λ tables. tables ≡ device_tables 0 net (tables_of net kinds book))
-words_told kinds net book set sizes told kept on =
-    if_some_then told (λ tables. tables ≡ tables_of_set set) (λ tables. tables ≡ device_tables 0 net (tables_of net kinds book)) (λ tables e. e ∙ device_told set net (tables_of net kinds book) kept.fits.units kept.words) on.words
-
 -- a demonstration that was gone through, and whose line was written as far as the status tells
 pub summed_up : (kinds : List Meaning) (net : List NodeDecl) (agents : ℕ) (commands : List Command) (i status : ℕ) (s : State) (before after : Option (List ℕ)) (log log' : Option (List TableEvent)) (told' : Option (List UnitWords)) (granted revoked : ℕ) (done failed : Bool) → i ≡ length commands → IfSome told' (λ tables. tables ≡ device_tables 0 net (tables_of net kinds s.book)) → IsTallied kinds net commands i s log log' granted revoked → (status == 0) ≡ done → (status == 3) ≡ failed → (status ≡ 0) ⊎ ((status ≡ 3) ⊎ (status ≡ 7))
     → IsWritten before after done failed (summary_text (summary_with kinds net agents granted revoked s.book))
@@ -177,9 +173,9 @@ summed_up kinds net agents commands i status s before after log log' told' grant
 -- by what ended it
 
 -- the units were not made
-pub shown_unmade : {X : Type 0} (kinds : List Meaning) (net : List NodeDecl) (agents : ℕ) (commands : List Command) (r : Result X DeviceOrMemory) (fault : DeviceOrMemory) (ended : Result ℕ RunHalt) (before : Option (List ℕ)) (log log' : Option (List TableEvent)) (sizes : List UnitSize) (told told' : Option (List UnitWords)) → r ≡ Err fault → ended ≡ Err (make_halt fault) → AreUnitsMade (tables_of_set (fresh_set kinds net)) (is_ok r) (is_device_fault r) log log' sizes told told' → IsShown kinds net agents commands (ending_status ended) before before log log' told'
-shown_unmade kinds net agents commands r fault ended before log log' sizes told told' is by made = inr (record {
-  played = unmade_by kinds net commands r fault ended None None log log' sizes told told' is by refl made;
+pub shown_unmade : {X : Type 0} (kinds : List Meaning) (net : List NodeDecl) (agents : ℕ) (commands : List Command) (r : Result X DeviceOrMemory) (fault : DeviceOrMemory) (ended : Result ℕ RunHalt) (before : Option (List ℕ)) (log log' : Option (List TableEvent)) (sizes : List UnitSize) (told told' : Option (List UnitWords)) → IsLawfulNet kinds net → r ≡ Err fault → ended ≡ Err (make_halt fault) → AreUnitsMade (tables_of_set (fresh_set kinds net)) (is_ok r) (is_device_fault r) log log' sizes told told' → IsShown kinds net agents commands (ending_status ended) before before log log' told'
+shown_unmade kinds net agents commands r fault ended before log log' sizes told told' known is by made = inr (record {
+  played = unmade_by kinds net commands r fault ended None None log log' sizes told told' known is by refl made;
   why = subst (λ (e : Result ℕ RunHalt). (ending_status e ≡ 6) ⊎ (ending_status e ≡ 7)) (sym by) (either fault);
   unwritten = refl;
 })
@@ -189,9 +185,9 @@ shown_unmade kinds net agents commands r fault ended before log log' sizes told 
     either OutOfMemory = inr refl
 
 -- a command was left inside its turn, or before it
-pub shown_halted : (kinds : List Meaning) (net : List NodeDecl) (agents : ℕ) (commands : List Command) (i : ℕ) (c : Command) (s next : State) (r : Result (Unit {0}) RunHalt) (halt : RunHalt) (ended : Result ℕ RunHalt) (before : Option (List ℕ)) (log log' log'' : Option (List TableEvent)) (told' : Option (List UnitWords)) (granted revoked : ℕ) → r ≡ Err halt → ended ≡ Err halt → is_write_halt r ≡ false → i < length commands → c ≡ get_or commands i c → IsTallied kinds net commands i s log log' granted revoked → CameThrough (IsTurn kinds net s c) r next None None log' log'' → IsShown kinds net agents commands (ending_status ended) before before log log'' told'
-shown_halted kinds net agents commands i c s next r halt ended before log log' log'' told' granted revoked is by no_write within at f came = inr (record {
-  played = halted_by kinds net commands i c s next r halt ended None None None log log' log'' told' is by within at f.gone came;
+pub shown_halted : (kinds : List Meaning) (net : List NodeDecl) (agents : ℕ) (commands : List Command) (i : ℕ) (c : Command) (s next : State) (r : Result (Unit {0}) RunHalt) (halt : RunHalt) (ended : Result ℕ RunHalt) (before : Option (List ℕ)) (log log' log'' : Option (List TableEvent)) (told' : Option (List UnitWords)) (granted revoked : ℕ) → r ≡ Err halt → ended ≡ Err halt → is_write_halt r ≡ false → i < length commands → c ≡ get_or commands i c → IsTallied kinds net commands i s log log' granted revoked → CameThrough (IsTurn kinds net s c) r next None None log' log'' → (r ≡ Err DeviceFault → IsStopped kinds net s.book (IsTurn kinds net s c) told') → IsShown kinds net agents commands (ending_status ended) before before log log'' told'
+shown_halted kinds net agents commands i c s next r halt ended before log log' log'' told' granted revoked is by no_write within at f came stop = inr (record {
+  played = halted_by kinds net commands i c s next r halt ended None None None log log' log'' told' is by within at f.gone came stop;
   why = subst (λ (e : Result ℕ RunHalt). (ending_status e ≡ 6) ⊎ (ending_status e ≡ 7)) (sym by) (either halt (subst (λ (q : Result (Unit {0}) RunHalt). is_write_halt q ≡ false) is no_write));
   unwritten = refl;
 })

@@ -36,6 +36,15 @@ platform_machine means m lawful none walked = record {
   walked = walked;
 }
 
+-- the kinds are lawful, and the net is legal with them
+pub record IsLawfulNet (kinds : List Meaning) (net : List NodeDecl) : Type 0 where
+  pub lawful : All IsLawful kinds
+  pub legal : IsLegalWith kinds net
+
+-- so is the net of a machine
+pub machine_lawful : {K : Type 0} {V : K → Type 0} (means : (k : K) × V k → Meaning) (m : Machine K V) → IsMachine means m → IsLawfulNet (kinds_of means m.on.kinds.now) m.on.net.now
+machine_lawful means m is = record { lawful = all_of_map _ m.on.kinds.now.list.items is.kinded.lawful; legal = is.kinded.legal }
+
 -- the book is sound and faithful
 pub state_faithful : (kinds : List Meaning) (net : List NodeDecl) (k : Kept) → IsState kinds net k → IsKeptFaithful net k.book.grants
 state_faithful kinds net k s = record { sound = s.kept.sound; faithful = s.faithful }

@@ -22,3 +22,7 @@ pub mod Numbers
 pub mod OneTurn
 pub mod Seen
 pub mod Kept
+pub mod Moments
+pub mod Flown
+pub mod Scripts
+pub mod Stopped

@@ -20,6 +20,7 @@ use Rattle.dn_tables.specs.Set.{device_tables, fresh_set, tables_of_set}
 use Rattle.dn_tables.specs.Writes.{AreUnitsMade, make_event}
 use Rattle.dn_tables.proofs.Devices.{device_told}
 use Rattle.dn_tables.proofs.Fresh.{fresh_units}
+use Rattle.dn_book.specs.Book.{IsSound}
 use Rattle.dn_book.specs.Tables.{tables_of}
 use Rattle.dn_module.specs.declared.command.Command.{Command}
 use Rattle.dn_tool.specs.declared.halt.RunHalt.{RunHalt}
@@ -28,8 +29,12 @@ use Rattle.dn_tool.specs.Books.{GivesOwed}
 use Rattle.dn_tool.specs.Halt.{ending_status, is_free_status, make_halt}
 use Rattle.dn_tool.specs.Played.{CameIn, CameTo, IsPlayed, make_turn, turn_at}
 use Rattle.dn_tool.specs.State.{CameThrough, IsHalted, IsTurned}
+use Rattle.dn_tool.specs.Stopped.{AreCaught, IsStopped}
 use Rattle.dn_tool.specs.Turn.{AreTurns, IsTurn, State, Turn, events_of, replies_of, reply_turn, start, state_after}
 use Rattle.dn_tool.proofs.Empty.{fresh_tables}
+use Rattle.dn_tool.proofs.Kept.{IsLawfulNet}
+use Rattle.dn_tool.proofs.OneTurn.{turn_is_one}
+use Rattle.dn_tool.proofs.Scripts.{added_given}
 
 -- the events of the making
 making_events : (kinds : List Meaning) (net : List NodeDecl) → map make_event (tables_of_set (fresh_set kinds net)) ≡ (make_turn kinds net).events
@@ -79,6 +84,7 @@ books_more kinds net ts t before last count l = by (cases_lt (length ts) count)
 
 -- the units were made, and so many commands were answered, which left a state
 pub record IsGone (kinds : List Meaning) (net : List NodeDecl) (commands : List Command) (count : ℕ) (s : State) (before after : Option (List ℕ)) (log log' : Option (List TableEvent)) : Type 0 where
+  pub known : IsLawfulNet kinds net
   pub turns : List Turn
   pub happened : AreTurns kinds net start (take count commands) turns
   pub left : state_after start turns ≡ s
@@ -98,10 +104,11 @@ making_told kinds net log log' sizes told told' made =
     subst (λ es. Logged log log' es) (ap (map make_event) whole ∙ making_events kinds net) made.logged
 
 -- the units were made, and no command was answered
-pub gone_start : (kinds : List Meaning) (net : List NodeDecl) (commands : List Command) (i : ℕ) (s : State) (a b : Option (List ℕ)) (log log' : Option (List TableEvent)) → i ≡ 0 → s ≡ start → GivesOwed kinds net s.book → b ≡ a → Logged log log' (make_turn kinds net).events → IsGone kinds net commands i s a b log log'
-gone_start kinds net commands i s a b log log' first is owed same made =
+pub gone_start : (kinds : List Meaning) (net : List NodeDecl) (commands : List Command) (i : ℕ) (s : State) (a b : Option (List ℕ)) (log log' : Option (List TableEvent)) → IsLawfulNet kinds net → i ≡ 0 → s ≡ start → GivesOwed kinds net s.book → b ≡ a → Logged log log' (make_turn kinds net).events → IsGone kinds net commands i s a b log log'
+gone_start kinds net commands i s a b log log' known first is owed same made =
     let empty : GivesOwed kinds net [] = subst (λ (z : State). GivesOwed kinds net z.book) is owed in
     let begun : IsGone kinds net commands 0 start a b log log' = record {
+      known = known;
       turns = [];
       happened = refl;
       left = refl;
@@ -116,6 +123,7 @@ pub gone_more : (kinds : List Meaning) (net : List NodeDecl) (commands : List Co
 gone_more kinds net commands i s c t a b d log log' log'' g within at is owed w l =
     let next : take (i + 1) commands ≡ take i commands ++ c ∷ [] = take_more commands i c within ∙ ap (λ (e : Command). take i commands ++ e ∷ []) (sym at) in
     record {
+      known = g.known;
       books = books_more kinds net g.turns t g.books owed;
       turns = g.turns ++ t ∷ [];
       happened = subst (λ cs. AreTurns kinds net start cs (g.turns ++ t ∷ [])) (sym next) (turns_more kinds net start (take i commands) g.turns c t g.happened (subst (λ z. IsTurn kinds net z c t) (sym g.left) is));
@@ -129,6 +137,12 @@ pub gone_turned : (kinds : List Meaning) (net : List NodeDecl) (commands : List 
 gone_turned kinds net commands i s next c a b d log log' log'' g within at turned owed =
     let there : GivesOwed kinds net turned.turn.next.book = subst (λ (z : State). GivesOwed kinds net z.book) (sym turned.left) owed in
     subst (λ (z : State). IsGone kinds net commands (i + 1) z a d log log'') turned.left (gone_more kinds net commands i s c turned.turn a b d log log' log'' g within at turned.is_turn there turned.written turned.logged)
+
+-- the book that was left is sound
+gone_sound : (kinds : List Meaning) (net : List NodeDecl) (commands : List Command) (i : ℕ) (s : State) (a b : Option (List ℕ)) (log log' : Option (List TableEvent)) → IsGone kinds net commands i s a b log log' → IsSound net s.book
+gone_sound kinds net commands i s a b log log' g =
+    let whole : state_after start (take (length g.turns) g.turns) ≡ s = ap (state_after start) (take-length g.turns) ∙ g.left in
+    subst (λ (z : State). IsSound net z.book) whole (g.books (length g.turns) (omega arith)).kept.sound
 
 -- places of turns
 
@@ -196,8 +210,8 @@ not_exact : (status : ℕ) → is_free_status status ≡ true → is_free_status
 not_exact status free e = let f : true ≡ false = sym free ∙ e in cc
 
 -- not all units were made
-pub played_unmade : (kinds : List Meaning) (net : List NodeDecl) (commands : List Command) (status : ℕ) (failed : Bool) (a b : Option (List ℕ)) (log log' : Option (List TableEvent)) (sizes : List UnitSize) (told told' : Option (List UnitWords)) → is_free_status status ≡ true → status ≢ 0 → status ≢ 3 → (status ≡ 6 → failed ≡ true) → b ≡ a → AreUnitsMade (tables_of_set (fresh_set kinds net)) false failed log log' sizes told told' → IsPlayed kinds net commands status a b log log' told'
-played_unmade kinds net commands status failed a b log log' sizes told told' free going not_sink device same made =
+pub played_unmade : (kinds : List Meaning) (net : List NodeDecl) (commands : List Command) (status : ℕ) (failed : Bool) (a b : Option (List ℕ)) (log log' : Option (List TableEvent)) (sizes : List UnitSize) (told told' : Option (List UnitWords)) → is_free_status status ≡ true → status ≢ 0 → status ≢ 3 → (status ≡ 6 → failed ≡ true) → IsLawfulNet kinds net → b ≡ a → AreUnitsMade (tables_of_set (fresh_set kinds net)) false failed log log' sizes told told' → IsPlayed kinds net commands status a b log log' told'
+played_unmade kinds net commands status failed a b log log' sizes told told' free going not_sink device known same made =
     let tables : List UnitWords = tables_of_set (fresh_set kinds net) in
     let events : map make_event (take made.made tables) ≡ take made.made (make_turn kinds net).events = sym (take-map made.made tables) ∙ ap (take made.made) (making_events kinds net) in
     let count : length (make_turn kinds net).events ≡ length tables = ap length (sym (making_events kinds net)) ∙ length-map tables make_event in
@@ -222,6 +236,8 @@ played_unmade kinds net commands status failed a b log log' sizes told told' fre
       all = λ e. absurd (going e);
       tables = λ e. absurd (going e);
       books = λ count l. absurd (omega (arith, l));
+      stopped = λ _ count e. absurd (omega (arith, e));
+      flown = added_given kinds net [] [] known.lawful known.legal refl 0 made.made;
     }
   where
     take-map : (n : ℕ) (ts : List UnitWords) → take n (map make_event ts) ≡ map make_event (take n ts)
@@ -249,6 +265,8 @@ played_whole kinds net commands i status s a b log log' told' over none told g =
       all = λ _. h.0 ∙ over;
       books = λ count l. (let e = came.1 in g.books count (omega (arith, l, e)));
       tables = λ _. subst (λ (z : State). IfSome told' (λ tables. tables ≡ device_tables 0 net (tables_of net kinds z.book))) (sym g.left) told;
+      stopped = λ six _ _. (let x = none in absurd (omega (arith, six, x)));
+      flown = added_given kinds net _ g.turns g.known.lawful g.known.legal h.1 came.0.whole came.0.events;
     }
 
 -- it stopped before a command for want of memory
@@ -265,11 +283,25 @@ played_before kinds net commands i status s a b log log' told' within is g =
       exact = not_exact status (ap is_free_status is);
       all = λ e. absurd (omega (arith, e, is));
       tables = λ e. absurd (omega (arith, e, is));
+      stopped = λ six _ _. absurd (omega (arith, six, is));
+      flown = added_given kinds net _ g.turns g.known.lawful g.known.legal h.1 came.0.whole came.0.events;
     }
 
+-- what is told inside the last turn, by the books before it and after it
+caught_last : (kinds : List Meaning) (net : List NodeDecl) (ts : List Turn) (t : Turn) (s : State) (count : ℕ) (told : Option (List UnitWords)) → state_after start ts ≡ s → count ≡ length ts → IfSome told (AreCaught kinds net s.book t.next.book) → IfSome told (AreCaught kinds net (state_after start (take count (ts ++ t ∷ []))).book (state_after start (take (suc count) (ts ++ t ∷ []))).book)
+caught_last kinds net ts t s count told left n caught =
+    let all : List Turn = ts ++ t ∷ [] in
+    let size : length all ≡ length ts + 1 = length-append ts (t ∷ []) in
+    let first : take count all ≡ ts = ap (λ k. take k all) n ∙ take_at ts (t ∷ []) (length ts) refl in
+    let whole : take (suc count) all ≡ ts ++ t ∷ [] = take_past all (suc count) (omega (arith, size, n)) in
+    let before : state_after start (take count all) ≡ s = ap (state_after start) first ∙ left in
+    let after : state_after start (take (suc count) all) ≡ t.next = ap (state_after start) whole ∙ state_last start ts t in
+    subst (λ (z : State). IfSome told (AreCaught kinds net (state_after start (take count all)).book z.book)) (sym after)
+    (subst (λ (z : State). IfSome told (AreCaught kinds net z.book t.next.book)) (sym before) caught)
+
 -- it stopped in the turn of a command
-pub played_in : (kinds : List Meaning) (net : List NodeDecl) (commands : List Command) (i status : ℕ) (s : State) (c : Command) (t : Turn) (a b d : Option (List ℕ)) (log log' log'' : Option (List TableEvent)) (told' : Option (List UnitWords)) → i < length commands → c ≡ get_or commands i c → is_free_status status ≡ true → status ≢ 0 → IsGone kinds net commands i s a b log log' → IsTurn kinds net s c t → CameIn t status b d log' log'' → IsPlayed kinds net commands status a d log log'' told'
-played_in kinds net commands i status s c t a b d log log' log'' told' within at free going g is came =
+pub played_in : (kinds : List Meaning) (net : List NodeDecl) (commands : List Command) (i status : ℕ) (s : State) (c : Command) (t : Turn) (a b d : Option (List ℕ)) (log log' log'' : Option (List TableEvent)) (told' : Option (List UnitWords)) → i < length commands → c ≡ get_or commands i c → is_free_status status ≡ true → status ≢ 0 → IsGone kinds net commands i s a b log log' → IsTurn kinds net s c t → CameIn t status b d log' log'' → (status ≡ 6 → IfSome told' (AreCaught kinds net s.book t.next.book)) → IsPlayed kinds net commands status a d log log'' told'
+played_in kinds net commands i status s c t a b d log log' log'' told' within at free going g is came caught =
     let next : take (i + 1) commands ≡ take i commands ++ c ∷ [] = take_more commands i c within ∙ ap (λ (e : Command). take i commands ++ e ∷ []) (sym at) in
     let turns : AreTurns kinds net start (take (i + 1) commands) (g.turns ++ t ∷ []) = subst (λ cs. AreTurns kinds net start cs (g.turns ++ t ∷ [])) (sym next) (turns_more kinds net start (take i commands) g.turns c t g.happened (subst (λ z. IsTurn kinds net z c t) (sym g.left) is)) in
     let h = happened_first kinds net commands (i + 1) (g.turns ++ t ∷ []) (omega (arith, within)) turns in
@@ -285,23 +317,25 @@ played_in kinds net commands i status s c t a b d log log' log'' told' within at
       exact = not_exact status free;
       all = λ e. absurd (going e);
       tables = λ e. absurd (going e);
+      stopped = λ six count e. (let w = stop.1 in caught_last kinds net g.turns t s count told' g.left (omega (arith, e, w)) (caught six));
+      flown = added_given kinds net _ (g.turns ++ t ∷ []) g.known.lawful g.known.legal h.1 stop.0.whole stop.0.events;
     }
 
 -- by what stopped it
 
 -- the units were not made
-pub unmade_by : {X : Type 0} (kinds : List Meaning) (net : List NodeDecl) (commands : List Command) (r : Result X DeviceOrMemory) (fault : DeviceOrMemory) (ended : Result ℕ RunHalt) (a b : Option (List ℕ)) (log log' : Option (List TableEvent)) (sizes : List UnitSize) (told told' : Option (List UnitWords)) → r ≡ Err fault → ended ≡ Err (make_halt fault) → b ≡ a → AreUnitsMade (tables_of_set (fresh_set kinds net)) (is_ok r) (is_device_fault r) log log' sizes told told' → IsPlayed kinds net commands (ending_status ended) a b log log' told'
-unmade_by {X} kinds net commands r fault ended a b log log' sizes told told' is by same made =
+pub unmade_by : {X : Type 0} (kinds : List Meaning) (net : List NodeDecl) (commands : List Command) (r : Result X DeviceOrMemory) (fault : DeviceOrMemory) (ended : Result ℕ RunHalt) (a b : Option (List ℕ)) (log log' : Option (List TableEvent)) (sizes : List UnitSize) (told told' : Option (List UnitWords)) → IsLawfulNet kinds net → r ≡ Err fault → ended ≡ Err (make_halt fault) → b ≡ a → AreUnitsMade (tables_of_set (fresh_set kinds net)) (is_ok r) (is_device_fault r) log log' sizes told told' → IsPlayed kinds net commands (ending_status ended) a b log log' told'
+unmade_by {X} kinds net commands r fault ended a b log log' sizes told told' known is by same made =
     let given : AreUnitsMade (tables_of_set (fresh_set kinds net)) false (is_device_fault {A = X} (Err fault)) log log' sizes told told' = subst (λ (q : Result X DeviceOrMemory). AreUnitsMade (tables_of_set (fresh_set kinds net)) (is_ok q) (is_device_fault q) log log' sizes told told') is made in
     subst (λ (e : Result ℕ RunHalt). IsPlayed kinds net commands (ending_status e) a b log log' told') (sym by) (go fault given)
   where
     go : (f : DeviceOrMemory) → AreUnitsMade (tables_of_set (fresh_set kinds net)) false (is_device_fault {A = X} (Err f)) log log' sizes told told' → IsPlayed kinds net commands (ending_status (Err (make_halt f))) a b log log' told'
-    go Device m = played_unmade kinds net commands 6 true a b log log' sizes told told' refl (λ e. absurd (omega (arith, e))) (λ e. absurd (omega (arith, e))) (λ e. refl) same m
-    go OutOfMemory m = played_unmade kinds net commands 7 false a b log log' sizes told told' refl (λ e. absurd (omega (arith, e))) (λ e. absurd (omega (arith, e))) (λ e. absurd (omega (arith, e))) same m
+    go Device m = played_unmade kinds net commands 6 true a b log log' sizes told told' refl (λ e. absurd (omega (arith, e))) (λ e. absurd (omega (arith, e))) (λ e. refl) known same m
+    go OutOfMemory m = played_unmade kinds net commands 7 false a b log log' sizes told told' refl (λ e. absurd (omega (arith, e))) (λ e. absurd (omega (arith, e))) (λ e. absurd (omega (arith, e))) known same m
 
 -- a command was left inside its turn, or before it
-pub halted_by : {X : Type 0} (kinds : List Meaning) (net : List NodeDecl) (commands : List Command) (i : ℕ) (c : Command) (s next : State) (r : Result X RunHalt) (halt : RunHalt) (ended : Result ℕ RunHalt) (a b d : Option (List ℕ)) (log log' log'' : Option (List TableEvent)) (told' : Option (List UnitWords)) → r ≡ Err halt → ended ≡ Err halt → i < length commands → c ≡ get_or commands i c → IsGone kinds net commands i s a b log log' → CameThrough (IsTurn kinds net s c) r next b d log' log'' → IsPlayed kinds net commands (ending_status ended) a d log log'' told'
-halted_by {X} kinds net commands i c s next r halt ended a b d log log' log'' told' is by within at g came =
+pub halted_by : {X : Type 0} (kinds : List Meaning) (net : List NodeDecl) (commands : List Command) (i : ℕ) (c : Command) (s next : State) (r : Result X RunHalt) (halt : RunHalt) (ended : Result ℕ RunHalt) (a b d : Option (List ℕ)) (log log' log'' : Option (List TableEvent)) (told' : Option (List UnitWords)) → r ≡ Err halt → ended ≡ Err halt → i < length commands → c ≡ get_or commands i c → IsGone kinds net commands i s a b log log' → CameThrough (IsTurn kinds net s c) r next b d log' log'' → (r ≡ Err DeviceFault → IsStopped kinds net s.book (IsTurn kinds net s c) told') → IsPlayed kinds net commands (ending_status ended) a d log log'' told'
+halted_by {X} kinds net commands i c s next r halt ended a b d log log' log'' told' is by within at g came stop =
     let given : IsHalted (IsTurn kinds net s c) halt b d log' log'' = subst (λ (q : Result X RunHalt). CameThrough (IsTurn kinds net s c) q next b d log' log'') is came in
     subst (λ (e : Result ℕ RunHalt). IsPlayed kinds net commands (ending_status e) a d log log'' told') (sym by) (go given)
   where
@@ -315,9 +349,18 @@ halted_by {X} kinds net commands i c s next r halt ended a b d log log' log'' to
     free DeviceFault = refl
     free NoMemory = refl
 
+    caught : (h : RunHalt) → r ≡ Err h → (t : Turn) → IsTurn kinds net s c t → ending_status (Err h) ≡ 6 → IfSome told' (AreCaught kinds net s.book t.next.book)
+    caught WriteFault e t turned six = absurd (omega (arith, six))
+    caught DeviceFault e t turned six =
+        let z = stop e in
+        let same : z.turn ≡ t = turn_is_one kinds net s c z.turn t g.known.legal.legal (gone_sound kinds net commands i s a b log log' g) z.is_turn turned in
+        subst (λ (u : Turn). IfSome told' (AreCaught kinds net s.book u.next.book)) same z.caught
+    caught NoMemory e t turned six = absurd (omega (arith, six))
+
     go : IsHalted (IsTurn kinds net s c) halt b d log' log'' → IsPlayed kinds net commands (ending_status (Err halt)) a d log log'' told'
     go (inl z) =
         let here : IsGone kinds net commands i s a d log log'' = record {
+          known = g.known;
           books = g.books;
           turns = g.turns;
           happened = g.happened;
@@ -326,7 +369,7 @@ halted_by {X} kinds net commands i c s next r halt ended a b d log log' log'' to
           logged = subst (λ x. Logged log x (events_of (make_turn kinds net ∷ g.turns))) (sym z.log_is) g.logged;
         } in
         played_before kinds net commands i (ending_status (Err halt)) s a d log log'' told' (omega (arith, within)) (ap (λ (h : RunHalt). ending_status (Err h)) z.memory) here
-    go (inr z) = played_in kinds net commands i (ending_status (Err halt)) s c z.turn a b d log log' log'' told' within at (free halt) (going halt) g z.is_turn z.came
+    go (inr z) = played_in kinds net commands i (ending_status (Err halt)) s c z.turn a b d log log' log'' told' within at (free halt) (going halt) g z.is_turn z.came (caught halt is z.turn z.is_turn)
 
 -- it stopped for want of memory, before a command was made
 pub halted_unmade : (kinds : List Meaning) (net : List NodeDecl) (commands : List Command) (i : ℕ) (s : State) (ended : Result ℕ RunHalt) (a b : Option (List ℕ)) (log log' : Option (List TableEvent)) (told' : Option (List UnitWords)) → ended ≡ Err NoMemory → i ≤ length commands → IsGone kinds net commands i s a b log log' → IsPlayed kinds net commands (ending_status ended) a b log log' told'

@@ -22,8 +22,8 @@ use Rattle.dn_net.specs.Rules.{BrokenNode, node_fault}
 use Rattle.dn_net.specs.WalkRules.{Broken, walk_fault}
 use Rattle.dn_walk.proofs.Legal.{legal_breaks_no_rule}
 use Rattle.dn_kind.specs.Kind.{Meaning}
-use Rattle.dn_kind.specs.Units.{shape_fault}
-use Rattle.dn_kind.proofs.Shapes.{shaped_plain}
+use Rattle.dn_kind.specs.Units.{IsLegalWith, shape_fault}
+use Rattle.dn_kind.proofs.Shapes.{shape_fault_is_first, shaped_plain}
 use Rattle.dn_parse.specs.Tree.{Tree}
 use Rattle.dn_parse.specs.Whole.{TextFault, text_reading}
 use Rattle.dn_net.specs.Parts.{parts_of_node}
@@ -293,33 +293,44 @@ all_back kinds net legal h = record {
   absorbed = λ m made l e. absorb_is_read_back kinds net m made legal l h e;
 }
 
+-- a net that can be printed, and is legal with its kinds
+pub record IsPrintableLegal (kinds : List Meaning) (net : List NodeDecl) : Type 0 where
+  pub printable : IsPrintable kinds net
+  pub legal : IsLegalWith kinds net
+
 -- a printable net that breaks no rule is legal
-judged : (kinds : List Meaning) (made o : Expansion) → IsPrintable kinds made.net → by_node_rules kinds made (node_fault made.net) ≡ Ok o → AreReadBack kinds o.net
+judged : (kinds : List Meaning) (made o : Expansion) → IsPrintable kinds made.net → by_node_rules kinds made (node_fault made.net) ≡ Ok o → IsPrintableLegal kinds o.net
 judged kinds made o h e = nodes (node_fault made.net) refl e
   where
-    walks : node_fault made.net ≡ None → shape_fault kinds made.net ≡ None → (w : Option Broken) → walk_fault made.net ≡ w → by_walk_rules made w ≡ Ok o → AreReadBack kinds o.net
+    walks : node_fault made.net ≡ None → shape_fault kinds made.net ≡ None → (w : Option Broken) → walk_fault made.net ≡ w → by_walk_rules made w ≡ Ok o → IsPrintableLegal kinds o.net
     walks p q None r g =
         let same : made ≡ o = cc in
         let legal = (legal_breaks_no_rule made.net h.is_net h.closed).0 (p, shaped_plain kinds made.net q, r) in
-        subst (λ (x : Expansion). AreReadBack kinds x.net) same (all_back kinds made.net legal h)
+        subst (λ (x : Expansion). IsPrintableLegal kinds x.net) same (record { printable = h; legal = record { legal = legal; shaped = (shape_fault_is_first kinds made.net).0.0 q } })
     walks p q (Some f) r g = cc
 
-    units : node_fault made.net ≡ None → (u : Option ℕ) → shape_fault kinds made.net ≡ u → by_unit_rule made u ≡ Ok o → AreReadBack kinds o.net
+    units : node_fault made.net ≡ None → (u : Option ℕ) → shape_fault kinds made.net ≡ u → by_unit_rule made u ≡ Ok o → IsPrintableLegal kinds o.net
     units p None q g = walks p q (walk_fault made.net) refl g
     units p (Some f) q g = cc
 
-    nodes : (n : Option BrokenNode) → node_fault made.net ≡ n → by_node_rules kinds made n ≡ Ok o → AreReadBack kinds o.net
+    nodes : (n : Option BrokenNode) → node_fault made.net ≡ n → by_node_rules kinds made n ≡ Ok o → IsPrintableLegal kinds o.net
     nodes None p g = units p (shape_fault kinds made.net) refl g
     nodes (Some f) p g = cc
 
-pub compiled_is_read_back : CompiledIsReadBack
+-- the net of a text that breaks no rule
+pub compiled_is_legal : (kinds : List Meaning) (text : List ℕ) (o : Expansion) → compilation kinds text ≡ Ok o → IsPrintableLegal kinds o.net
 unfolding compilation
-compiled_is_read_back kinds text o e = read (text_reading text) refl e
+compiled_is_legal kinds text o e = read (text_reading text) refl e
   where
-    expanded : (tree : Tree) → text_reading text ≡ Ok tree → (x : Result Expansion ExpansionFault) → expansion_of kinds tree ≡ x → expansion_compilation kinds x ≡ Ok o → AreReadBack kinds o.net
+    expanded : (tree : Tree) → text_reading text ≡ Ok tree → (x : Result Expansion ExpansionFault) → expansion_of kinds tree ≡ x → expansion_compilation kinds x ≡ Ok o → IsPrintableLegal kinds o.net
     expanded tree p (Ok made) q g = judged kinds made o (from_printable kinds made.net (made_from kinds tree made (tree_good text tree p) q)) g
     expanded tree p (Err f) q g = cc
 
-    read : (r : Result Tree TextFault) → text_reading text ≡ r → reading_compilation kinds r ≡ Ok o → AreReadBack kinds o.net
+    read : (r : Result Tree TextFault) → text_reading text ≡ r → reading_compilation kinds r ≡ Ok o → IsPrintableLegal kinds o.net
     read (Ok tree) p g = expanded tree p (expansion_of kinds tree) refl g
     read (Err f) p g = cc
+
+pub compiled_is_read_back : CompiledIsReadBack
+compiled_is_read_back kinds text o e =
+    let made = compiled_is_legal kinds text o e in
+    all_back kinds o.net made.legal.legal made.printable

@@ -1,21 +1,30 @@
 -- A run that ended before there was an answer.
-use Rattle.std.proofs.Common.{◌≡◌, ◌≢◌, ◌∙◌, ◌==◌, sym, subst, refl, arith, ℕ, Bool, true, false, not, inr, List, [], Option, None}
+use Rattle.std.proofs.Common.{◌≡◌, ◌≢◌, ◌∙◌, ◌==◌, sym, subst, refl, arith, ℕ, Bool, true, false, not, inr, List, [], Option, Some, None, Ok, Err}
+use Rattle.std.specs.List.{All}
 use Rattle.dn_base.specs.declared.device.TableEvent.{TableEvent}
 use Rattle.dn_base.specs.declared.device.UnitWords.{UnitWords}
 use Rattle.dn_base.specs.Outside.{IsWritten}
 use Rattle.dn_base.proofs.Logs.{Logged-none}
 use Rattle.dn_base.proofs.Told.{Added-none, written_none}
 use Rattle.dn_net.specs.declared.node.NodeDecl.{NodeDecl}
-use Rattle.dn_kind.specs.Kind.{Meaning}
+use Rattle.dn_kind.specs.Kind.{IsLawful, Meaning}
+use Rattle.dn_kind.specs.Units.{IsLegalWith}
+use Rattle.dn_module.specs.Expand.{Expansion}
 use Rattle.dn_module.specs.declared.command.Command.{Command}
-use Rattle.dn_tool.specs.Answer.{Answer, IsAnswered, played, said, shown}
+use Rattle.dn_words.specs.declared.words.Task.{Task}
+use Rattle.dn_words.specs.declared.words.Task.TheVariants.{Run, Check, Demo}
+use Rattle.dn_words.specs.Words.{task_of}
+use Rattle.dn_tool.specs.Answer.{Answer, IsAnswered, answer, asked_answer, compiled_answer, played, said, shown, task_answer, task_text, text_answer}
+use Rattle.dn_tool.specs.Compiled.{Compilation, compilation, with_refusal}
 use Rattle.dn_tool.specs.Halt.{is_free_status}
 use Rattle.dn_tool.specs.Played.{IsPlayed}
 use Rattle.dn_tool.proofs.Inputs.{is_shown}
+use Rattle.dn_tool.proofs.Reread.{compiled_is_legal}
+use Rattle.dn_tool.proofs.Scripts.{added_given}
 
 -- nothing of a script was done
-unplayed : (kinds : List Meaning) (net : List NodeDecl) (commands : List Command) (status : ℕ) (b d : Option (List ℕ)) (log log' : Option (List TableEvent)) (told' : Option (List UnitWords)) → is_free_status status ≡ true → (status == 3) ≡ false → (status == 6) ≡ false → d ≡ b → log' ≡ log → IsPlayed kinds net commands status b d log log' told'
-unplayed kinds net commands status b d log log' told' free not_sink not_device same unlogged = record {
+unplayed : (kinds : List Meaning) (net : List NodeDecl) (commands : List Command) (status : ℕ) (b d : Option (List ℕ)) (log log' : Option (List TableEvent)) (told' : Option (List UnitWords)) → All IsLawful kinds → IsLegalWith kinds net → is_free_status status ≡ true → (status == 3) ≡ false → (status == 6) ≡ false → d ≡ b → log' ≡ log → IsPlayed kinds net commands status b d log log' told'
+unplayed kinds net commands status b d log log' told' lawful legal free not_sink not_device same unlogged = record {
   turns = [];
   few = omega arith;
   happened = refl;
@@ -36,6 +45,8 @@ unplayed kinds net commands status b d log log' told' free not_sink not_device s
   all = λ e. absurd (going e);
   tables = λ e. absurd (going e);
   books = λ count l. absurd (omega (arith, l));
+  stopped = λ six _ _. absurd (device six);
+  flown = added_given kinds net [] [] lawful legal refl 0 0;
 }
   where
     going : status ≢ 0
@@ -47,15 +58,41 @@ unplayed kinds net commands status b d log log' told' free not_sink not_device s
     device : status ≢ 6
     device e = let f : true ≡ false = subst (λ n. (n == 6) ≡ false) e not_device in cc
 
+-- the net of a script is legal with its kinds
+abbrev pub IsLegalScript : List Meaning → Answer → Type 0
+IsLegalScript kinds (said own output) = Unit {0}
+IsLegalScript kinds (played net commands) = IsLegalWith kinds net
+IsLegalScript kinds (shown agents net commands) = IsLegalWith kinds net
+
+-- so it is where a script is the answer to a text
+pub text_legal : (task : Task) (kinds : List Meaning) (text : List ℕ) → IsLegalScript kinds (text_answer task kinds text)
+text_legal task kinds text = by (compilation kinds text) refl
+  where
+    of_task : (task : Task) (o : Expansion) → IsLegalWith kinds o.net → IsLegalScript kinds (task_answer task kinds o.net o.commands)
+    of_task Run o legal = legal
+    of_task Check o legal = tt
+    of_task (Demo agents) o legal = legal
+
+    by : (r : Compilation) → compilation kinds text ≡ r → IsLegalScript kinds (compiled_answer task kinds (with_refusal r))
+    by (Ok o) e = of_task task o (compiled_is_legal kinds text o e).legal
+    by (Err broken) e = tt
+
+pub answer_legal : (words : List (List ℕ)) (kinds : List Meaning) (text : List ℕ) → IsLegalScript kinds (answer words kinds text)
+answer_legal words kinds text = by (task_of words)
+  where
+    by : (asked : Option Task) → IsLegalScript kinds (asked_answer asked kinds text)
+    by None = tt
+    by (Some task) = text_legal task kinds (task_text task text)
+
 -- nothing was done and nothing written; a demonstration ends so only for want of memory
-pub unanswered : (kinds : List Meaning) (a : Answer) (status : ℕ) (b d : Option (List ℕ)) (log log' : Option (List TableEvent)) (told' : Option (List UnitWords)) → is_free_status status ≡ true → (status == 3) ≡ false → (status == 6) ≡ false → (is_shown a ≡ true → status ≡ 7) → d ≡ b → log' ≡ log → IsAnswered kinds a status b d log log' told'
-unanswered kinds (said own output) status b d log log' told' free not_sink not_device only same unlogged = record {
+pub unanswered : (kinds : List Meaning) (a : Answer) (status : ℕ) (b d : Option (List ℕ)) (log log' : Option (List TableEvent)) (told' : Option (List UnitWords)) → All IsLawful kinds → IsLegalScript kinds a → is_free_status status ≡ true → (status == 3) ≡ false → (status == 6) ≡ false → (is_shown a ≡ true → status ≡ 7) → d ≡ b → log' ≡ log → IsAnswered kinds a status b d log log' told'
+unanswered kinds (said own output) status b d log log' told' lawful legal free not_sink not_device only same unlogged = record {
   exact = λ e. cc;
   written = subst (λ (w : Bool). IsWritten b d (not (is_free_status status)) w output) (sym not_sink) (subst (λ (f : Bool). IsWritten b d (not f) false output) (sym free) (written_none b d output same));
 }
-unanswered kinds (played net commands) status b d log log' told' free not_sink not_device only same unlogged = unplayed kinds net commands status b d log log' told' free not_sink not_device same unlogged
-unanswered kinds (shown agents net commands) status b d log log' told' free not_sink not_device only same unlogged = inr (record {
-  played = unplayed kinds net commands status None None log log' told' free not_sink not_device refl unlogged;
+unanswered kinds (played net commands) status b d log log' told' lawful legal free not_sink not_device only same unlogged = unplayed kinds net commands status b d log log' told' lawful legal free not_sink not_device same unlogged
+unanswered kinds (shown agents net commands) status b d log log' told' lawful legal free not_sink not_device only same unlogged = inr (record {
+  played = unplayed kinds net commands status None None log log' told' lawful legal free not_sink not_device refl unlogged;
   why = inr (only refl);
   unwritten = same;
 })

@@ -17,3 +17,5 @@ pub mod Platform
 pub mod Reshape
 pub mod Reread
 pub mod Unmade
+pub mod Stopped
+pub mod Flown

@@ -1,5 +1,5 @@
 -- How far a run comes over a script: what of it is done to the device, and what is written.
-use Rattle.std.specs.Prelude.{◌≡◌, ◌≢◌, ℕ, false, suc, ◌<◌, ◌≤◌, List, [], ◌∷◌, ◌++◌, map, take, length, get_or, Option}
+use Rattle.std.specs.Prelude.{◌≡◌, ◌≢◌, ℕ, false, zero, suc, ◌<◌, ◌≤◌, List, [], ◌∷◌, ◌++◌, map, take, length, get_or, Option}
 use Rattle.std.specs.Option.{IfSome}
 use Rattle.dn_base.specs.declared.device.TableEvent.{TableEvent}
 use Rattle.dn_base.specs.declared.device.UnitWords.{UnitWords}
@@ -12,7 +12,9 @@ use Rattle.dn_tables.specs.Writes.{make_event}
 use Rattle.dn_book.specs.Tables.{tables_of}
 use Rattle.dn_module.specs.declared.command.Command.{Command}
 use Rattle.dn_tool.specs.Books.{GivesOwed}
+use Rattle.dn_tool.specs.Flown.{GivesLookups}
 use Rattle.dn_tool.specs.Halt.{is_free_status}
+use Rattle.dn_tool.specs.Stopped.{AreCaught}
 use Rattle.dn_tool.specs.Turn.{AreTurns, Turn, events_of, replies_of, reply_turn, start, state_after}
 
 -- before the first command each unit is made, with words 0
@@ -61,10 +63,19 @@ pub record CameTo (turns : List Turn) (status : ℕ) (before after : Option (Lis
   pub device : status ≡ 6 → events < length (turn_at turns whole).events
   pub between : 1 ≤ whole → status ≢ 6 → events ≡ length (turn_at turns whole).events
 
+-- what a run added to the device's log after the makes: the events of the turns of its commands, where so
+-- many turns were gone through whole, with that of the makes, and so many events of the next
+abbrev pub added_events : List Turn → ℕ → ℕ → List TableEvent
+added_events turns zero events = []
+added_events turns (suc whole) events =
+    events_of (take whole turns) ++ take events (turn_at turns whole).events
+
 -- A run with this status over a script: it made the units, and then answered the first commands, of
 -- which it may have stopped in the last. A status that is not free is 0. At status 0 it answered all,
 -- and the words that the device tells are the tables of the last book. The book before the first command, and after each command
--- that was gone through whole, gives what it owes.
+-- that was gone through whole, gives what it owes. At status 6, once the units were made, each name resolves by the words that
+-- the device tells, for each access, as before the next command or as after it. And in each schedule of what was added to
+-- the log after the makes each lookup that has ended is given what books owe.
 pub record IsPlayed (kinds : List Meaning) (net : List NodeDecl) (commands : List Command)
     (status : ℕ) (before after : Option (List ℕ)) (log log' : Option (List TableEvent))
     (told' : Option (List UnitWords)) : Type 0 where
@@ -78,6 +89,10 @@ pub record IsPlayed (kinds : List Meaning) (net : List NodeDecl) (commands : Lis
       tables ≡ device_tables 0 net (tables_of net kinds (state_after start turns).book))
   pub books : (count : ℕ) → count < came.whole →
       GivesOwed kinds net (state_after start (take count turns)).book
+  pub stopped : status ≡ 6 → (count : ℕ) → came.whole ≡ suc count → IfSome told'
+      (AreCaught kinds net (state_after start (take count turns)).book
+      (state_after start (take (suc count) turns)).book)
+  pub flown : GivesLookups kinds net turns (added_events turns came.whole came.events)
 
 -- A run with this status over a script whose units are made already, with this log: whatever the log
 -- was before they were made, it is a run from there

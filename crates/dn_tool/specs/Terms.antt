@@ -4,6 +4,7 @@ pub use Rattle.dn_tool.specs.Books.{BooksStayFaithful, FaithfulImageGivesOwed}
 pub use Rattle.dn_tool.specs.Changed.{grant_refused_text, granted_text, refused_text, revoked_text, route_refused_text, routed_text}
 pub use Rattle.dn_tool.specs.Compiled.{IsLegal, compilation, compile_fault_view, expansion_compilation, fault, platform_view, with_refusal}
 pub use Rattle.dn_tool.specs.Demo.{IsShown, IsShownOn, agent_rows, has_granted, has_revoked, held_records, held_slots, sum_below, summary_with}
+pub use Rattle.dn_tool.specs.Flown.{LookupsAreGiven}
 pub use Rattle.dn_tool.specs.Found.{access_of, access_text, asked_text, lookup_text, names_under, resolve_text}
 pub use Rattle.dn_tool.specs.Halt.{HaltsByDevice, HaltsByEither, HaltsBySink, Writes, ending_status, is_free_status, make_halt}
 pub use Rattle.dn_tool.specs.Ids.{id_number, with_id}
@@ -14,6 +15,7 @@ pub use Rattle.dn_tool.specs.Refused.{AreNodesWithin, IsNodeWithin, Refused, by_
 pub use Rattle.dn_tool.specs.Reread.{AbsorbIsReadBack, CompiledIsReadBack, SplitIsReadBack}
 pub use Rattle.dn_tool.specs.Reshape.{absorb_text, absorbed_text, limit_text, made_text, no_node_text, reason_text, refusal_text, split_text, unfit_text}
 pub use Rattle.dn_tool.specs.State.{CameThrough, CameThroughChange, IsFirstView, IsReady, IsReadyOn, IsStill, state_view}
+pub use Rattle.dn_tool.specs.Stopped.{IsStopped}
 pub use Rattle.dn_tool.specs.Turn.{IsGrantTurn, IsRevokeTurn, IsRouteTurn, IsTurn, TurnIsOne, TurnsAreOne, is_change, is_dump, is_view, number_or_none, reply, request_of, rights_of, start}
 pub use Rattle.dn_tool.specs.Unmade.{AreUnmade, IsPassed, IsUnfit, IsUnfitFor}
 pub use Rattle.dn_tool.specs.Viewed.{OwedRowsAreNormal, no_agent_text, owed_rows, view_heading, view_text, viewed_text}

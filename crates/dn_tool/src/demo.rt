@@ -1,12 +1,12 @@
 //! A demonstration that is run: its commands without their replies, and one line that sums up what came of them.
 
-ghost use Rattle.std.specs.Prelude.{◌≡◌, ◌+◌, ◌-◌, ◌^◌, ◌<◌, [], None, if◌then◌else◌, length, IfOk, OnOk};
+ghost use Rattle.std.specs.Prelude.{◌≡◌, ◌+◌, ◌-◌, ◌^◌, ◌<◌, [], None, if◌then◌else◌, length, Err, IfOk, OnOk};
 ghost use Rattle.dn_net.specs.Terms.{unit_at};
 ghost use Rattle.dn_kind.specs.Terms.{kinds_of, record_held};
 ghost use Rattle.dn_flat.specs.Terms.{AreFlats};
 ghost use Rattle.dn_tables.specs.Terms.{FitsNet, words_of};
 ghost use Rattle.dn_demo.specs.Terms.{summary_text};
-ghost use Rattle.dn_tool.specs.Terms.{CameThrough, HaltsByDevice, HaltsByEither, HaltsBySink, IsMachine, IsReady, IsReadyOn, IsShown, IsShownOn, IsTurn, Writes, agent_rows, ending_status, has_granted, has_revoked, held_records, held_slots, is_change, start, state_view, sum_below, summary_with};
+ghost use Rattle.dn_tool.specs.Terms.{CameThrough, HaltsByDevice, HaltsByEither, HaltsBySink, IsMachine, IsReady, IsReadyOn, IsShown, IsShownOn, IsStopped, IsTurn, Writes, agent_rows, ending_status, has_granted, has_revoked, held_records, held_slots, is_change, start, state_view, sum_below, summary_with};
 
 use crate::OutOfMemory;
 use crate::change::change;
@@ -112,6 +112,10 @@ fn play<D: Tables>(
     ensures through { CameThrough (IsTurn (kinds_of meaning machine.entry.on.kinds.now)
         machine.entry.on.net.now (state_view state.old) command.now) result
         (state_view state.new) None None (D.log device.old) (D.log device.new) }
+    ensures caught { result ≡ Err RunHalt.DeviceFault
+        → IsStopped (kinds_of meaning machine.entry.on.kinds.now) machine.entry.on.net.now
+        state.old.book.grants (IsTurn (kinds_of meaning machine.entry.on.kinds.now)
+        machine.entry.on.net.now (state_view state.old) command.now) (D.words device.new) }
     ensures ready { OnOk result
         (IsReadyOn meaning machine.entry state.new (D.units device.new) (D.words device.new)) }
     ensures halted { HaltsByDevice result (D.faults device.old) (D.faults device.new) }

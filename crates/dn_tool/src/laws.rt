@@ -1,7 +1,7 @@
 //! Laws on scripts, on the rows that they print and on the nets that commands make, each the
 //! contract of a function that does nothing.
 
-ghost use Rattle.dn_tool.specs.Terms.{AbsorbIsReadBack, BooksStayFaithful, CompiledIsReadBack, FaithfulImageGivesOwed, OwedRowsAreNormal, SplitIsReadBack, TurnIsOne, TurnsAreOne};
+ghost use Rattle.dn_tool.specs.Terms.{AbsorbIsReadBack, BooksStayFaithful, CompiledIsReadBack, FaithfulImageGivesOwed, LookupsAreGiven, OwedRowsAreNormal, SplitIsReadBack, TurnIsOne, TurnsAreOne};
 
 /// The book after each number of the turns of a script over a legal net is sound and faithful.
 pub fn books_stay_faithful()
@@ -17,6 +17,13 @@ pub fn turn_is_one()
 /// told by its net, its kinds and its commands.
 pub fn turns_are_one()
     ensures { TurnsAreOne }
+{}
+
+/// In each schedule of a first part of the events of a script over a legal net, each lookup that has ended
+/// has ended with names that a book owed its start at one moment of its life; and with exactly the names
+/// that it was owed, where these were the same throughout.
+pub fn lookups_are_given()
+    ensures { LookupsAreGiven }
 {}
 
 /// The image of the tables of a sound and faithful book gives what the book owes.

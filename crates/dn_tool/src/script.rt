@@ -1,13 +1,13 @@
 //! A script that is run: its units are made, and then its commands are answered in order.
 
-ghost use Rattle.std.specs.Prelude.{◌≡◌, [], false, length, IfOk, IsTrue, OnOk};
+ghost use Rattle.std.specs.Prelude.{◌≡◌, [], false, length, Err, IfOk, IsTrue, OnOk};
 ghost use Rattle.std.specs.List.{list_all};
 ghost use Rattle.dn_kind.specs.Terms.{kinds_of};
 ghost use Rattle.dn_image.specs.Terms.{image};
 ghost use Rattle.dn_book.specs.Terms.{tables_of};
 ghost use Rattle.dn_print.specs.Terms.{dump_text};
 ghost use Rattle.dn_module.specs.Terms.{names_within};
-ghost use Rattle.dn_tool.specs.Terms.{CameThrough, HaltsByEither, HaltsBySink, IsMachine, IsPlayed, IsPlayedOn, IsReady, IsReadyOn, IsStill, IsTurn, Writes, ending_status, is_change, is_dump, is_view, reply, start, state_view};
+ghost use Rattle.dn_tool.specs.Terms.{CameThrough, HaltsByEither, HaltsBySink, IsMachine, IsPlayed, IsPlayedOn, IsReady, IsReadyOn, IsStill, IsStopped, IsTurn, Writes, ending_status, is_change, is_dump, is_view, reply, start, state_view};
 
 use crate::change::change;
 use crate::halt::RunHalt;
@@ -90,6 +90,10 @@ fn answer<K: Sink, D: Tables>(
     ensures through { CameThrough (IsTurn (kinds_of meaning machine.entry.on.kinds.now)
         machine.entry.on.net.now (state_view state.old) command.now) result (state_view state.new)
         (K.written sink.old) (K.written sink.new) (D.log device.old) (D.log device.new) }
+    ensures caught { result ≡ Err RunHalt.DeviceFault
+        → IsStopped (kinds_of meaning machine.entry.on.kinds.now) machine.entry.on.net.now
+        state.old.book.grants (IsTurn (kinds_of meaning machine.entry.on.kinds.now)
+        machine.entry.on.net.now (state_view state.old) command.now) (D.words device.new) }
     ensures ready { OnOk result
         (IsReadyOn meaning machine.entry state.new (D.units device.new) (D.words device.new)) }
     ensures halted { HaltsByEither result (K.faults sink.old) (K.faults sink.new)

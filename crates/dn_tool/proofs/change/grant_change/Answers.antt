@@ -4,6 +4,7 @@ use Rattle.dn_base.proofs.Counts.{counted_none}
 use Rattle.dn_net.specs.declared.node.NodeDecl.{NodeDecl}
 use Rattle.dn_kind.specs.Kind.{Meaning}
 use Rattle.dn_kind.specs.Kinded.{kinds_of}
+use Rattle.dn_tables.specs.Set.{words_of}
 use Rattle.dn_grant.specs.declared.fault.GrantFault.{GrantFault}
 use Rattle.dn_grant.specs.declared.fault.GrantFault.TheVariants.{Device, OutOfMemory}
 use Rattle.dn_grant.specs.Grant.{IsGrantLogged, IsGrantRefused}
@@ -15,8 +16,9 @@ use Rattle.dn_tool.specs.State.{IsChanged, state_view}
 use Rattle.dn_tool.specs.declared.state.Session.{Session as Kept}
 use Rattle.dn_tool.specs.Turn.{IsGrantTurn, State, state_with_id}
 use Rattle.dn_tool.proofs.Changes.{grant_refused_so, grant_said, grant_stopped, halted_after, not_granted_turn, state_granted, state_named, state_same}
+use Rattle.dn_tool.proofs.Stopped.{grant_caught}
 use Rattle.dn_tool.proofs.change.grant_change.Given.{Over}
-use Rattle.dn_tool.proofs.change.grant_change.Goals.{After-renew}
+use Rattle.dn_tool.proofs.change.grant_change.Goals.{After-renew, In-Err-Device}
 use Rattle.dn_tool.proofs.change.grant_change.Goals as goal
 
 pub renew-requires-clause-faithful : goal.renew-requires-clause-faithful
@@ -25,7 +27,7 @@ renew-requires-clause-faithful g c = c.in-Ok.ensures.faithful c.requires.ready.s
 -- the turn of the grant that was made
 made : (g : Over) (c : After-renew g) → IsChanged (IsGrantTurn (kinds_of (λ k. (goal.UnitKind-dyn g k).meaning k.1) c.args.machine.on.kinds.now) c.args.machine.on.net.now (state_view c.args.state.now) c.args.id.now c.args.request.now) (state_view c.renew.new.state) (granted_text c.args.id.now c.in-Ok.v) (g.D.Tables.log c.args.device.now) (g.D.Tables.log c.grant.new.device)
 made g c =
-    state_granted (kinds_of (λ k. (goal.UnitKind-dyn g k).meaning k.1) c.args.machine.on.kinds.now) c.args.machine.on.net.now c.args.state.now c.renew.new.state c.args.id.now c.args.request.now c.in_ok-number.number c.in-Ok.v c.grant.new.book _ _ c.in_ok-number.ensures.number c.in-Ok.ensures.turn c.in-Ok.ensures.granted c.renew.ensures.still.book (c.renew.ensures.still.ids ∙ c.in_ok-number.ensures.ids) c.in-Ok.ensures.committed.fenced
+    state_granted (kinds_of (λ k. (goal.UnitKind-dyn g k).meaning k.1) c.args.machine.on.kinds.now) c.args.machine.on.net.now c.args.state.now c.renew.new.state c.args.id.now c.args.request.now c.in_ok-number.number c.in-Ok.v c.grant.new.book _ _ _ c.in_ok-number.ensures.number c.in-Ok.ensures.turn c.in-Ok.ensures.granted c.renew.ensures.still.book (c.renew.ensures.still.ids ∙ c.in_ok-number.ensures.ids) c.in-Ok.ensures.changed.fenced
 
 pub returns-in_err-granted_reply-in-Ok-clause-changed : goal.returns-in_err-granted_reply-in-Ok-clause-changed
 returns-in_err-granted_reply-in-Ok-clause-changed g c =
@@ -35,12 +37,23 @@ pub returns-in_ok-granted_reply-in-Ok-clause-changed : goal.returns-in_ok-grante
 returns-in_ok-granted_reply-in-Ok-clause-changed g c =
     subst (λ (t : List ℕ). IsChanged (IsGrantTurn (kinds_of (λ k. (goal.UnitKind-dyn g k).meaning k.1) c.args.machine.on.kinds.now) c.args.machine.on.net.now (state_view c.args.state.now) c.args.id.now c.args.request.now) (state_view c.renew.new.state) t (g.D.Tables.log c.args.device.now) (g.D.Tables.log c.grant.new.device)) (sym c.in_ok-granted_reply-in-Ok.ensures) (made g (goal.at.returns-in_ok-granted_reply-in-Ok-clause-changed g c).After-renew)
 
+-- the events of the grant at which the device failed
+logged : (g : Over) (c : In-Err-Device g) → IsGrantLogged c.args.machine.on.net.now (kinds_of (λ k. (goal.UnitKind-dyn g k).meaning k.1) c.args.machine.on.kinds.now) c.args.state.now.book.grants c.args.state.now.book.cleared (id_number c.args.state.now.ids c.args.id.now) c.args.request.now true (g.D.Tables.log c.args.device.now) (g.D.Tables.log c.grant.new.device) (words_of c.grant.new.book.set)
+logged g c =
+    let kinds : List Meaning = kinds_of (λ k. (goal.UnitKind-dyn g k).meaning k.1) c.args.machine.on.kinds.now in
+    let book = c.args.state.now.book in
+    subst (λ n. IsGrantLogged c.args.machine.on.net.now kinds book.grants book.cleared n c.args.request.now true (g.D.Tables.log c.args.device.now) (g.D.Tables.log c.grant.new.device) (words_of c.grant.new.book.set)) c.in_ok-number.ensures.number (c.grant.ensures.stopped (c.in-Err-Device.is ∙ ap Err c.in-Err-Device.field-0-is))
+
 pub returns-in-Err-Device-clause-changed : goal.returns-in-Err-Device-clause-changed
 returns-in-Err-Device-clause-changed g c =
     let kinds : List Meaning = kinds_of (λ k. (goal.UnitKind-dyn g k).meaning k.1) c.args.machine.on.kinds.now in
-    let state = c.args.state.now in
-    let logged = subst (λ n. IsGrantLogged c.args.machine.on.net.now kinds state.book.grants state.book.cleared n c.args.request.now true (g.D.Tables.log c.args.device.now) (g.D.Tables.log c.grant.new.device)) c.in_ok-number.ensures.number (c.grant.ensures.stopped (c.in-Err-Device.is ∙ ap Err c.in-Err-Device.field-0-is)) in
-    grant_stopped kinds c.args.machine.on.net.now (state_view state) (state_view state) c.args.id.now c.args.request.now (Err DeviceFault) _ _ refl logged
+    let s : State = state_view c.args.state.now in
+    grant_stopped kinds c.args.machine.on.net.now s s c.args.id.now c.args.request.now (Err DeviceFault) _ _ _ refl (logged g (goal.at.returns-in-Err-Device-clause-changed g c).In-Err-Device)
+
+pub returns-in-Err-Device-clause-caught : goal.returns-in-Err-Device-clause-caught
+returns-in-Err-Device-clause-caught g c fault =
+    let kinds : List Meaning = kinds_of (λ k. (goal.UnitKind-dyn g k).meaning k.1) c.args.machine.on.kinds.now in
+    grant_caught kinds c.args.machine.on.net.now (state_view c.args.state.now) c.args.id.now c.grant.new.book.set _ _ c.grant.ensures.changed.fits c.grant.ensures.changed.on_device c.args.request.now _ _ (logged g (goal.at.returns-in-Err-Device-clause-caught g c).In-Err-Device)
 
 pub grant_refused-requires : goal.grant_refused-requires
 grant_refused-requires g c =
@@ -69,7 +82,8 @@ returns-in_ok-grant_refused-in-Err g c =
     let left : state_with_id s id ≡ state_view after = state_named after s id state.book same.0 refl refl c.in_ok-number.ensures.ids in
     let turned = not_granted_turn kinds net s (state_view after) id rq said.0 (g.D.Tables.log c.args.device.now) (g.D.Tables.log c.grant.new.device) refused (ap g.D.Tables.log same.1) left in
     record {
+      caught = λ e. cc;
       changed = subst (λ (t : List ℕ). IsChanged (IsGrantTurn kinds net s id rq) (state_view after) t (g.D.Tables.log c.args.device.now) (g.D.Tables.log c.grant.new.device)) (sym text) turned;
-      ready = record { machine = c.requires.ready.machine; state = state_same kinds net state after c.requires.ready.state same.0 refl c.requires.ready.state.first c.in_ok-keep_flats.ensures.flat c.requires.ready.state.unmade; on_device = c.in-Err.ensures.committed.on_device };
+      ready = record { machine = c.requires.ready.machine; state = state_same kinds net state after c.requires.ready.state same.0 refl c.requires.ready.state.first c.in_ok-keep_flats.ensures.flat c.requires.ready.state.unmade; on_device = c.in-Err.ensures.changed.on_device };
       halted = record { no_write = refl; counted = subst (λ d. IsCounted (g.D.Tables.faults c.args.device.now) (g.D.Tables.faults d) false) (sym same.1) (counted_none (g.D.Tables.faults c.args.device.now)) };
     }

@@ -4,7 +4,9 @@ use Rattle.dn_net.specs.declared.node.NodeDecl.{NodeDecl}
 use Rattle.dn_kind.specs.Kind.{Meaning}
 use Rattle.dn_kind.specs.Kinded.{kinds_of}
 use Rattle.dn_book.specs.declared.book.RevokeFault.TheVariants.{Device, NoGrant}
-use Rattle.dn_book.specs.Book.{has_id}
+use Rattle.dn_tables.specs.Set.{words_of}
+use Rattle.dn_book.specs.Between.{IsCaught}
+use Rattle.dn_book.specs.Book.{has_id, without_id}
 use Rattle.dn_tool.specs.declared.halt.RunHalt.TheVariants.{DeviceFault}
 use Rattle.dn_tool.specs.Changed.{revoked_text}
 use Rattle.dn_tool.specs.Ids.{id_number}
@@ -12,6 +14,7 @@ use Rattle.dn_tool.specs.State.{IsChanged, state_view}
 use Rattle.dn_tool.specs.declared.state.Session.{Session as Kept}
 use Rattle.dn_tool.specs.Turn.{IsRevokeTurn, State, state_with_id}
 use Rattle.dn_tool.proofs.Changes.{halted_after, not_revoked_turn, revoke_stopped, state_named, state_revoked, state_same}
+use Rattle.dn_tool.proofs.Stopped.{revoke_caught}
 use Rattle.dn_tool.proofs.change.revoke_change.Given.{Over}
 use Rattle.dn_tool.proofs.change.revoke_change.Goals.{After-renew}
 use Rattle.dn_tool.proofs.change.revoke_change.Goals as goal
@@ -22,7 +25,7 @@ renew-requires-clause-faithful g c = c.in-Ok.ensures.faithful c.requires.ready.s
 -- the turn of the grant that was taken out
 made : (g : Over) (c : After-renew g) → IsChanged (IsRevokeTurn (kinds_of (λ k. (goal.UnitKind-dyn g k).meaning k.1) c.args.machine.on.kinds.now) c.args.machine.on.net.now (state_view c.args.state.now) c.args.id.now) (state_view c.renew.new.state) (revoked_text c.args.id.now) (g.D.Tables.log c.args.device.now) (g.D.Tables.log c.revoke.new.device)
 made g c =
-    state_revoked (kinds_of (λ k. (goal.UnitKind-dyn g k).meaning k.1) c.args.machine.on.kinds.now) c.args.machine.on.net.now c.args.state.now c.renew.new.state c.args.id.now c.in_ok-number.number c.revoke.new.self _ _ c.in_ok-number.ensures.number (λ e. let x = c.in-Ok.ensures.unknown.1 e in cc) c.in-Ok.ensures.added c.in-Ok.ensures.revoked c.renew.ensures.still.book (c.renew.ensures.still.ids ∙ c.in_ok-number.ensures.ids) c.in-Ok.ensures.cleared
+    state_revoked (kinds_of (λ k. (goal.UnitKind-dyn g k).meaning k.1) c.args.machine.on.kinds.now) c.args.machine.on.net.now c.args.state.now c.renew.new.state c.args.id.now c.in_ok-number.number c.revoke.new.self _ _ c.in_ok-number.ensures.number (λ e. let x = c.in-Ok.ensures.unknown.1 e in cc) c.in-Ok.ensures.added c.in-Ok.ensures.revoked c.renew.ensures.still.book (c.renew.ensures.still.ids ∙ c.in_ok-number.ensures.ids) c.in-Ok.ensures.changed.fenced
 
 pub returns-in_err-revoked_reply-in-Ok-clause-changed : goal.returns-in_err-revoked_reply-in-Ok-clause-changed
 returns-in_err-revoked_reply-in-Ok-clause-changed g c =
@@ -56,7 +59,7 @@ returns-in_ok-refused_reply-in-Err-NoGrant-clause-ready g c =
     record {
       machine = c.requires.ready.machine;
       state = state_same kinds c.args.machine.on.net.now state after c.requires.ready.state same.0 refl c.requires.ready.state.first c.requires.ready.state.flat c.requires.ready.state.unmade;
-      on_device = c.revoke.ensures.on_device;
+      on_device = c.revoke.ensures.changed.on_device;
     }
 
 pub returns-in-Err-Device-clause-changed : goal.returns-in-Err-Device-clause-changed
@@ -67,3 +70,14 @@ returns-in-Err-Device-clause-changed g c =
     let failed : c.revoke.result ≡ Err Device = c.in-Err-Device.is ∙ ap Err c.in-Err-Device.field-0-is in
     let has = subst (λ n. has_id n book ≡ true) number (true_from_ne_false (has_id c.in_ok-number.number book) (λ e. let x = c.revoke.ensures.unknown.1 e in let y = failed in cc)) in
     revoke_stopped kinds c.args.machine.on.net.now (state_view c.args.state.now) (state_view c.args.state.now) c.args.id.now (Err DeviceFault) (g.D.Tables.log c.args.device.now) (g.D.Tables.log c.revoke.new.device) refl has (λ k m e. c.in-Err-Device.ensures.added k m (e ∙ sym number))
+
+pub returns-in-Err-Device-clause-caught : goal.returns-in-Err-Device-clause-caught
+returns-in-Err-Device-clause-caught g c fault =
+    let kinds : List Meaning = kinds_of (λ k. (goal.UnitKind-dyn g k).meaning k.1) c.args.machine.on.kinds.now in
+    let net : List NodeDecl = c.args.machine.on.net.now in
+    let book = c.args.state.now.book.grants in
+    let number = c.in_ok-number.ensures.number in
+    let failed : c.revoke.result ≡ Err Device = c.in-Err-Device.is ∙ ap Err c.in-Err-Device.field-0-is in
+    let has = subst (λ n. has_id n book ≡ true) number (true_from_ne_false (has_id c.in_ok-number.number book) (λ e. let x = c.revoke.ensures.unknown.1 e in let y = failed in cc)) in
+    let caught = subst (λ n. IsCaught net kinds (words_of c.revoke.new.self.set) book (without_id n book)) number (c.revoke.ensures.caught failed) in
+    revoke_caught kinds net (state_view c.args.state.now) c.args.id.now c.revoke.new.self.set _ _ c.revoke.ensures.changed.fits c.revoke.ensures.changed.on_device has caught

@@ -5,6 +5,7 @@ use Rattle.dn_tool.specs.declared.halt.RunHalt.{RunHalt}
 use Rattle.dn_tool.specs.State.{CameThrough, state_view}
 use Rattle.dn_tool.specs.Turn.{IsTurn, Turn}
 use Rattle.dn_tool.proofs.Demos.{quiet_changed, quiet_still}
+use Rattle.dn_tool.proofs.Stopped.{handed_on}
 use Rattle.dn_tool.proofs.demo.play.Goals as goal
 
 pub returns-then-not-is_change-clause-through : goal.returns-then-not-is_change-clause-through
@@ -21,3 +22,8 @@ returns-in_err-change-clause-through g c =
 
 pub returns-clause-through : goal.returns-clause-through
 returns-clause-through g c = quiet_changed _ _ _ _ _ c.in_ok-change.ensures.changed
+
+pub returns-in_err-change-clause-caught : goal.returns-in_err-change-clause-caught
+returns-in_err-change-clause-caught g c fault =
+    let ended : c.from_residual.result ≡ Err c.in_err-change.field-0.0 = search rules in
+    c.change.ensures.caught (handed_on c.change.result c.from_residual.result c.in_err-change.field-0.0 c.in_err-change.was ended fault)

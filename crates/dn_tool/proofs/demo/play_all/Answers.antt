@@ -10,7 +10,7 @@ use Rattle.dn_tool.specs.Halt.{ending_status, is_device_halt, is_write_halt}
 use Rattle.dn_tool.specs.State.{state_view}
 use Rattle.dn_tool.proofs.Demos.{IsTallied, line_status, one_at_most, shown_halted, shown_unread, shown_written, tallied_more, tallied_start}
 use Rattle.dn_tool.proofs.Places.{IsNext, first_place, first_rest, place, told_end, told_next}
-use Rattle.dn_tool.proofs.Kept.{machine_owed}
+use Rattle.dn_tool.proofs.Kept.{machine_lawful, machine_owed}
 use Rattle.dn_tool.proofs.demo.play_all.Goals as goal
 
 pub commands-init : goal.commands-init
@@ -25,7 +25,7 @@ commands-init g c =
       few_granted = omega arith;
       few_revoked = omega arith;
       ready = c.requires.ready;
-      tallied = λ log made. tallied_start kinds net cs (place cs c.cursor-rest.result) (state_view c.args.state.now) log _ (first_place cs c.cursor-rest.result all) c.requires.start owed made;
+      tallied = λ log made. tallied_start kinds net cs (place cs c.cursor-rest.result) (state_view c.args.state.now) log _ (machine_lawful _ c.args.machine c.requires.ready.machine) (first_place cs c.cursor-rest.result all) c.requires.start owed made;
       device_counted = counted_none _;
     }
 
@@ -42,7 +42,7 @@ returns-in_err-ended-clause-shown g c =
     let cs : List Command = c.args.commands.now in
     let at : IsNext cs c.commands.rest c.next.new.self c.in-Some.command = told_next cs _ _ _ _ c.commands.invariant.behind c.in_ok-command.ensures.next c.in-Some.is in
     let ended : c.from_residual-in_err-ended.result ≡ Err c.in_err-ended.field-0.0 = search rules in
-    λ log made. shown_halted kinds c.args.machine.on.net.now c.args.agents cs (place cs c.commands.rest) c.in-Some.command (state_view c.commands.state) (state_view c.play-ended.new.state) c.play-ended.result c.in_err-ended.field-0.0 c.from_residual-in_err-ended.result _ _ _ _ _ c.commands.granted c.commands.revoked c.in_err-ended.was ended c.play-ended.ensures.halted.no_write at.within at.at (c.commands.invariant.tallied log made) c.play-ended.ensures.through
+    λ log made. shown_halted kinds c.args.machine.on.net.now c.args.agents cs (place cs c.commands.rest) c.in-Some.command (state_view c.commands.state) (state_view c.play-ended.new.state) c.play-ended.result c.in_err-ended.field-0.0 c.from_residual-in_err-ended.result _ _ _ _ _ c.commands.granted c.commands.revoked c.in_err-ended.was ended c.play-ended.ensures.halted.no_write at.within at.at (c.commands.invariant.tallied log made) c.play-ended.ensures.through c.play-ended.ensures.caught
 
 pub returns-in_err-command-clause-halted : goal.returns-in_err-command-clause-halted
 returns-in_err-command-clause-halted g c =

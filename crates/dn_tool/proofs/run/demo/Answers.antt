@@ -1,10 +1,12 @@
 use Rattle.std.proofs.Common.{◌≡◌, sym, subst, List, ℕ, false, refl}
 use Rattle.dn_kind.specs.Kind.{Meaning}
 use Rattle.dn_kind.specs.Kinded.{kinds_of}
+use Rattle.dn_tables.proofs.Slots.{all_of_map}
+use Rattle.dn_demo.specs.Text.{demo_text}
 use Rattle.dn_words.specs.declared.words.Task.TheVariants.{Demo}
 use Rattle.dn_tool.specs.Answer.{Answer, IsAnswered, demo_answer, is_script, text_answer}
 use Rattle.dn_tool.specs.Halt.{ending_status}
-use Rattle.dn_tool.proofs.Unanswered.{unanswered}
+use Rattle.dn_tool.proofs.Unanswered.{text_legal, unanswered}
 use Rattle.dn_tool.proofs.run.demo.Goals as goal
 
 pub returns-in-Ok-clause-answered : goal.returns-in-Ok-clause-answered
@@ -23,4 +25,4 @@ returns-in-Ok-clause-untouched g c =
     subst (λ (t : List ℕ). P (text_answer (Demo c.args.agents) kinds t)) c.in-Ok.ensures told
 
 pub returns-in-Err-clause-answered : goal.returns-in-Err-clause-answered
-returns-in-Err-clause-answered g c = unanswered _ _ 7 _ _ _ _ _ refl refl refl (λ _. refl) refl refl
+returns-in-Err-clause-answered g c = unanswered _ _ 7 _ _ _ _ _ (all_of_map _ c.args.kinds.now.list.items c.requires.kinds.lawful) (text_legal (Demo c.args.agents) (kinds_of (λ k. (goal.UnitKind-dyn g k).meaning k.1) c.args.kinds.now) (demo_text c.args.agents)) refl refl refl (λ _. refl) refl refl

@@ -2,11 +2,12 @@ use Rattle.std.proofs.Common.{rules, ◌≡◌, ◌∙◌, ◌<◌, sym, subst, 
 use Rattle.dn_base.specs.Outside.{AtEnd, input_limit}
 use Rattle.dn_kind.specs.Kind.{Meaning}
 use Rattle.dn_kind.specs.Kinded.{kinds_of}
+use Rattle.dn_tables.proofs.Slots.{all_of_map}
 use Rattle.dn_words.specs.Words.{task_of}
 use Rattle.dn_tool.specs.Answer.{Answer, IsAnswered, IsInput, answer, is_script, task_reads, text_answer}
 use Rattle.dn_tool.specs.Halt.{ending_status}
 use Rattle.dn_tool.proofs.Inputs.{asked_reads, input_answer, read_is_not_shown, task_is_read}
-use Rattle.dn_tool.proofs.Unanswered.{unanswered}
+use Rattle.dn_tool.proofs.Unanswered.{answer_legal, unanswered}
 use Rattle.dn_tool.proofs.run.run.Given.{Over}
 use Rattle.dn_tool.proofs.run.run.Goals.{In-Ok}
 use Rattle.dn_tool.proofs.run.run.Goals as goal
@@ -22,17 +23,17 @@ whole g c text input P told =
     input_answer (g.S.Source.left c.args.source.now) (g.S.Source.left c.read_whole.new.source) c.args.words.now task kinds c.in-Ok.text.items text P asked read c.in-Ok.ensures.taken end input told
 
 pub returns-in-Err-clause-answered : goal.returns-in-Err-clause-answered
-returns-in-Err-clause-answered g c text input = unanswered _ _ 7 _ _ _ _ _ refl refl refl (λ _. refl) refl refl
+returns-in-Err-clause-answered g c text input = unanswered _ _ 7 _ _ _ _ _ (all_of_map _ c.args.kinds.now.list.items c.requires.kinds.lawful) (answer_legal c.args.words.now (kinds_of (λ k. (goal.UnitKind-dyn g k).meaning k.1) c.args.kinds.now) text) refl refl refl (λ _. refl) refl refl
 
 pub returns-in-Err-Failed-clause-answered : goal.returns-in-Err-Failed-clause-answered
 returns-in-Err-Failed-clause-answered g c text input =
     let kinds : List Meaning = kinds_of (λ k. (goal.UnitKind-dyn g k).meaning k.1) c.args.kinds.now in
     let asked : task_of c.args.words.now ≡ Some c.in-Ok-Some.task = sym c.in-Ok-Some.ensures.task ∙ c.in-Ok-Some.field-0-is in
     let read = asked_reads c.args.words.now c.in-Ok-Some.task asked (task_is_read c.in-Ok-Some.task c.in_default.not-Demo) in
-    unanswered _ _ 2 _ _ _ _ _ refl refl refl (λ e. absurd (true≢false (sym e ∙ read_is_not_shown c.args.words.now kinds text read))) refl refl
+    unanswered _ _ 2 _ _ _ _ _ (all_of_map _ c.args.kinds.now.list.items c.requires.kinds.lawful) (answer_legal c.args.words.now (kinds_of (λ k. (goal.UnitKind-dyn g k).meaning k.1) c.args.kinds.now) text) refl refl refl (λ e. absurd (true≢false (sym e ∙ read_is_not_shown c.args.words.now kinds text read))) refl refl
 
 pub returns-in-Err-OutOfMemory-clause-answered : goal.returns-in-Err-OutOfMemory-clause-answered
-returns-in-Err-OutOfMemory-clause-answered g c text input = unanswered _ _ 7 _ _ _ _ _ refl refl refl (λ _. refl) refl refl
+returns-in-Err-OutOfMemory-clause-answered g c text input = unanswered _ _ 7 _ _ _ _ _ (all_of_map _ c.args.kinds.now.list.items c.requires.kinds.lawful) (answer_legal c.args.words.now (kinds_of (λ k. (goal.UnitKind-dyn g k).meaning k.1) c.args.kinds.now) text) refl refl refl (λ _. refl) refl refl
 
 pub returns-clause-answered : goal.returns-clause-answered
 returns-clause-answered g c text input =

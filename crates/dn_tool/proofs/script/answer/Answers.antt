@@ -9,6 +9,7 @@ use Rattle.dn_module.specs.declared.command.Command.TheVariants.{Dump, View}
 use Rattle.dn_tool.specs.State.{IsChanged, state_view}
 use Rattle.dn_tool.specs.Turn.{IsTurn, State, Turn, is_change}
 use Rattle.dn_tool.proofs.Changes.{change_halted, on_ok, replied, state_kept, still_said, still_through}
+use Rattle.dn_tool.proofs.Stopped.{handed_on, not_stopped}
 use Rattle.dn_tool.proofs.script.answer.Goals as goal
 
 pub returns-in_err-text-in-Grant-clause-through : goal.returns-in_err-text-in-Grant-clause-through
@@ -16,6 +17,20 @@ returns-in_err-text-in-Grant-clause-through g c =
     let kinds : List Meaning = kinds_of (λ k. (goal.UnitKind-dyn g k).meaning k.1) c.args.machine.on.kinds.now in
     let ended : c.from_residual.result ≡ Err c.in_err-text-in-Grant.field-0.0 = search rules in
     change_halted (IsTurn kinds c.args.machine.on.net.now (state_view c.args.state.now) c.args.command.now) c.change.result c.in_err-text-in-Grant.field-0.0 c.from_residual.result (state_view c.change.new.state) _ _ _ c.in_err-text-in-Grant.was ended c.change.ensures.changed
+
+pub returns-in_err-text-in-Grant-clause-caught : goal.returns-in_err-text-in-Grant-clause-caught
+returns-in_err-text-in-Grant-clause-caught g c fault =
+    let ended : c.from_residual.result ≡ Err c.in_err-text-in-Grant.field-0.0 = search rules in
+    c.change.ensures.caught (handed_on c.change.result c.from_residual.result c.in_err-text-in-Grant.field-0.0 c.in_err-text-in-Grant.was ended fault)
+
+pub returns-in_ok-text-in-Grant-clause-caught : goal.returns-in_ok-text-in-Grant-clause-caught
+returns-in_ok-text-in-Grant-clause-caught g c = not_stopped c.write_output.result _ c.write_output.ensures.halted.no_device
+
+pub returns-in-Dump-clause-caught : goal.returns-in-Dump-clause-caught
+returns-in-Dump-clause-caught g c = not_stopped c.dump.result _ c.dump.ensures.halted.no_device
+
+pub returns-in-View-clause-caught : goal.returns-in-View-clause-caught
+returns-in-View-clause-caught g c = not_stopped c.view_reply.result _ c.view_reply.ensures.halted.no_device
 
 pub returns-in_ok-text-in-Grant-clause-through : goal.returns-in_ok-text-in-Grant-clause-through
 returns-in_ok-text-in-Grant-clause-through g c =
@@ -42,6 +57,7 @@ returns-in_default g c =
     let next : State = state_view c.answer_still.new.state in
     let still : is_change c.args.command.now ≡ false = search rules in
     record {
+      caught = not_stopped c.answer_still.result _ c.answer_still.ensures.halted.no_device;
       through = still_through kinds net s next c.args.command.now c.answer_still.result (g.K.Sink.written c.args.sink.now) (g.K.Sink.written c.answer_still.new.sink) (g.D.Tables.log c.args.device.now) still (state_kept c.args.state.now c.answer_still.new.state c.answer_still.ensures.still.book c.answer_still.ensures.still.ids) c.answer_still.ensures.written c.answer_still.ensures.halted.no_device;
       ready = on_ok c.answer_still.result _ (record {
         machine = c.requires.ready.machine;

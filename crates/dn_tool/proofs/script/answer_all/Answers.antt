@@ -1,20 +1,17 @@
 use Rattle.std.proofs.Common.{rules, ◌≡◌, ◌∙◌, sym, subst, List, length, IsTrue, ℕ, Err, false, refl, arith}
 use Rattle.std.specs.List.{list_all}
 use Rattle.dn_base.proofs.Counts.{counted_none, counted_then}
-use Rattle.dn_base.proofs.Told.{if_some_then}
 use Rattle.dn_kind.specs.Kind.{Meaning}
 use Rattle.dn_kind.specs.Kinded.{kinds_of}
-use Rattle.dn_tables.specs.Set.{device_tables, tables_of_set}
-use Rattle.dn_tables.proofs.Devices.{device_told}
-use Rattle.dn_book.specs.Tables.{tables_of}
 use Rattle.dn_module.specs.declared.command.Command.{Command}
 use Rattle.dn_module.specs.Commands.{names_within}
 use Rattle.dn_tool.specs.declared.halt.RunHalt.TheVariants.{NoMemory}
 use Rattle.dn_tool.specs.Halt.{is_device_halt, is_write_halt}
 use Rattle.dn_tool.specs.State.{state_view}
-use Rattle.dn_tool.proofs.Kept.{machine_owed}
+use Rattle.dn_tool.proofs.Kept.{machine_lawful, machine_owed}
 use Rattle.dn_tool.proofs.Places.{IsNext, first_place, first_rest, known_next, place, told_end, told_next}
 use Rattle.dn_tool.proofs.Played.{IsGone, gone_start, gone_turned, halted_by, halted_unmade, played_whole}
+use Rattle.dn_tool.proofs.Stopped.{words_told}
 use Rattle.dn_tool.proofs.script.answer_all.Goals as goal
 
 pub commands-init : goal.commands-init
@@ -28,7 +25,7 @@ commands-init g c =
       behind = first_rest cs c.cursor-rest.result all;
       known = subst (λ (l : List Command). IsTrue (list_all (names_within (length net)) l)) (sym all) c.requires.known;
       ready = c.requires.ready;
-      gone = λ log made. gone_start kinds net cs (place cs c.cursor-rest.result) (state_view c.args.state.now) _ _ log _ (first_place cs c.cursor-rest.result all) c.requires.start owed refl made;
+      gone = λ log made. gone_start kinds net cs (place cs c.cursor-rest.result) (state_view c.args.state.now) _ _ log _ (machine_lawful _ c.args.machine c.requires.ready.machine) (first_place cs c.cursor-rest.result all) c.requires.start owed refl made;
       sink_counted = counted_none _;
       device_counted = counted_none _;
     }
@@ -55,7 +52,7 @@ returns-in_err-ended-clause-played g c =
     let cs : List Command = c.args.commands.now in
     let at : IsNext cs c.commands.rest c.next.new.self c.in-Some.command = told_next cs _ _ _ _ c.commands.invariant.behind c.in_ok-command.ensures.next c.in-Some.is in
     let ended : c.from_residual-in_err-ended.result ≡ Err c.in_err-ended.field-0.0 = search rules in
-    λ log made. halted_by kinds c.args.machine.on.net.now cs (place cs c.commands.rest) c.in-Some.command (state_view c.commands.state) (state_view c.answer-ended.new.state) c.answer-ended.result c.in_err-ended.field-0.0 c.from_residual-in_err-ended.result _ _ _ _ _ _ _ c.in_err-ended.was ended at.within at.at (c.commands.invariant.gone log made) c.answer-ended.ensures.through
+    λ log made. halted_by kinds c.args.machine.on.net.now cs (place cs c.commands.rest) c.in-Some.command (state_view c.commands.state) (state_view c.answer-ended.new.state) c.answer-ended.result c.in_err-ended.field-0.0 c.from_residual-in_err-ended.result _ _ _ _ _ _ _ c.in_err-ended.was ended at.within at.at (c.commands.invariant.gone log made) c.answer-ended.ensures.through c.answer-ended.ensures.caught
 
 pub returns-in_err-ended-clause-halted : goal.returns-in_err-ended-clause-halted
 returns-in_err-ended-clause-halted g c =
@@ -91,8 +88,5 @@ returns-clause-played g c =
     let cs : List Command = c.args.commands.now in
     let i : ℕ = place cs c.commands.rest in
     let over : i ≡ length cs = told_end cs c.commands.rest _ _ c.in_ok-command.ensures.next c.in_default.is in
-    let kept = c.commands.invariant.ready.state.kept in
-    let book = c.commands.state.book in
-    let same : tables_of_set book.set ≡ device_tables 0 net (tables_of net kinds book.grants) = device_told book.set net (tables_of net kinds book.grants) kept.fits.units kept.words in
-    let told = if_some_then (g.D.Tables.words c.commands.device) _ (λ tables. tables ≡ device_tables 0 net (tables_of net kinds book.grants)) (λ tables e. e ∙ same) c.commands.invariant.ready.on_device.words in
+    let told = words_told kinds net c.commands.state.book.grants c.commands.state.book.set _ _ c.commands.invariant.ready.state.kept c.commands.invariant.ready.on_device in
     λ log made. played_whole kinds net cs i 0 (state_view c.commands.state) _ _ _ _ _ over refl told (c.commands.invariant.gone log made)

@@ -3,6 +3,7 @@ use Rattle.dn_base.proofs.Counts.{counted_then}
 use Rattle.dn_kind.specs.Kind.{Meaning}
 use Rattle.dn_kind.specs.Kinded.{kinds_of}
 use Rattle.dn_tool.specs.Halt.{make_halt}
+use Rattle.dn_tool.proofs.Kept.{machine_lawful}
 use Rattle.dn_tool.proofs.Played.{making_told, unmade_by}
 use Rattle.dn_tool.proofs.script.run_script.Goals as goal
 
@@ -10,7 +11,7 @@ pub returns-in_err-state-clause-played : goal.returns-in_err-state-clause-played
 returns-in_err-state-clause-played g c =
     let kinds : List Meaning = kinds_of (λ k. (goal.UnitKind-dyn g k).meaning k.1) c.args.machine.on.kinds.now in
     let ended : c.from_residual.result ≡ Err (make_halt c.in_err-state.field-0.0) = search rules in
-    unmade_by kinds c.args.machine.on.net.now c.args.commands.now c.make.result c.in_err-state.field-0.0 c.from_residual.result _ _ _ _ _ _ _ c.in_err-state.was ended refl c.make.ensures.made
+    unmade_by kinds c.args.machine.on.net.now c.args.commands.now c.make.result c.in_err-state.field-0.0 c.from_residual.result _ _ _ _ _ _ _ (machine_lawful _ c.args.machine c.requires.machine) c.in_err-state.was ended refl c.make.ensures.made
 
 pub returns-clause-played : goal.returns-clause-played
 returns-clause-played g c =

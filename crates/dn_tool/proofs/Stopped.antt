@@ -1,0 +1,85 @@
+-- What a device tells of the tables: those of a book, and those that a fault left inside a turn.
+use Rattle.std.proofs.Common.{◌≡◌, ◌∙◌, ap, sym, subst, refl, ℕ, inl, Bool, true, false, List, [], ◌∷◌, ◌++◌, Option, Result, Err}
+use Rattle.std.specs.Option.{IfSome}
+use Rattle.dn_base.specs.declared.device.TableEvent.{TableEvent}
+use Rattle.dn_base.specs.declared.device.UnitWords.{UnitWords}
+use Rattle.dn_base.specs.Device.{UnitSize}
+use Rattle.dn_base.proofs.Told.{if_some_then}
+use Rattle.dn_net.specs.declared.node.NodeDecl.{NodeDecl}
+use Rattle.dn_net.specs.Chain.{Member}
+use Rattle.dn_kind.specs.Kind.{Meaning}
+use Rattle.dn_tables.specs.declared.table.NodeTable.{NodeTable}
+use Rattle.dn_tables.specs.Set.{FitsNet, IsOnDevice, device_tables, tables_of_set, words_of}
+use Rattle.dn_tables.proofs.Devices.{device_told}
+use Rattle.dn_placement.specs.declared.request.Request.{Request}
+use Rattle.dn_book.specs.declared.grant.Grant.{Grant as GrantPart}
+use Rattle.dn_book.specs.Between.{IsCaught}
+use Rattle.dn_book.specs.Book.{has_id, without_id}
+use Rattle.dn_book.specs.Tables.{IsKept, tables_of}
+use Rattle.dn_book.specs.Writes.{revoke_events}
+use Rattle.dn_grant.specs.Grant.{IsGrantLogged, grant_of_request}
+use Rattle.dn_vector.specs.Route.{IsRouteLogged, grant_of_route}
+use Rattle.dn_tool.specs.declared.halt.RunHalt.{RunHalt}
+use Rattle.dn_tool.specs.declared.halt.RunHalt.TheVariants.{DeviceFault}
+use Rattle.dn_tool.specs.Changed.{granted_text, revoked_text, routed_text}
+use Rattle.dn_tool.specs.Halt.{is_device_halt}
+use Rattle.dn_tool.specs.Ids.{id_number, with_id}
+use Rattle.dn_tool.specs.Stopped.{AreCaught, IsStopped}
+use Rattle.dn_tool.specs.Turn.{IsGrantTurn, IsRevokeTurn, IsRouteTurn, State, Turn, turn_with_grant}
+use Rattle.dn_tool.proofs.Changes.{lives}
+
+-- the words that a device tells are the tables of the book
+pub words_told : (kinds : List Meaning) (net : List NodeDecl) (book : List GrantPart) (set : List NodeTable) (sizes : List UnitSize) (told : Option (List UnitWords)) → IsKept net kinds book set → IsOnDevice set sizes told → IfSome told (λ tables. tables ≡ device_tables 0 net (tables_of net kinds book))
+words_told kinds net book set sizes told kept on =
+    if_some_then told (λ tables. tables ≡ tables_of_set set) (λ tables. tables ≡ device_tables 0 net (tables_of net kinds book)) (λ tables e. e ∙ device_told set net (tables_of net kinds book) kept.fits.units kept.words) on.words
+
+-- what the words of a set say of two books, the words that a device tells say
+told_caught : (kinds : List Meaning) (net : List NodeDecl) (before after : List GrantPart) (set : List NodeTable) (sizes : List UnitSize) (told : Option (List UnitWords)) → FitsNet net kinds set → IsOnDevice set sizes told → IsCaught net kinds (words_of set) before after → IfSome told (AreCaught kinds net before after)
+told_caught kinds net before after set sizes told fits on caught =
+    if_some_then told (λ tables. tables ≡ tables_of_set set) (AreCaught kinds net before after) (λ tables e. (words_of set, e ∙ device_told set net (words_of set) fits.units refl, caught)) on.words
+
+module _ (kinds : List Meaning) (net : List NodeDecl) (s : State) (id : List ℕ) (set : List NodeTable) (sizes : List UnitSize) (told : Option (List UnitWords)) (fits : FitsNet net kinds set) (on : IsOnDevice set sizes told) where
+  -- a grant at which the device failed
+  pub grant_caught : (rq : Request) (log log' : Option (List TableEvent)) → IsGrantLogged net kinds s.book s.cleared (id_number s.ids id) rq true log log' (words_of set) → IsStopped kinds net s.book (IsGrantTurn kinds net s id rq) told
+  grant_caught rq log log' logged =
+      let g : GrantPart = grant_of_request (id_number s.ids id) rq logged.place in
+      record {
+        turn = turn_with_grant net kinds s id g (granted_text id logged.place.v);
+        is_turn = inl (record { place = logged.place; placed = logged.placed; is_turn = refl });
+        caught = told_caught kinds net s.book (s.book ++ g ∷ []) set sizes told fits on (logged.caught refl);
+      }
+
+  -- a route
+  pub route_caught : (agent line node : ℕ) (log log' : Option (List TableEvent)) → IsRouteLogged net kinds s.book s.cleared (id_number s.ids id) agent line node true log log' (words_of set) → IsStopped kinds net s.book (IsRouteTurn kinds net s id agent line node) told
+  route_caught agent line node log log' logged =
+      let g : GrantPart = grant_of_route (id_number s.ids id) agent node logged.vector logged.place in
+      record {
+        turn = turn_with_grant net kinds s id g (routed_text id logged.vector);
+        is_turn = inl (record { vector = logged.vector; place = logged.place; placed = logged.placed; is_turn = refl });
+        caught = told_caught kinds net s.book (s.book ++ g ∷ []) set sizes told fits on (logged.caught refl);
+      }
+
+  -- a revoke
+  pub revoke_caught : has_id (id_number s.ids id) s.book ≡ true → IsCaught net kinds (words_of set) s.book (without_id (id_number s.ids id) s.book) → IsStopped kinds net s.book (IsRevokeTurn kinds net s id) told
+  revoke_caught has caught =
+      let g = lives (id_number s.ids id) s.book has in
+      record {
+        turn = record { events = revoke_events net kinds s.book g.0; reply = revoked_text id; next = record { book = without_id (id_number s.ids id) s.book; cleared = true; ids = with_id s.ids id } };
+        is_turn = inl (record { grant = g.0; lives = g.1; has = g.2; is_turn = refl });
+        caught = told_caught kinds net s.book (without_id (id_number s.ids id) s.book) set sizes told fits on caught;
+      }
+
+-- a turn of one sort is one of another, by what both are made of
+pub stopped_as : {A X : Type 0} (kinds : List Meaning) (net : List NodeDecl) (book : List GrantPart) (P : A → Turn → Type 0) (a b : A) (r : Result X RunHalt) (told : Option (List UnitWords)) → a ≡ b → (r ≡ Err DeviceFault → IsStopped kinds net book (P a) told) → r ≡ Err DeviceFault → IsStopped kinds net book (P b) told
+stopped_as {A} kinds net book P a b r told e stop f = subst (λ (x : A). IsStopped kinds net book (P x) told) e (stop f)
+
+-- where no call of the device failed there is no such fault
+pub not_stopped : {X : Type 0} (r : Result X RunHalt) (Q : Type 0) → is_device_halt r ≡ false → r ≡ Err DeviceFault → Q
+not_stopped {X} r Q none is = let c : true ≡ false = sym (ap (is_device_halt {A = X}) is) ∙ none in absurd (cc)
+
+-- a fault that is handed on is the one that came
+pub handed_on : {X Y : Type 0} (r : Result X RunHalt) (r' : Result Y RunHalt) (h : RunHalt) → r ≡ Err h → r' ≡ Err h → r' ≡ Err DeviceFault → r ≡ Err DeviceFault
+handed_on {X} {Y} r r' h is by fault =
+    let same : ◌≡◌ {A = Result Y RunHalt} (Err h) (Err DeviceFault) = sym by ∙ fault in
+    let halt : h ≡ DeviceFault = cc in
+    is ∙ ap (λ (k : RunHalt). Err k) halt
