@@ -355,6 +355,7 @@ TEXTS = [
     ("a name is dropped", changed(rb", [a-z]+@0x[0-9a-f]+", b"")),
     ("two names are swapped", changed(rb" (\w+@\w+), (\w+@\w+)\n", rb" \2, \1\n")),
     ("`NoPlacement` in place of an address", changed(rb" at 0x\w+\n", b" refused: NoPlacement\n")),
+    ("`NoPlacement` in place of a vector", changed(rb" vector 0x\w+\n", b" refused: NoPlacement\n")),
     ("a vector in place of `NoPlacement`", changed(rb" refused: NoPlacement\n", b" vector 0x1\n")),
     ("reading in place of writing", changed(rb"for write", b"for read")),
     ("a bit of the tables is turned", changed(rb"\n([0-9a-f]{20})0([0-9a-f]*1)", rb"\n\g<1>1\2")),

@@ -9,7 +9,7 @@ import units
 IDS = ["g0", "g1", "g2", "g3", "g4", "g5"]
 MANY_IDS = [f"b{number}" for number in range(12)]
 TRIED = "tried"
-TRIES = 6
+TRIES = 4
 NO_NODE = "nowhere"
 
 
