@@ -4,7 +4,7 @@ ghost use Rattle.std.specs.Prelude.{◌≡◌, ◌≢◌, ◌↔◌, [], ◌∷�
 ghost use Rattle.dn_net.specs.Terms.{Member};
 ghost use Rattle.dn_base.specs.Terms.{IsCounted, is_device_fault};
 ghost use Rattle.dn_kind.specs.Terms.{IsKinded, kinds_of};
-ghost use Rattle.dn_tables.specs.Terms.{AreUnitsMade, FitsNet, IsOnDevice, fresh_set, tables_of_set, words_of};
+ghost use Rattle.dn_tables.specs.Terms.{AreUnitsMade, IsOnDevice, fresh_set, tables_of_set, words_of};
 ghost use Rattle.dn_book.specs.Terms.{AreAdded, IsCaught, IsChangedBook, IsFaithful, IsGrantFor, IsKept, MayChange, grant_events, has_id, is_full, is_revoke_fault, revoke_events, without_id};
 ghost use Rattle.dn_base.specs.declared.device.DeviceOrMemory.TheVariants.{Device as device_fault, OutOfMemory as no_memory};
 ghost use Rattle.dn_book.specs.declared.book.RevokeFault.TheVariants.{Device as revoke_fault, NoGrant as no_grant};

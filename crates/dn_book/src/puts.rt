@@ -45,10 +45,10 @@ pub(crate) fn write_grant<D: Tables>(
     ensures done { OnOk result (tables.new ≡ after_puts
         (kinds_of meaning on.entry.kinds.now) tables.old (filter (is_used_by 0 tables.old)
         (joined_slots (reverse (grant_slots on.entry.net.now grant.now))))) }
-    ensures written { AreWritten (fence_events is_due ++ put_log (kinds_of meaning on.entry.kinds.now)
-        tables.old (filter (is_used_by 0 tables.old) (joined_slots (reverse (grant_slots
-        on.entry.net.now grant.now))))) (is_err result) (D.log device.old) (D.log device.new)
-        (words_of tables.old) (words_of tables.new) }
+    ensures written { AreWritten (fence_events is_due ++ put_log
+        (kinds_of meaning on.entry.kinds.now) tables.old (filter (is_used_by 0 tables.old)
+        (joined_slots (reverse (grant_slots on.entry.net.now grant.now))))) (is_err result)
+        (D.log device.old) (D.log device.new) (words_of tables.old) (words_of tables.new) }
     ensures fits { KeepsFit tables.old tables.new }
     ensures on_device { IsOnDevice tables.new (D.units device.new) (D.words device.new) }
     ensures counted { IsCounted (D.faults device.old) (D.faults device.new) (is_err result) }

@@ -39,7 +39,8 @@ pub fn grant<D: Tables>(
     device: &mut D,
 ) -> Result<u64, GrantFault>
     requires system { IsSystem meaning system }
-    requires ready { MayChange meaning system.on book.old (D.units device.old) (D.words device.old) }
+    requires ready { MayChange meaning system.on book.old
+        (D.units device.old) (D.words device.old) }
     requires rights { IsTrue (are_rights request.now.rights) }
     ensures turn { IsGrantOutcome system.entry.on.net.now book.old.grants id request.now
         (grant_answer_view result) book.new.grants }

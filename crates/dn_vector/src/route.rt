@@ -39,7 +39,8 @@ pub fn route<D: Tables>(
     device: &mut D,
 ) -> Result<u64, RouteFault>
     requires system { IsSystem meaning system }
-    requires ready { MayChange meaning system.on book.old (D.units device.old) (D.words device.old) }
+    requires ready { MayChange meaning system.on book.old
+        (D.units device.old) (D.words device.old) }
     ensures turn { IsRouteOutcome system.entry.on.net.now book.old.grants id agent line node
         (route_answer_view result) book.new.grants }
     ensures unchanged { is_err result ≡ true → result ≢ Err RouteFault.Device →
