@@ -1,0 +1,12 @@
+pub mod Counts
+pub mod Faults
+pub mod Flown
+pub mod Found
+pub mod Going
+pub mod Kept
+pub mod Lives
+pub mod Schedules
+pub mod Settled
+pub mod Settling
+pub mod Sized
+pub mod Windows

@@ -1,0 +1,11 @@
+pub mod Counted
+pub mod Faults
+pub mod Fences
+pub mod Flight
+pub mod Flown
+pub mod Laws
+pub mod Lookups
+pub mod Schedules
+pub mod State
+pub mod Terms
+pub mod Words
