@@ -6,13 +6,27 @@
 //! what needs a source, a sink and a device that a test can direct: a read or a write that fails
 //! ends the run with its status, no call is made again or beside those that are needed, and words of
 //! no form read nothing (`faults`). Each call of the device fails in turn: where the units of a net
-//! are made (`devices`), in grants, routes and revokes (`stops`, and with rights of each access `rights`), and in a demonstration (`demos`).
-//! `failing` says which calls fail, `outcome` runs the words over a text, `rows` compares what comes of it, and `words` has the words
-//! of the faults of a text.
+//! are made (`devices`), in grants, routes and revokes (`stops`, and with rights of each access
+//! `rights`), and in a demonstration (`demos`). `failing` says which calls fail, `outcome` runs the
+//! words over a text, `rows` compares what comes of it, and `words` has the words of the faults of a
+//! text.
+//!
+//! Lookups in flight are tested over worked events (`flights`), for each answer of a world that
+//! refuses (`worlds`), and over the logs of runs, which are played event by event with lookups
+//! between (`played`). What needs the kinds of the program is called by one test, in `in_flight`.
 #![tactic(auto)]
 
 pub mod failing;
 #[cfg(test)]
+mod flights;
+#[cfg(test)]
+mod in_flight;
+#[cfg(test)]
 mod outcome;
 #[cfg(test)]
+mod played;
+pub mod sky;
+#[cfg(test)]
 mod tests;
+#[cfg(test)]
+mod worlds;
