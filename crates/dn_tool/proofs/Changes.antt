@@ -247,12 +247,6 @@ not_revoked_turn kinds net s next id log log' none same left = record {
   left = left;
 }
 
--- turns
-
--- a turn of one sort is one of another, by what both are made of
-pub changed_as : {A : Type 0} (P : A → Turn → Type 0) (a b : A) (r : Result (List ℕ) RunHalt) (next : State) (log log' : Option (List TableEvent)) → a ≡ b → CameThroughChange (P a) r next log log' → CameThroughChange (P b) r next log log'
-changed_as {A} P a b r next log log' e c = subst (λ (x : A). CameThroughChange (P x) r next log log') e c
-
 -- replies
 
 -- the reply was written, or a part of it

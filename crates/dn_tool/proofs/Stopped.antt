@@ -4,6 +4,7 @@ use Rattle.std.specs.Option.{IfSome}
 use Rattle.dn_base.specs.declared.device.TableEvent.{TableEvent}
 use Rattle.dn_base.specs.declared.device.UnitWords.{UnitWords}
 use Rattle.dn_base.specs.Device.{UnitSize}
+use Rattle.dn_base.specs.Outside.{Faults, IsCounted}
 use Rattle.dn_base.proofs.Told.{if_some_then}
 use Rattle.dn_net.specs.declared.node.NodeDecl.{NodeDecl}
 use Rattle.dn_net.specs.Chain.{Member}
@@ -20,10 +21,13 @@ use Rattle.dn_book.specs.Writes.{revoke_events}
 use Rattle.dn_grant.specs.Grant.{IsGrantLogged, grant_of_request}
 use Rattle.dn_vector.specs.Route.{IsRouteLogged, grant_of_route}
 use Rattle.dn_tool.specs.declared.halt.RunHalt.{RunHalt}
-use Rattle.dn_tool.specs.declared.halt.RunHalt.TheVariants.{DeviceFault}
+use Rattle.dn_tool.specs.declared.halt.RunHalt.TheVariants.{DeviceFault, NoMemory}
 use Rattle.dn_tool.specs.Changed.{granted_text, revoked_text, routed_text}
 use Rattle.dn_tool.specs.Halt.{is_device_halt}
 use Rattle.dn_tool.specs.Ids.{id_number, with_id}
+use Rattle.dn_tool.specs.declared.machine.Machine.{Machine}
+use Rattle.dn_tool.specs.declared.state.Session.{Session as Kept}
+use Rattle.dn_tool.specs.State.{CameThroughChange, IsChangeDone, state_view}
 use Rattle.dn_tool.specs.Stopped.{AreCaught, IsStopped}
 use Rattle.dn_tool.specs.Turn.{IsGrantTurn, IsRevokeTurn, IsRouteTurn, State, Turn, turn_with_grant}
 use Rattle.dn_tool.proofs.Changes.{lives}
@@ -70,8 +74,18 @@ module _ (kinds : List Meaning) (net : List NodeDecl) (s : State) (id : List ℕ
       }
 
 -- a turn of one sort is one of another, by what both are made of
-pub stopped_as : {A X : Type 0} (kinds : List Meaning) (net : List NodeDecl) (book : List GrantPart) (P : A → Turn → Type 0) (a b : A) (r : Result X RunHalt) (told : Option (List UnitWords)) → a ≡ b → (r ≡ Err DeviceFault → IsStopped kinds net book (P a) told) → r ≡ Err DeviceFault → IsStopped kinds net book (P b) told
-stopped_as {A} kinds net book P a b r told e stop f = subst (λ (x : A). IsStopped kinds net book (P x) told) e (stop f)
+pub done_as : {A K : Type 0} {V : K → Type 0} (means : (k : K) × V k → Meaning) (m : Machine K V) (P : A → Turn → Type 0) (a b : A) (r : Result (List ℕ) RunHalt) (k k' : Kept) (log log' : Option (List TableEvent)) (units : List UnitSize) (words : Option (List UnitWords)) (x y : Faults) → a ≡ b → IsChangeDone means m (P a) r k k' log log' units words x y → IsChangeDone means m (P b) r k k' log log' units words x y
+done_as {A} means m P a b r k k' log log' units words x y e = subst (λ (c : A). IsChangeDone means m (P c) r k k' log log' units words x y) e
+
+-- a change that was made, and for whose reply there was no memory
+pub done_unsaid : {K : Type 0} {V : K → Type 0} (means : (k : K) × V k → Meaning) (m : Machine K V) (P : Turn → Type 0) (r : Result (List ℕ) RunHalt) (k k' : Kept) (log log' : Option (List TableEvent)) (units : List UnitSize) (words : Option (List UnitWords)) (x y : Faults) → r ≡ Err NoMemory → CameThroughChange P r (state_view k') log log' → IsCounted x y false → IsChangeDone means m P r k k' log log' units words x y
+done_unsaid means m P r k k' log log' units words x y e changed counted =
+    subst (λ (q : Result (List ℕ) RunHalt). IsChangeDone means m P q k k' log log' units words x y) (sym e) (record {
+      changed = subst (λ (q : Result (List ℕ) RunHalt). CameThroughChange P q (state_view k') log log') e changed;
+      caught = λ f. cc;
+      ready = tt;
+      halted = record { no_write = refl; counted = counted };
+    })
 
 -- where no call of the device failed there is no such fault
 pub not_stopped : {X : Type 0} (r : Result X RunHalt) (Q : Type 0) → is_device_halt r ≡ false → r ≡ Err DeviceFault → Q

@@ -63,8 +63,8 @@ pub record CameTo (turns : List Turn) (status : ℕ) (before after : Option (Lis
   pub device : status ≡ 6 → events < length (turn_at turns whole).events
   pub between : 1 ≤ whole → status ≢ 6 → events ≡ length (turn_at turns whole).events
 
--- what a run added to the device's log after the makes: the events of the turns of its commands, where so
--- many turns were gone through whole, with that of the makes, and so many events of the next
+-- what a run added to the device's log after the makes, where so many turns were gone through whole, that
+-- of the makes among them, and of the next so many events were added
 abbrev pub added_events : List Turn → ℕ → ℕ → List TableEvent
 added_events turns zero events = []
 added_events turns (suc whole) events =
@@ -72,10 +72,11 @@ added_events turns (suc whole) events =
 
 -- A run with this status over a script: it made the units, and then answered the first commands, of
 -- which it may have stopped in the last. A status that is not free is 0. At status 0 it answered all,
--- and the words that the device tells are the tables of the last book. The book before the first command, and after each command
--- that was gone through whole, gives what it owes. At status 6, once the units were made, each name resolves by the words that
--- the device tells, for each access, as before the next command or as after it. And in each schedule of what was added to
--- the log after the makes each lookup that has ended is given what books owe.
+-- and the words that the device tells are the tables of the last book. The book before the first
+-- command, and after each command that was gone through whole, gives what it owes. At status 6, once the
+-- units were made, each name resolves by the words that the device tells, for each access, as before the
+-- command that was left or as after it. In each schedule of what was added to the log after the makes
+-- each lookup that has ended is given what books owe.
 pub record IsPlayed (kinds : List Meaning) (net : List NodeDecl) (commands : List Command)
     (status : ℕ) (before after : Option (List ℕ)) (log log' : Option (List TableEvent))
     (told' : Option (List UnitWords)) : Type 0 where

@@ -1,10 +1,10 @@
 -- What the code keeps of a script: the book with its tables, the ids, and what is made of them once.
-use Rattle.std.specs.Prelude.{◌≡◌, ◌<◌, ◌⊎◌, ℕ, true, List, length, Option, Result, Ok, Err}
+use Rattle.std.specs.Prelude.{◌≡◌, ◌<◌, ◌⊎◌, ℕ, true, List, length, Option, Result, Ok, Err, OnOk}
 use Rattle.std.specs.Option.{IfSome}
 use Rattle.dn_base.specs.declared.device.TableEvent.{TableEvent}
 use Rattle.dn_base.specs.declared.device.UnitWords.{UnitWords}
 use Rattle.dn_base.specs.Device.{Logged, UnitSize}
-use Rattle.dn_base.specs.Outside.{Added}
+use Rattle.dn_base.specs.Outside.{Added, Faults}
 use Rattle.dn_net.specs.declared.node.NodeDecl.{NodeDecl}
 use Rattle.dn_kind.specs.Kind.{Meaning}
 use Rattle.dn_kind.specs.Kinded.{kinds_of}
@@ -15,13 +15,14 @@ use Rattle.dn_image.specs.Image.{image}
 use Rattle.dn_book.specs.Book.{IsFaithful}
 use Rattle.dn_book.specs.Tables.{IsKept}
 use Rattle.dn_tool.specs.declared.halt.RunHalt.{RunHalt}
-use Rattle.dn_tool.specs.declared.halt.RunHalt.TheVariants.{NoMemory}
+use Rattle.dn_tool.specs.declared.halt.RunHalt.TheVariants.{DeviceFault, NoMemory}
 use Rattle.dn_tool.specs.declared.machine.Machine.{Machine}
 use Rattle.dn_tool.specs.declared.state.FirstView.{FirstView}
 use Rattle.dn_tool.specs.declared.state.Session.{Session as Kept}
-use Rattle.dn_tool.specs.Halt.{ending_status}
+use Rattle.dn_tool.specs.Halt.{HaltsByDevice, ending_status}
 use Rattle.dn_tool.specs.Machine.{IsMachine}
 use Rattle.dn_tool.specs.Played.{CameIn}
+use Rattle.dn_tool.specs.Stopped.{IsStopped}
 use Rattle.dn_tool.specs.Turn.{State, Turn}
 use Rattle.dn_tool.specs.Unmade.{AreUnmade}
 
@@ -117,3 +118,15 @@ abbrev pub CameThroughChange : (Turn → Type 0) → Result (List ℕ) RunHalt �
 CameThroughChange P (Ok reply) next log log' = IsChanged P next reply log log'
 CameThroughChange P (Err h) next log log' =
     (told : Option (List ℕ)) → IsHalted P h told told log log'
+
+-- What a change leaves whose turns are of this sort: how far it came; where it was made, what the next
+-- command meets, and where the device failed, what names resolve to; and the device counted its fault.
+pub record IsChangeDone {K : Type 0} {V : K → Type 0} (means : (k : K) × V k → Meaning)
+    (m : Machine K V) (P : Turn → Type 0) (result : Result (List ℕ) RunHalt) (k k' : Kept)
+    (log log' : Option (List TableEvent)) (units : List UnitSize) (words : Option (List UnitWords))
+    (faults faults' : Faults) : Type 0 where
+  pub changed : CameThroughChange P result (state_view k') log log'
+  pub caught : result ≡ Err DeviceFault →
+      IsStopped (kinds_of means m.on.kinds.now) m.on.net.now k.book.grants P words
+  pub ready : OnOk result (IsReadyOn means m k' units words)
+  pub halted : HaltsByDevice result faults faults'

@@ -1,10 +1,10 @@
 //! The commands that change the book: grants, routes and revokes.
 
-ghost use Rattle.std.specs.Prelude.{◌≡◌, true, Err, IfOk, IfSome, IsSome, IsTrue, OnOk};
+ghost use Rattle.std.specs.Prelude.{◌≡◌, true, IfOk, IfSome, IsSome, IsTrue};
 ghost use Rattle.dn_kind.specs.Terms.{are_rights, kinds_of};
 ghost use Rattle.dn_grant.specs.Terms.{grant_fault_view, not_accepted};
 ghost use Rattle.dn_vector.specs.Terms.{route_fault_view};
-ghost use Rattle.dn_tool.specs.Terms.{CameThroughChange, HaltsByDevice, IsGrantTurn, IsReadyOn, IsRevokeTurn, IsRouteTurn, IsStopped, IsTurn, grant_refused_text, granted_text, is_change, number_or_none, refused_text, request_of, revoked_text, rights_of, route_refused_text, routed_text, state_view};
+ghost use Rattle.dn_tool.specs.Terms.{IsChangeDone, IsGrantTurn, IsReadyOn, IsRevokeTurn, IsRouteTurn, IsTurn, grant_refused_text, granted_text, is_change, number_or_none, refused_text, request_of, revoked_text, rights_of, route_refused_text, routed_text, state_view};
 
 use crate::OutOfMemory;
 use crate::halt::RunHalt;
@@ -35,16 +35,11 @@ pub(crate) fn change<D: Tables>(
 ) -> Result<Items<u8>, RunHalt>
     requires ready { IsReadyOn meaning machine state.old (D.units device.old) (D.words device.old) }
     requires change { is_change command.now ≡ true }
-    ensures changed { CameThroughChange (IsTurn (kinds_of meaning machine.entry.on.kinds.now)
-        machine.entry.on.net.now (state_view state.old) command.now) result
-        (state_view state.new) (D.log device.old) (D.log device.new) }
-    ensures caught { result ≡ Err RunHalt.DeviceFault
-        → IsStopped (kinds_of meaning machine.entry.on.kinds.now) machine.entry.on.net.now
-        state.old.book.grants (IsTurn (kinds_of meaning machine.entry.on.kinds.now)
-        machine.entry.on.net.now (state_view state.old) command.now) (D.words device.new) }
-    ensures ready { OnOk result
-        (IsReadyOn meaning machine.entry state.new (D.units device.new) (D.words device.new)) }
-    ensures halted { HaltsByDevice result (D.faults device.old) (D.faults device.new) }
+    ensures { IsChangeDone meaning machine.entry (IsTurn
+        (kinds_of meaning machine.entry.on.kinds.now) machine.entry.on.net.now
+        (state_view state.old) command.now) result state.old state.new (D.log device.old)
+        (D.log device.new) (D.units device.new) (D.words device.new)
+        (D.faults device.old) (D.faults device.new) }
 {
     match command {
         Command::Grant {
@@ -119,16 +114,11 @@ fn grant_change<D: Tables>(
 ) -> Result<Items<u8>, RunHalt>
     requires ready { IsReadyOn meaning machine state.old (D.units device.old) (D.words device.old) }
     requires rights { IsTrue (are_rights request.now.rights) }
-    ensures changed { CameThroughChange (IsGrantTurn (kinds_of meaning machine.entry.on.kinds.now)
-        machine.entry.on.net.now (state_view state.old) id.now request.now) result
-        (state_view state.new) (D.log device.old) (D.log device.new) }
-    ensures caught { result ≡ Err RunHalt.DeviceFault
-        → IsStopped (kinds_of meaning machine.entry.on.kinds.now) machine.entry.on.net.now
-        state.old.book.grants (IsGrantTurn (kinds_of meaning machine.entry.on.kinds.now)
-        machine.entry.on.net.now (state_view state.old) id.now request.now) (D.words device.new) }
-    ensures ready { OnOk result
-        (IsReadyOn meaning machine.entry state.new (D.units device.new) (D.words device.new)) }
-    ensures halted { HaltsByDevice result (D.faults device.old) (D.faults device.new) }
+    ensures { IsChangeDone meaning machine.entry (IsGrantTurn
+        (kinds_of meaning machine.entry.on.kinds.now) machine.entry.on.net.now
+        (state_view state.old) id.now request.now) result state.old state.new (D.log device.old)
+        (D.log device.new) (D.units device.new) (D.words device.new)
+        (D.faults device.old) (D.faults device.new) }
 {
     let number = state.ids.number(alloc, id)?;
     keep_flats(alloc, machine, &mut state.flats)?;
@@ -160,16 +150,11 @@ fn route_change<D: Tables>(
     device: &mut D,
 ) -> Result<Items<u8>, RunHalt>
     requires ready { IsReadyOn meaning machine state.old (D.units device.old) (D.words device.old) }
-    ensures changed { CameThroughChange (IsRouteTurn (kinds_of meaning machine.entry.on.kinds.now)
-        machine.entry.on.net.now (state_view state.old) id.now agent line node) result
-        (state_view state.new) (D.log device.old) (D.log device.new) }
-    ensures caught { result ≡ Err RunHalt.DeviceFault
-        → IsStopped (kinds_of meaning machine.entry.on.kinds.now) machine.entry.on.net.now
-        state.old.book.grants (IsRouteTurn (kinds_of meaning machine.entry.on.kinds.now)
-        machine.entry.on.net.now (state_view state.old) id.now agent line node) (D.words device.new) }
-    ensures ready { OnOk result
-        (IsReadyOn meaning machine.entry state.new (D.units device.new) (D.words device.new)) }
-    ensures halted { HaltsByDevice result (D.faults device.old) (D.faults device.new) }
+    ensures { IsChangeDone meaning machine.entry (IsRouteTurn
+        (kinds_of meaning machine.entry.on.kinds.now) machine.entry.on.net.now
+        (state_view state.old) id.now agent line node) result state.old state.new (D.log device.old)
+        (D.log device.new) (D.units device.new) (D.words device.new)
+        (D.faults device.old) (D.faults device.new) }
 {
     let number = state.ids.number(alloc, id)?;
     keep_flats(alloc, machine, &mut state.flats)?;
@@ -207,16 +192,11 @@ fn revoke_change<D: Tables>(
     device: &mut D,
 ) -> Result<Items<u8>, RunHalt>
     requires ready { IsReadyOn meaning machine state.old (D.units device.old) (D.words device.old) }
-    ensures changed { CameThroughChange (IsRevokeTurn (kinds_of meaning machine.entry.on.kinds.now)
-        machine.entry.on.net.now (state_view state.old) id.now) result
-        (state_view state.new) (D.log device.old) (D.log device.new) }
-    ensures caught { result ≡ Err RunHalt.DeviceFault
-        → IsStopped (kinds_of meaning machine.entry.on.kinds.now) machine.entry.on.net.now
-        state.old.book.grants (IsRevokeTurn (kinds_of meaning machine.entry.on.kinds.now)
-        machine.entry.on.net.now (state_view state.old) id.now) (D.words device.new) }
-    ensures ready { OnOk result
-        (IsReadyOn meaning machine.entry state.new (D.units device.new) (D.words device.new)) }
-    ensures halted { HaltsByDevice result (D.faults device.old) (D.faults device.new) }
+    ensures { IsChangeDone meaning machine.entry (IsRevokeTurn
+        (kinds_of meaning machine.entry.on.kinds.now) machine.entry.on.net.now
+        (state_view state.old) id.now) result state.old state.new (D.log device.old)
+        (D.log device.new) (D.units device.new) (D.words device.new)
+        (D.faults device.old) (D.faults device.new) }
 {
     let number = state.ids.number(alloc, id)?;
     match state.book.revoke(machine.on, number, device) {

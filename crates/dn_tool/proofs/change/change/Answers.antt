@@ -4,56 +4,30 @@ use Rattle.dn_kind.specs.Kinded.{kinds_of}
 use Rattle.dn_placement.specs.declared.request.Request.{Request}
 use Rattle.dn_tool.specs.State.{state_view}
 use Rattle.dn_tool.specs.Turn.{IsGrantTurn, IsRevokeTurn, IsRouteTurn, IsTurn, State, number_or_none, request_of}
-use Rattle.dn_tool.proofs.Changes.{changed_as}
-use Rattle.dn_tool.proofs.Stopped.{stopped_as}
+use Rattle.dn_tool.proofs.Stopped.{done_as}
 use Rattle.dn_tool.proofs.change.change.Goals as goal
 
-pub returns-in-Grant-clause-changed : goal.returns-in-Grant-clause-changed
-returns-in-Grant-clause-changed g c =
+pub returns-in-Grant : goal.returns-in-Grant
+returns-in-Grant g c =
     let kinds : List Meaning = kinds_of (λ k. (goal.UnitKind-dyn g k).meaning k.1) c.args.machine.on.kinds.now in
     let net = c.args.machine.on.net.now in
     let s : State = state_view c.args.state.now in
     let asked : List ℕ × Request = (c.in-Grant.id, request_of c.in-Grant.from c.in-Grant.target c.in-Grant.base c.in-Grant.size c.in-Grant.mode) in
     let same : ◌≡◌ {A = List ℕ × Request} (c.as_str-id.result.now, c.request_of-request.result) asked = λ i. (c.as_str-id.ensures i, c.request_of-request.ensures.value i) in
-    changed_as (IsTurn kinds net s) _ _ _ _ _ _ (sym c.in-Grant.is) (changed_as (λ (a : List ℕ × Request). IsGrantTurn kinds net s a.0 a.1) _ asked _ _ _ _ same c.grant_change.ensures.changed)
+    done_as _ _ (IsTurn kinds net s) _ _ _ _ _ _ _ _ _ _ _ (sym c.in-Grant.is) (done_as _ _ (λ (a : List ℕ × Request). IsGrantTurn kinds net s a.0 a.1) _ asked _ _ _ _ _ _ _ _ _ same c.grant_change.ensures)
 
-pub returns-in-Route-clause-changed : goal.returns-in-Route-clause-changed
-returns-in-Route-clause-changed g c =
+pub returns-in-Route : goal.returns-in-Route
+returns-in-Route g c =
     let kinds : List Meaning = kinds_of (λ k. (goal.UnitKind-dyn g k).meaning k.1) c.args.machine.on.kinds.now in
     let net = c.args.machine.on.net.now in
     let s : State = state_view c.args.state.now in
     let asked : List ℕ × ℕ × ℕ = (c.in-Route.id, number_or_none c.in-Route.from.node, number_or_none c.in-Route.target.node) in
     let same : ◌≡◌ {A = List ℕ × ℕ × ℕ} (c.as_str-id-in-Route.result.now, c.number_or_none-agent.result, c.number_or_none-node.result) asked = λ i. (c.as_str-id-in-Route.ensures i, c.number_or_none-agent.ensures i, c.number_or_none-node.ensures i) in
-    changed_as (IsTurn kinds net s) _ _ _ _ _ _ (sym c.in-Route.is) (changed_as (λ (a : List ℕ × ℕ × ℕ). IsRouteTurn kinds net s a.0 a.1 c.in-Route.line a.2) _ asked _ _ _ _ same c.route_change.ensures.changed)
+    done_as _ _ (IsTurn kinds net s) _ _ _ _ _ _ _ _ _ _ _ (sym c.in-Route.is) (done_as _ _ (λ (a : List ℕ × ℕ × ℕ). IsRouteTurn kinds net s a.0 a.1 c.in-Route.line a.2) _ asked _ _ _ _ _ _ _ _ _ same c.route_change.ensures)
 
-pub returns-in-Revoke-clause-changed : goal.returns-in-Revoke-clause-changed
-returns-in-Revoke-clause-changed g c =
+pub returns-in-Revoke : goal.returns-in-Revoke
+returns-in-Revoke g c =
     let kinds : List Meaning = kinds_of (λ k. (goal.UnitKind-dyn g k).meaning k.1) c.args.machine.on.kinds.now in
     let net = c.args.machine.on.net.now in
     let s : State = state_view c.args.state.now in
-    changed_as (IsTurn kinds net s) _ _ _ _ _ _ (sym c.in-Revoke.is) (changed_as (IsRevokeTurn kinds net s) _ _ _ _ _ _ c.as_str.ensures c.revoke_change.ensures.changed)
-
-pub returns-in-Grant-clause-caught : goal.returns-in-Grant-clause-caught
-returns-in-Grant-clause-caught g c =
-    let kinds : List Meaning = kinds_of (λ k. (goal.UnitKind-dyn g k).meaning k.1) c.args.machine.on.kinds.now in
-    let net = c.args.machine.on.net.now in
-    let s : State = state_view c.args.state.now in
-    let asked : List ℕ × Request = (c.in-Grant.id, request_of c.in-Grant.from c.in-Grant.target c.in-Grant.base c.in-Grant.size c.in-Grant.mode) in
-    let same : ◌≡◌ {A = List ℕ × Request} (c.as_str-id.result.now, c.request_of-request.result) asked = λ i. (c.as_str-id.ensures i, c.request_of-request.ensures.value i) in
-    stopped_as kinds net s.book (IsTurn kinds net s) _ _ _ _ (sym c.in-Grant.is) (stopped_as kinds net s.book (λ (a : List ℕ × Request). IsGrantTurn kinds net s a.0 a.1) _ asked _ _ same c.grant_change.ensures.caught)
-
-pub returns-in-Route-clause-caught : goal.returns-in-Route-clause-caught
-returns-in-Route-clause-caught g c =
-    let kinds : List Meaning = kinds_of (λ k. (goal.UnitKind-dyn g k).meaning k.1) c.args.machine.on.kinds.now in
-    let net = c.args.machine.on.net.now in
-    let s : State = state_view c.args.state.now in
-    let asked : List ℕ × ℕ × ℕ = (c.in-Route.id, number_or_none c.in-Route.from.node, number_or_none c.in-Route.target.node) in
-    let same : ◌≡◌ {A = List ℕ × ℕ × ℕ} (c.as_str-id-in-Route.result.now, c.number_or_none-agent.result, c.number_or_none-node.result) asked = λ i. (c.as_str-id-in-Route.ensures i, c.number_or_none-agent.ensures i, c.number_or_none-node.ensures i) in
-    stopped_as kinds net s.book (IsTurn kinds net s) _ _ _ _ (sym c.in-Route.is) (stopped_as kinds net s.book (λ (a : List ℕ × ℕ × ℕ). IsRouteTurn kinds net s a.0 a.1 c.in-Route.line a.2) _ asked _ _ same c.route_change.ensures.caught)
-
-pub returns-in-Revoke-clause-caught : goal.returns-in-Revoke-clause-caught
-returns-in-Revoke-clause-caught g c =
-    let kinds : List Meaning = kinds_of (λ k. (goal.UnitKind-dyn g k).meaning k.1) c.args.machine.on.kinds.now in
-    let net = c.args.machine.on.net.now in
-    let s : State = state_view c.args.state.now in
-    stopped_as kinds net s.book (IsTurn kinds net s) _ _ _ _ (sym c.in-Revoke.is) (stopped_as kinds net s.book (IsRevokeTurn kinds net s) _ _ _ _ c.as_str.ensures c.revoke_change.ensures.caught)
+    done_as _ _ (IsTurn kinds net s) _ _ _ _ _ _ _ _ _ _ _ (sym c.in-Revoke.is) (done_as _ _ (IsRevokeTurn kinds net s) _ _ _ _ _ _ _ _ _ _ _ c.as_str.ensures c.revoke_change.ensures)

@@ -9,14 +9,14 @@ use Rattle.dn_grant.specs.declared.fault.GrantFault.{GrantFault}
 use Rattle.dn_grant.specs.declared.fault.GrantFault.TheVariants.{Device, OutOfMemory}
 use Rattle.dn_grant.specs.Grant.{IsGrantLogged, IsGrantRefused}
 use Rattle.dn_grant.specs.Refusal.{GrantRefusal}
-use Rattle.dn_tool.specs.declared.halt.RunHalt.TheVariants.{DeviceFault}
+use Rattle.dn_tool.specs.declared.halt.RunHalt.TheVariants.{DeviceFault, NoMemory}
 use Rattle.dn_tool.specs.Changed.{grant_refused_text, granted_text}
 use Rattle.dn_tool.specs.Ids.{id_number}
 use Rattle.dn_tool.specs.State.{IsChanged, state_view}
 use Rattle.dn_tool.specs.declared.state.Session.{Session as Kept}
 use Rattle.dn_tool.specs.Turn.{IsGrantTurn, State, state_with_id}
 use Rattle.dn_tool.proofs.Changes.{grant_refused_so, grant_said, grant_stopped, halted_after, not_granted_turn, state_granted, state_named, state_same}
-use Rattle.dn_tool.proofs.Stopped.{grant_caught}
+use Rattle.dn_tool.proofs.Stopped.{done_unsaid, grant_caught}
 use Rattle.dn_tool.proofs.change.grant_change.Given.{Over}
 use Rattle.dn_tool.proofs.change.grant_change.Goals.{After-renew, In-Err-Device}
 use Rattle.dn_tool.proofs.change.grant_change.Goals as goal
@@ -29,13 +29,19 @@ made : (g : Over) (c : After-renew g) → IsChanged (IsGrantTurn (kinds_of (λ k
 made g c =
     state_granted (kinds_of (λ k. (goal.UnitKind-dyn g k).meaning k.1) c.args.machine.on.kinds.now) c.args.machine.on.net.now c.args.state.now c.renew.new.state c.args.id.now c.args.request.now c.in_ok-number.number c.in-Ok.v c.grant.new.book _ _ _ c.in_ok-number.ensures.number c.in-Ok.ensures.turn c.in-Ok.ensures.granted c.renew.ensures.still.book (c.renew.ensures.still.ids ∙ c.in_ok-number.ensures.ids) c.in-Ok.ensures.changed.fenced
 
-pub returns-in_err-granted_reply-in-Ok-clause-changed : goal.returns-in_err-granted_reply-in-Ok-clause-changed
-returns-in_err-granted_reply-in-Ok-clause-changed g c =
-    halted_after _ c.from_residual-in_err-granted_reply-in-Ok.result (state_view c.renew.new.state) _ _ _ _ (search rules) (made g (goal.at.returns-in_err-granted_reply-in-Ok-clause-changed g c).After-renew)
+pub returns-in_err-granted_reply-in-Ok : goal.returns-in_err-granted_reply-in-Ok
+returns-in_err-granted_reply-in-Ok g c =
+    let none : c.from_residual-in_err-granted_reply-in-Ok.result ≡ Err NoMemory = search rules in
+    done_unsaid _ _ _ c.from_residual-in_err-granted_reply-in-Ok.result _ c.renew.new.state _ _ _ _ _ _ none
+    (halted_after _ c.from_residual-in_err-granted_reply-in-Ok.result (state_view c.renew.new.state) _ _ _ _ none (made g (goal.at.returns-in_err-granted_reply-in-Ok g c).After-renew)) c.in-Ok.ensures.changed.counted
 
-pub returns-in_ok-granted_reply-in-Ok-clause-changed : goal.returns-in_ok-granted_reply-in-Ok-clause-changed
-returns-in_ok-granted_reply-in-Ok-clause-changed g c =
-    subst (λ (t : List ℕ). IsChanged (IsGrantTurn (kinds_of (λ k. (goal.UnitKind-dyn g k).meaning k.1) c.args.machine.on.kinds.now) c.args.machine.on.net.now (state_view c.args.state.now) c.args.id.now c.args.request.now) (state_view c.renew.new.state) t (g.D.Tables.log c.args.device.now) (g.D.Tables.log c.grant.new.device)) (sym c.in_ok-granted_reply-in-Ok.ensures) (made g (goal.at.returns-in_ok-granted_reply-in-Ok-clause-changed g c).After-renew)
+pub returns-in_ok-granted_reply-in-Ok : goal.returns-in_ok-granted_reply-in-Ok
+returns-in_ok-granted_reply-in-Ok g c = record {
+  changed = subst (λ (t : List ℕ). IsChanged (IsGrantTurn (kinds_of (λ k. (goal.UnitKind-dyn g k).meaning k.1) c.args.machine.on.kinds.now) c.args.machine.on.net.now (state_view c.args.state.now) c.args.id.now c.args.request.now) (state_view c.renew.new.state) t (g.D.Tables.log c.args.device.now) (g.D.Tables.log c.grant.new.device)) (sym c.in_ok-granted_reply-in-Ok.ensures) (made g (goal.at.returns-in_ok-granted_reply-in-Ok g c).After-renew);
+  caught = λ e. cc;
+  ready = search rules;
+  halted = search rules;
+}
 
 -- the events of the grant at which the device failed
 logged : (g : Over) (c : In-Err-Device g) → IsGrantLogged c.args.machine.on.net.now (kinds_of (λ k. (goal.UnitKind-dyn g k).meaning k.1) c.args.machine.on.kinds.now) c.args.state.now.book.grants c.args.state.now.book.cleared (id_number c.args.state.now.ids c.args.id.now) c.args.request.now true (g.D.Tables.log c.args.device.now) (g.D.Tables.log c.grant.new.device) (words_of c.grant.new.book.set)
@@ -44,16 +50,16 @@ logged g c =
     let book = c.args.state.now.book in
     subst (λ n. IsGrantLogged c.args.machine.on.net.now kinds book.grants book.cleared n c.args.request.now true (g.D.Tables.log c.args.device.now) (g.D.Tables.log c.grant.new.device) (words_of c.grant.new.book.set)) c.in_ok-number.ensures.number (c.grant.ensures.stopped (c.in-Err-Device.is ∙ ap Err c.in-Err-Device.field-0-is))
 
-pub returns-in-Err-Device-clause-changed : goal.returns-in-Err-Device-clause-changed
-returns-in-Err-Device-clause-changed g c =
+pub returns-in-Err-Device : goal.returns-in-Err-Device
+returns-in-Err-Device g c =
     let kinds : List Meaning = kinds_of (λ k. (goal.UnitKind-dyn g k).meaning k.1) c.args.machine.on.kinds.now in
     let s : State = state_view c.args.state.now in
-    grant_stopped kinds c.args.machine.on.net.now s s c.args.id.now c.args.request.now (Err DeviceFault) _ _ _ refl (logged g (goal.at.returns-in-Err-Device-clause-changed g c).In-Err-Device)
-
-pub returns-in-Err-Device-clause-caught : goal.returns-in-Err-Device-clause-caught
-returns-in-Err-Device-clause-caught g c fault =
-    let kinds : List Meaning = kinds_of (λ k. (goal.UnitKind-dyn g k).meaning k.1) c.args.machine.on.kinds.now in
-    grant_caught kinds c.args.machine.on.net.now (state_view c.args.state.now) c.args.id.now c.grant.new.book.set _ _ c.grant.ensures.changed.fits c.grant.ensures.changed.on_device c.args.request.now _ _ (logged g (goal.at.returns-in-Err-Device-clause-caught g c).In-Err-Device)
+    record {
+      changed = grant_stopped kinds c.args.machine.on.net.now s s c.args.id.now c.args.request.now (Err DeviceFault) _ _ _ refl (logged g (goal.at.returns-in-Err-Device g c).In-Err-Device);
+      caught = λ _. grant_caught kinds c.args.machine.on.net.now s c.args.id.now c.grant.new.book.set _ _ c.grant.ensures.changed.fits c.grant.ensures.changed.on_device c.args.request.now _ _ (logged g (goal.at.returns-in-Err-Device g c).In-Err-Device);
+      ready = tt;
+      halted = search rules;
+    }
 
 pub grant_refused-requires : goal.grant_refused-requires
 grant_refused-requires g c =

@@ -9,14 +9,14 @@ use Rattle.dn_vector.specs.declared.fault.RouteFault.{RouteFault}
 use Rattle.dn_vector.specs.declared.fault.RouteFault.TheVariants.{Device, OutOfMemory}
 use Rattle.dn_vector.specs.Refusal.{RouteRefusal}
 use Rattle.dn_vector.specs.Route.{IsRouteLogged, IsRouteRefused}
-use Rattle.dn_tool.specs.declared.halt.RunHalt.TheVariants.{DeviceFault}
+use Rattle.dn_tool.specs.declared.halt.RunHalt.TheVariants.{DeviceFault, NoMemory}
 use Rattle.dn_tool.specs.Changed.{route_refused_text, routed_text}
 use Rattle.dn_tool.specs.Ids.{id_number}
 use Rattle.dn_tool.specs.State.{IsChanged, state_view}
 use Rattle.dn_tool.specs.declared.state.Session.{Session as Kept}
 use Rattle.dn_tool.specs.Turn.{IsRouteTurn, State, state_with_id}
 use Rattle.dn_tool.proofs.Changes.{halted_after, not_routed_turn, route_refused_so, route_said, route_stopped, state_named, state_routed, state_same}
-use Rattle.dn_tool.proofs.Stopped.{route_caught}
+use Rattle.dn_tool.proofs.Stopped.{done_unsaid, route_caught}
 use Rattle.dn_tool.proofs.change.route_change.Given.{Over}
 use Rattle.dn_tool.proofs.change.route_change.Goals.{After-renew, In-Err-Device}
 use Rattle.dn_tool.proofs.change.route_change.Goals as goal
@@ -29,13 +29,19 @@ made : (g : Over) (c : After-renew g) → IsChanged (IsRouteTurn (kinds_of (λ k
 made g c =
     state_routed (kinds_of (λ k. (goal.UnitKind-dyn g k).meaning k.1) c.args.machine.on.kinds.now) c.args.machine.on.net.now c.args.state.now c.renew.new.state c.args.id.now c.args.agent c.args.line c.args.node c.in_ok-number.number c.in-Ok.vector c.route.new.book _ _ _ c.in_ok-number.ensures.number c.in-Ok.ensures.turn c.in-Ok.ensures.routed c.renew.ensures.still.book (c.renew.ensures.still.ids ∙ c.in_ok-number.ensures.ids) c.in-Ok.ensures.changed.fenced
 
-pub returns-in_err-routed_reply-in-Ok-clause-changed : goal.returns-in_err-routed_reply-in-Ok-clause-changed
-returns-in_err-routed_reply-in-Ok-clause-changed g c =
-    halted_after _ c.from_residual-in_err-routed_reply-in-Ok.result (state_view c.renew.new.state) _ _ _ _ (search rules) (made g (goal.at.returns-in_err-routed_reply-in-Ok-clause-changed g c).After-renew)
+pub returns-in_err-routed_reply-in-Ok : goal.returns-in_err-routed_reply-in-Ok
+returns-in_err-routed_reply-in-Ok g c =
+    let none : c.from_residual-in_err-routed_reply-in-Ok.result ≡ Err NoMemory = search rules in
+    done_unsaid _ _ _ c.from_residual-in_err-routed_reply-in-Ok.result _ c.renew.new.state _ _ _ _ _ _ none
+    (halted_after _ c.from_residual-in_err-routed_reply-in-Ok.result (state_view c.renew.new.state) _ _ _ _ none (made g (goal.at.returns-in_err-routed_reply-in-Ok g c).After-renew)) c.in-Ok.ensures.changed.counted
 
-pub returns-in_ok-routed_reply-in-Ok-clause-changed : goal.returns-in_ok-routed_reply-in-Ok-clause-changed
-returns-in_ok-routed_reply-in-Ok-clause-changed g c =
-    subst (λ (t : List ℕ). IsChanged (IsRouteTurn (kinds_of (λ k. (goal.UnitKind-dyn g k).meaning k.1) c.args.machine.on.kinds.now) c.args.machine.on.net.now (state_view c.args.state.now) c.args.id.now c.args.agent c.args.line c.args.node) (state_view c.renew.new.state) t (g.D.Tables.log c.args.device.now) (g.D.Tables.log c.route.new.device)) (sym c.in_ok-routed_reply-in-Ok.ensures) (made g (goal.at.returns-in_ok-routed_reply-in-Ok-clause-changed g c).After-renew)
+pub returns-in_ok-routed_reply-in-Ok : goal.returns-in_ok-routed_reply-in-Ok
+returns-in_ok-routed_reply-in-Ok g c = record {
+  changed = subst (λ (t : List ℕ). IsChanged (IsRouteTurn (kinds_of (λ k. (goal.UnitKind-dyn g k).meaning k.1) c.args.machine.on.kinds.now) c.args.machine.on.net.now (state_view c.args.state.now) c.args.id.now c.args.agent c.args.line c.args.node) (state_view c.renew.new.state) t (g.D.Tables.log c.args.device.now) (g.D.Tables.log c.route.new.device)) (sym c.in_ok-routed_reply-in-Ok.ensures) (made g (goal.at.returns-in_ok-routed_reply-in-Ok g c).After-renew);
+  caught = λ e. cc;
+  ready = search rules;
+  halted = search rules;
+}
 
 -- the events of the route at which the device failed
 logged : (g : Over) (c : In-Err-Device g) → IsRouteLogged c.args.machine.on.net.now (kinds_of (λ k. (goal.UnitKind-dyn g k).meaning k.1) c.args.machine.on.kinds.now) c.args.state.now.book.grants c.args.state.now.book.cleared (id_number c.args.state.now.ids c.args.id.now) c.args.agent c.args.line c.args.node true (g.D.Tables.log c.args.device.now) (g.D.Tables.log c.route.new.device) (words_of c.route.new.book.set)
@@ -44,16 +50,16 @@ logged g c =
     let book = c.args.state.now.book in
     subst (λ n. IsRouteLogged c.args.machine.on.net.now kinds book.grants book.cleared n c.args.agent c.args.line c.args.node true (g.D.Tables.log c.args.device.now) (g.D.Tables.log c.route.new.device) (words_of c.route.new.book.set)) c.in_ok-number.ensures.number (c.route.ensures.stopped (c.in-Err-Device.is ∙ ap Err c.in-Err-Device.field-0-is))
 
-pub returns-in-Err-Device-clause-changed : goal.returns-in-Err-Device-clause-changed
-returns-in-Err-Device-clause-changed g c =
+pub returns-in-Err-Device : goal.returns-in-Err-Device
+returns-in-Err-Device g c =
     let kinds : List Meaning = kinds_of (λ k. (goal.UnitKind-dyn g k).meaning k.1) c.args.machine.on.kinds.now in
     let s : State = state_view c.args.state.now in
-    route_stopped kinds c.args.machine.on.net.now s s c.args.id.now c.args.agent c.args.line c.args.node (Err DeviceFault) _ _ _ refl (logged g (goal.at.returns-in-Err-Device-clause-changed g c).In-Err-Device)
-
-pub returns-in-Err-Device-clause-caught : goal.returns-in-Err-Device-clause-caught
-returns-in-Err-Device-clause-caught g c fault =
-    let kinds : List Meaning = kinds_of (λ k. (goal.UnitKind-dyn g k).meaning k.1) c.args.machine.on.kinds.now in
-    route_caught kinds c.args.machine.on.net.now (state_view c.args.state.now) c.args.id.now c.route.new.book.set _ _ c.route.ensures.changed.fits c.route.ensures.changed.on_device c.args.agent c.args.line c.args.node _ _ (logged g (goal.at.returns-in-Err-Device-clause-caught g c).In-Err-Device)
+    record {
+      changed = route_stopped kinds c.args.machine.on.net.now s s c.args.id.now c.args.agent c.args.line c.args.node (Err DeviceFault) _ _ _ refl (logged g (goal.at.returns-in-Err-Device g c).In-Err-Device);
+      caught = λ _. route_caught kinds c.args.machine.on.net.now s c.args.id.now c.route.new.book.set _ _ c.route.ensures.changed.fits c.route.ensures.changed.on_device c.args.agent c.args.line c.args.node _ _ (logged g (goal.at.returns-in-Err-Device g c).In-Err-Device);
+      ready = tt;
+      halted = search rules;
+    }
 
 pub route_refused-requires : goal.route_refused-requires
 route_refused-requires g c =
