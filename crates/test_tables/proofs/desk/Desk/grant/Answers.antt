@@ -4,5 +4,5 @@ use Rattle.test_tables.proofs.desk.Desk.grant.Goals as goal
 pub returns : goal.returns
 returns g c =
     desk_after c.requires.system
-    (granted_keeps _ _ _ _ _ c.grant.result c.requires.kept c.grant.ensures.committed.kept c.grant.ensures.unchanged c.grant.ensures.committed.unfailed)
-    c.grant.ensures.committed.fits c.grant.ensures.committed.on_device
+    (granted_keeps _ _ _ _ _ c.grant.result c.requires.kept c.grant.ensures.changed.kept c.grant.ensures.unchanged c.grant.ensures.changed.unfailed)
+    c.grant.ensures.changed.fits c.grant.ensures.changed.on_device

@@ -4,5 +4,5 @@ use Rattle.test_tables.proofs.desk.Desk.route.Goals as goal
 pub returns : goal.returns
 returns g c =
     desk_after c.requires.system
-    (routed_keeps _ _ _ _ _ c.route.result c.requires.kept c.route.ensures.committed.kept c.route.ensures.unchanged c.route.ensures.committed.unfailed)
-    c.route.ensures.committed.fits c.route.ensures.committed.on_device
+    (routed_keeps _ _ _ _ _ c.route.result c.requires.kept c.route.ensures.changed.kept c.route.ensures.unchanged c.route.ensures.changed.unfailed)
+    c.route.ensures.changed.fits c.route.ensures.changed.on_device
