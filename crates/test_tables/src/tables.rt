@@ -15,7 +15,7 @@ use dn_kind::kinded::KindedNet;
 use dn_kind::kinds::Kinds;
 use std::alloc::Global;
 use std::process::Abort;
-use test_plans::run_with_kinds;
+use test_plans::{Plan, run_with_kinds};
 
 pub mod boards;
 mod devices;
@@ -33,17 +33,52 @@ fn makes_puts_clears_reads_and_looks_up(rt: HostRuntime) {
     )
 }
 
-/// Reads images of three nets, and looks up in them. Exactly the images of a net are taken.
+/// A net whose images are read.
+#[derive(Clone, Copy)]
+enum Imaged {
+    /// The board with pages.
+    Pages,
+    /// The board with two ports.
+    Ports,
+    /// The two units, of which exactly the images are taken.
+    Units,
+}
+
+/// Its plan.
+fn plan_of(rt: &impl Abort, alloc: Global, imaged: Imaged) -> Plan {
+    match imaged {
+        Imaged::Pages => page_plan(rt, alloc),
+        Imaged::Ports => port_plan(rt, alloc),
+        Imaged::Units => two_units(rt, alloc),
+    }
+}
+
+/// Reads images of each net, and looks up in them.
 fn read_images(rt: &impl Abort, alloc: Global, kinds: &Kinds)
     requires { AreKinds meaning kinds.now }
 {
-    let net = page_plan(rt, alloc).net(alloc, kinds).expect(rt, "a net");
-    read_pages(rt, alloc, KindedNet { net: &net, kinds });
-    look_up_pages(rt, alloc, KindedNet { net: &net, kinds });
-    let net = port_plan(rt, alloc).net(alloc, kinds).expect(rt, "a net");
-    ask_ports(rt, alloc, KindedNet { net: &net, kinds });
-    let net = two_units(rt, alloc).net(alloc, kinds).expect(rt, "a net");
-    take_versions(rt, alloc, KindedNet { net: &net, kinds });
-    refuse_lengths(rt, alloc, KindedNet { net: &net, kinds });
-    name_fields(rt, alloc, KindedNet { net: &net, kinds });
+    for imaged in [Imaged::Pages, Imaged::Ports, Imaged::Units] {
+        read_images_of(rt, alloc, kinds, imaged);
+    }
+}
+
+/// Reads images of a net, and looks up in them.
+fn read_images_of(rt: &impl Abort, alloc: Global, kinds: &Kinds, imaged: Imaged)
+    requires { AreKinds meaning kinds.now }
+{
+    let net = plan_of(rt, alloc, imaged).net(alloc, kinds);
+    let net = net.expect(rt, "a net");
+    let on = KindedNet { net: &net, kinds };
+    match imaged {
+        Imaged::Pages => {
+            read_pages(rt, alloc, on);
+            look_up_pages(rt, alloc, on);
+        }
+        Imaged::Ports => ask_ports(rt, alloc, on),
+        Imaged::Units => {
+            take_versions(rt, alloc, on);
+            refuse_lengths(rt, alloc, on);
+            name_fields(rt, alloc, on);
+        }
+    }
 }
