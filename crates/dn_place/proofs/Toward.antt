@@ -1,15 +1,13 @@
 -- The rows of a node that give what hops want: those made for a buffer, those of the levels of its stops, and those of a lone level.
-use Rattle.std.proofs.Common.{◌≡◌, ℕ, zero, suc, ◌+◌, ◌-◌, ◌<◌, ◌≤◌, ◌⊎◌, inl, inr, Bool, true, false, ◌&&◌, ◌||◌, nat_eq, nat_lt, nat_le, if◌then◌else◌, List, [], ◌∷◌, length, map, get_or, slice_get, Option, Some, None, refl, sym, ap, ◌∙◌, subst, arith, IsTrue, eqb-true, eq-eqb, lt-ltb, ltb-true, leb-true}
-use Rattle.std.specs.List.{AllWithin, list_all, list_any}
-use Rattle.std.proofs.lemmas.Bool.{false≢true, cases_lt, and_parts, and_from, or_cases, or_left, or_right, le-leb, le-ltb}
+use Rattle.std.proofs.Common.{◌≡◌, ℕ, zero, suc, ◌+◌, ◌-◌, ◌<◌, ◌≤◌, ◌⊎◌, inl, inr, Bool, true, false, ◌&&◌, ◌||◌, nat_lt, nat_le, List, [], ◌∷◌, length, map, get_or, slice_get, Option, Some, None, refl, sym, ap, ◌∙◌, subst, arith, IsTrue, lt-ltb, ltb-true, leb-true}
+use Rattle.std.specs.List.{AllWithin, list_all}
+use Rattle.std.proofs.lemmas.Bool.{false≢true, cases_lt, and_parts, and_from, or_cases, or_left, or_right, le-leb}
 use Rattle.dn_interval.specs.declared.row.End.{End}
 use Rattle.dn_interval.specs.declared.row.Row.{Row}
 use Rattle.dn_interval.specs.declared.row.Seg.{Seg}
-use Rattle.dn_interval.specs.declared.span.Span.{Span}
 use Rattle.dn_interval.specs.declared.span.TheConstants.{TOP}
 use Rattle.dn_interval.specs.Rows.{Member, further_end, Apart, AreNormal, GivenBy, HasEnds, SegmentsGive}
-use Rattle.dn_interval.specs.Spans.{in_span}
-use Rattle.dn_interval.specs.Strands.{ends_give, row_gives, rows_give, segs_give}
+use Rattle.dn_interval.specs.Strands.{rows_give, segs_give}
 use Rattle.dn_interval.proofs.Membership.{in_from, lo_of, hi_of}
 use Rattle.dn_interval.proofs.Names.{rows_from, rows_to, segs_from, segs_to}
 use Rattle.dn_interval.proofs.Normal.{normal_like}
@@ -20,7 +18,9 @@ use Rattle.dn_flat.specs.Views.{ResolvesFrom, StopsFrom}
 use Rattle.dn_tables.specs.declared.placement.Hop.{Hop}
 use Rattle.dn_placement.specs.declared.request.Request.{Request}
 use Rattle.dn_walk.specs.Ends.{end_of, name_of_end}
-use Rattle.dn_place.specs.Rows.{AreToward, GivesNone, IsClear, end_near, is_near, is_past, levels_near, row_near, rows_near, wanted_name}
+use Rattle.dn_view.specs.Near.{levels_near}
+use Rattle.dn_view.proofs.Nearby.{levels_from, levels_to}
+use Rattle.dn_place.specs.Rows.{AreToward, GivesNone, IsClear, is_past, wanted_name}
 use Rattle.dn_place.specs.Sought.{ReachOneStop}
 
 -- where no hop follows
@@ -75,78 +75,6 @@ lone_toward net rq (hop ∷ hops) node levels rows some is lone apart = record {
 
 -- the near rows of the levels give stops, and each that is wanted
 
-near_end : (t : End) (size : ℕ) (span : Span) (a i : ℕ) (e : End) → in_span span a ≡ true → i < size → e.node ≡ t.node → e.base + (a - span.lo) ≡ t.base + i → is_near t size span e ≡ true
-near_end t size span a i e inside few node base = and_from (nat_eq e.node t.node) (if nat_lt t.base e.base then nat_lt (e.base - t.base) size else nat_le (t.base - e.base) (span.hi - span.lo)) (eq-eqb e.node t.node node) (go (cases_lt t.base e.base))
-  where
-    lo : span.lo ≤ a
-    lo = lo_of span a inside
-
-    hi : a ≤ span.hi
-    hi = hi_of span a inside
-
-    go : (t.base < e.base) ⊎ (e.base ≤ t.base) → (if nat_lt t.base e.base then nat_lt (e.base - t.base) size else nat_le (t.base - e.base) (span.hi - span.lo)) ≡ true
-    go (inl m) = ap (λ (b : Bool). if b then nat_lt (e.base - t.base) size else nat_le (t.base - e.base) (span.hi - span.lo)) (lt-ltb t.base e.base m) ∙ lt-ltb (e.base - t.base) size (omega arith)
-    go (inr m) =
-        let l : span.lo ≤ a = lo in
-        let h : a ≤ span.hi = hi in
-        ap (λ (b : Bool). if b then nat_lt (e.base - t.base) size else nat_le (t.base - e.base) (span.hi - span.lo)) (le-ltb t.base e.base m) ∙ le-leb (t.base - e.base) (span.hi - span.lo) (omega arith)
-
-abbrev is_end : Span → ℕ → End → End → Bool
-is_end span a z e = nat_eq e.node z.node && nat_eq (e.base + (a - span.lo)) z.base
-
-ends_to : (t : End) (size : ℕ) (span : Span) (es : List End) (a : ℕ) (z : End) → list_any (λ e. end_near t size span a z e) es ≡ true → ends_give es span.lo a z ≡ true
-ends_to t size span [] a z p = p
-ends_to t size span (e ∷ es) a z p = elim (or_cases (end_near t size span a z e) (list_any (λ e. end_near t size span a z e) es) p) [
-  | inl g ↦ or_left (is_end span a z e) (ends_give es span.lo a z) (and_parts (is_near t size span e) (is_end span a z e) g).1
-  | inr g ↦ or_right (is_end span a z e) (ends_give es span.lo a z) (ends_to t size span es a z g)
-]
-
-ends_from : (t : End) (size : ℕ) (span : Span) (es : List End) (a i : ℕ) → in_span span a ≡ true → i < size → ends_give es span.lo a (further_end i t) ≡ true → list_any (λ e. end_near t size span a (further_end i t) e) es ≡ true
-ends_from t size span [] a i inside few p = p
-ends_from t size span (e ∷ es) a i inside few p = elim (or_cases (is_end span a (further_end i t) e) (ends_give es span.lo a (further_end i t)) p) [
-  | inl g ↦ (
-      let q = and_parts (nat_eq e.node t.node) (nat_eq (e.base + (a - span.lo)) (t.base + i)) g in
-      or_left (end_near t size span a (further_end i t) e) (list_any (λ e. end_near t size span a (further_end i t) e) es)
-      (and_from (is_near t size span e) (is_end span a (further_end i t) e) (near_end t size span a i e inside few (eqb-true e.node t.node q.0) (eqb-true (e.base + (a - span.lo)) (t.base + i) q.1)) g)
-      )
-  | inr g ↦ or_right (end_near t size span a (further_end i t) e) (list_any (λ e. end_near t size span a (further_end i t) e) es) (ends_from t size span es a i inside few g)
-]
-
-near_to : (t : End) (size : ℕ) (rows : List Row) (a : ℕ) (z : End) → rows_near t size rows a z ≡ true → rows_give rows a z ≡ true
-near_to t size [] a z p = p
-near_to t size (r ∷ rows) a z p = elim (or_cases (row_near t size r a z) (rows_near t size rows a z) p) [
-  | inl g ↦ (
-      let q = and_parts (in_span r.span a) (list_any (λ e. end_near t size r.span a z e) r.ends) g in
-      or_left (row_gives r a z) (rows_give rows a z) (and_from (in_span r.span a) (ends_give r.ends r.span.lo a z) q.0 (ends_to t size r.span r.ends a z q.1))
-      )
-  | inr g ↦ or_right (row_gives r a z) (rows_give rows a z) (near_to t size rows a z g)
-]
-
-near_from : (t : End) (size : ℕ) (rows : List Row) (a i : ℕ) → i < size → rows_give rows a (further_end i t) ≡ true → rows_near t size rows a (further_end i t) ≡ true
-near_from t size [] a i few p = p
-near_from t size (r ∷ rows) a i few p = elim (or_cases (row_gives r a (further_end i t)) (rows_give rows a (further_end i t)) p) [
-  | inl g ↦ (
-      let q = and_parts (in_span r.span a) (ends_give r.ends r.span.lo a (further_end i t)) g in
-      or_left (row_near t size r a (further_end i t)) (rows_near t size rows a (further_end i t))
-      (and_from (in_span r.span a) (list_any (λ e. end_near t size r.span a (further_end i t) e) r.ends) q.0 (ends_from t size r.span r.ends a i q.0 few q.1))
-      )
-  | inr g ↦ or_right (row_near t size r a (further_end i t)) (rows_near t size rows a (further_end i t)) (near_from t size rows a i few g)
-]
-
-levels_to : (t : End) (size : ℕ) (levels : List (List Row)) (a : ℕ) (z : End) → levels_near t size levels a z ≡ true → levels_give levels a z ≡ true
-levels_to t size [] a z p = p
-levels_to t size (rows ∷ levels) a z p = elim (or_cases (rows_near t size rows a z) (levels_near t size levels a z) p) [
-  | inl g ↦ or_left (rows_give rows a z) (levels_give levels a z) (near_to t size rows a z g)
-  | inr g ↦ or_right (rows_give rows a z) (levels_give levels a z) (levels_to t size levels a z g)
-]
-
-levels_from : (t : End) (size : ℕ) (levels : List (List Row)) (a i : ℕ) → i < size → levels_give levels a (further_end i t) ≡ true → levels_near t size levels a (further_end i t) ≡ true
-levels_from t size [] a i few p = p
-levels_from t size (rows ∷ levels) a i few p = elim (or_cases (rows_give rows a (further_end i t)) (levels_give levels a (further_end i t)) p) [
-  | inl g ↦ or_left (rows_near t size rows a (further_end i t)) (levels_near t size levels a (further_end i t)) (near_from t size rows a i few g)
-  | inr g ↦ or_right (rows_near t size rows a (further_end i t)) (levels_near t size levels a (further_end i t)) (levels_from t size levels a i few g)
-]
-
 near_is : (net : List NodeDecl) (rq : Request) (hops : List Hop) (node : ℕ) (levels : Levels) (rows : List Row) → 1 ≤ length hops → ReachOneStop net → IsLevels net node levels → AreNormal (λ a z. IsTrue (levels_near (wanted_name rq hops) rq.size levels.stops a z)) rows → AreToward net rq hops node rows
 near_is net rq [] node levels rows some one is n = absurd (omega arith)
 near_is net rq (hop ∷ hops) node levels rows some one is n = record {
@@ -169,17 +97,10 @@ near_toward net rq hops node levels rows t size layers some one is e f g n =
     (subst (λ m. AreNormal (λ a z. IsTrue (levels_near (wanted_name rq hops) m layers a z)) rows) f
     (subst (λ (w : End). AreNormal (λ a z. IsTrue (levels_near w size layers a z)) rows) e n)))
 
--- the segments that were found are the near rows, where no level is left
-pub near_found : (t : End) (size : ℕ) (levels rest : List (List Row)) (segs : List Seg) (rows : List Row) → rest ≡ [] → ((a : ℕ) (z : End) → (segs_give segs a z || levels_near t size rest a z) ≡ levels_near t size levels a z) → AreNormal (SegmentsGive segs) rows → AreNormal (λ a z. IsTrue (levels_near t size levels a z)) rows
-near_found t size levels rest segs rows none found n =
+-- the segments that were found are the near rows
+pub near_found : (t : End) (size : ℕ) (levels : List (List Row)) (segs : List Seg) (rows : List Row) → ((a : ℕ) (z : End) → segs_give segs a z ≡ levels_near t size levels a z) → AreNormal (SegmentsGive segs) rows → AreNormal (λ a z. IsTrue (levels_near t size levels a z)) rows
+near_found t size levels segs rows same n =
     normal_like (SegmentsGive segs) (λ a z. IsTrue (levels_near t size levels a z)) rows (λ a z l. ((λ m. sym (same a z) ∙ segs_from segs a z m), (λ e. segs_to segs a z (same a z ∙ e)))) n
-  where
-    or_none : (b : Bool) → (b || false) ≡ b
-    or_none true = refl
-    or_none false = refl
-
-    same : (a : ℕ) (z : End) → segs_give segs a z ≡ levels_near t size levels a z
-    same a z = sym (or_none (segs_give segs a z)) ∙ (ap (λ (ls : List (List Row)). segs_give segs a z || levels_near t size ls a z) (sym none) ∙ found a z)
 
 -- rows that have no address of a stretch give it nothing
 

@@ -1,12 +1,9 @@
 -- Rows that give one name to each address of a stretch, and rows of a node that give what hops want.
-use Rattle.std.specs.Prelude.{◌≡◌, ℕ, suc, ◌+◌, ◌-◌, ◌<◌, ◌≤◌, ◌↔◌, Bool, true, ◌&&◌, ◌||◌, if◌then◌else◌, nat_eq, nat_lt, nat_le, List, [], ◌∷◌}
-use Rattle.std.specs.List.{list_any}
+use Rattle.std.specs.Prelude.{◌≡◌, ℕ, suc, ◌+◌, ◌-◌, ◌<◌, ◌≤◌, ◌↔◌, Bool, true, ◌||◌, nat_lt, nat_le, List, [], ◌∷◌}
 use Rattle.dn_interval.specs.declared.row.End.{End}
 use Rattle.dn_interval.specs.declared.row.Row.{Row}
-use Rattle.dn_interval.specs.declared.span.Span.{Span}
 use Rattle.dn_interval.specs.declared.span.TheConstants.{TOP}
 use Rattle.dn_interval.specs.Rows.{further_end, Apart, GivenBy}
-use Rattle.dn_interval.specs.Spans.{in_span}
 use Rattle.dn_net.specs.declared.node.NodeDecl.{NodeDecl}
 use Rattle.dn_flat.specs.Views.{ResolvesFrom, StopsFrom}
 use Rattle.dn_tables.specs.declared.placement.Hop.{Hop}
@@ -45,29 +42,6 @@ pub record AreToward (net : List NodeDecl) (rq : Request) (hops : List Hop) (nod
       MeetsWanted net hops node a z → GivenBy rows a z
   pub whole : (a : ℕ) → a + rq.size ≤ TOP + 1 → ComesOnly net rq hops node a → (i : ℕ) → i < rq.size →
       GivenBy rows (a + i) (further_end i (wanted_name rq hops))
-
--- a span whose first address has this name gives one of so many names from one on
-abbrev pub is_near : End → ℕ → Span → End → Bool
-is_near t size span e = nat_eq e.node t.node
-    && (if nat_lt t.base e.base then nat_lt (e.base - t.base) size
-    else nat_le (t.base - e.base) (span.hi - span.lo))
-
--- it does, and gives the name to the address
-abbrev pub end_near : End → ℕ → Span → ℕ → End → End → Bool
-end_near t size span a z e = is_near t size span e
-    && (nat_eq e.node z.node && nat_eq (e.base + (a - span.lo)) z.base)
-
--- so does one of the names of the row
-abbrev pub row_near : End → ℕ → Row → ℕ → End → Bool
-row_near t size r a z = in_span r.span a && list_any (λ e. end_near t size r.span a z e) r.ends
-
--- so does one of the rows
-abbrev pub rows_near : End → ℕ → List Row → ℕ → End → Bool
-rows_near t size rows a z = list_any (λ r. row_near t size r a z) rows
-
--- so does one of the levels
-abbrev pub levels_near : End → ℕ → List (List Row) → ℕ → End → Bool
-levels_near t size levels a z = list_any (λ rows. rows_near t size rows a z) levels
 
 -- the row has no address of the stretch
 abbrev pub is_past : ℕ → ℕ → Row → Bool

@@ -4,7 +4,7 @@ pub use Rattle.dn_place.specs.Hops.{hops_view}
 pub use Rattle.dn_place.specs.Marks.{AreMarked, AreUnitsFrom, IsEntry, Keeps, MarkedBelow, Marks, MarksAfter, MarksAll, MarksEnds, MarksGiven, MarksRows, is_marked, mark_at}
 pub use Rattle.dn_place.specs.Reaches.{IsHopReach}
 pub use Rattle.dn_place.specs.Requests.{IsRequest}
-pub use Rattle.dn_place.specs.Rows.{AreToward, GivesNone, InRow, IsClear, end_near, is_near, is_past, levels_near, row_near, rows_near, wanted_name}
+pub use Rattle.dn_place.specs.Rows.{AreToward, GivesNone, InRow, IsClear, is_past, wanted_name}
 pub use Rattle.dn_place.specs.Slots.{AreBarred, AreFree, AreFreeTo, AreShut, AreUsable, AreUseless, HasCrowd, IsBarred, IsWithin, is_free_slot, is_usable_slot, shared_by, slot_of}
 pub use Rattle.dn_place.specs.Sought.{HaveUnitBounds, HasUnitBounds, IsSearchReady, ReachOneStop, slot_count}
 pub use Rattle.dn_place.specs.Stages.{IsDoor, IsOutput, IsSearchStage}

@@ -1,21 +1,23 @@
 //! What rows give to a stretch of addresses, and which rows of a node give what is wanted.
 
-ghost use Rattle.std.specs.Prelude.{◌≡◌, ◌<◌, ◌≤◌, ◌+◌, ◌-◌, ◌||◌, ◌&&◌, ℕ, false, length, IfOk, IfSome, IfNone, IsTrue, OnOk, List};
+ghost use Rattle.std.specs.Prelude.{◌≡◌, ◌<◌, ◌≤◌, ◌+◌, ◌-◌, ◌||◌, ℕ, false, length, IfOk, IfSome, IfNone, IsTrue, List};
 ghost use Rattle.std.specs.List.{list_all};
 ghost use Rattle.dn_interval.specs.declared.row.End.{End};
 ghost use Rattle.dn_interval.specs.declared.span.TheConstants.{TOP};
-ghost use Rattle.dn_interval.specs.Terms.{Apart, AreNormal, EndsFit, in_span, rows_give, segs_give};
+ghost use Rattle.dn_interval.specs.Terms.{Apart, AreNormal, rows_give};
 ghost use Rattle.dn_net.specs.declared.node.NodeDecl.{NodeDecl};
 ghost use Rattle.dn_flat.specs.Terms.{IsLevels, levels_give};
 ghost use Rattle.dn_placement.specs.declared.request.Request.{Request};
-ghost use Rattle.dn_place.specs.Terms.{AreToward, GivesNone, InRow, IsClear, IsSearchReady, end_near, hops_view, is_near, is_past, levels_near, row_near, rows_near, wanted_name};
+ghost use Rattle.dn_view.specs.Terms.{levels_near};
+ghost use Rattle.dn_place.specs.Terms.{AreToward, GivesNone, InRow, IsClear, IsSearchReady, hops_view, is_past, wanted_name};
 
 use crate::OutOfMemory;
 use crate::hops::Hops;
 use crate::quest::Quest;
 use dn_flat::levels::Levels;
-use dn_interval::{End, Row, Rows, Seg, Span};
+use dn_interval::{End, Row, Rows};
 use dn_placement::request::Request;
+use dn_view::near::push_near;
 use std::alloc::Global;
 
 /// The first address of a stretch of so many to which the row gives the name and no other.
@@ -94,74 +96,8 @@ fn near_rows(alloc: Global, levels: &[Rows], target: End, size: u64) -> Result<R
         (levels_near target size levels.now a z)) rows) }
 {
     let mut segs = Vec::new(alloc);
-    for level in levels {
-        push_near(&mut segs, level, target, size)?;
-    }
+    push_near(&mut segs, levels, target, size)?;
     Rows::normal(alloc, &segs)
-}
-
-/// Adds where rows give such names.
-fn push_near(segs: &mut Vec<Seg>, rows: &Rows, target: End, size: u64) -> Result<(), OutOfMemory>
-    ensures { OnOk result ((a : ℕ) (z : End) → segs_give segs.new.items a z
-        ≡ (segs_give segs.old.items a z || rows_near target size rows.now a z)) }
-{
-    let all = rows.rows();
-    for row in all {
-        push_row(segs, row, target, size)?;
-    }
-    Ok(())
-}
-
-/// Adds where a row gives such names.
-fn push_row(segs: &mut Vec<Seg>, row: &Row, target: End, size: u64) -> Result<(), OutOfMemory>
-    requires fit { EndsFit row.now }
-    ensures { OnOk result ((a : ℕ) (z : End) → segs_give segs.new.items a z
-        ≡ (segs_give segs.old.items a z || row_near target size row.now a z)) }
-{
-    let span = row.span();
-    let ends = row.ends();
-    for end in ends {
-        push_end(segs, span, *end, target, size)?;
-    }
-    Ok(())
-}
-
-/// Adds where a span gives a name, moved on from its first address, if some of it is such a name.
-fn push_end(
-    segs: &mut Vec<Seg>,
-    span: Span,
-    end: End,
-    target: End,
-    size: u64,
-) -> Result<(), OutOfMemory>
-    requires fits { end.base + (span.hi - span.lo) ≤ TOP }
-    ensures { OnOk result ((a : ℕ) (z : End) → segs_give segs.new.items a z
-        ≡ (segs_give segs.old.items a z || (in_span span a
-        && end_near target size span a z end))) }
-{
-    if !is_near(span, end, target, size) {
-        return Ok(());
-    }
-    let seg = Seg {
-        span,
-        node: end.node,
-        base: end.base,
-    };
-    Ok(segs.push(seg)?)
-}
-
-/// Whether a span gives one of so many names from one on, where its first address has this name.
-fn is_near(span: Span, end: End, target: End, size: u64) -> bool
-    ensures { result ≡ is_near target size span end }
-{
-    if end.node != target.node {
-        return false;
-    }
-    if target.base < end.base {
-        end.base - target.base < size
-    } else {
-        target.base - end.base <= span.hi - span.lo
-    }
 }
 
 /// Whether no row has an address of the stretch: the first that does not end before it tells it.

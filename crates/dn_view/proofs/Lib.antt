@@ -8,6 +8,8 @@ pub mod Exposed
 pub mod Fitted
 pub mod Free
 pub mod Held
+pub mod Nearby
+pub mod MetHops
 pub mod Newly
 pub mod Pages
 pub mod Passed

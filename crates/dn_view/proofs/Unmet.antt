@@ -63,7 +63,7 @@ layer_given : (layers : List (List Row)) (a : ℕ) (z : End) → levels_give lay
 layer_given layers a z e = let r = any_member (λ (rows : List Row). rows_give rows a z) layers e in member_any has_rows layers r.0 r.1 (some_rows r.0 a z r.2)
 
 -- what holds of no listed node does not hold of one that is listed
-unlisted : (p : ℕ → Bool) (nodes : List ℕ) (n : ℕ) → list_any p nodes ≡ false → is_among n nodes ≡ true → p n ≡ false
+pub unlisted : (p : ℕ → Bool) (nodes : List ℕ) (n : ℕ) → list_any p nodes ≡ false → is_among n nodes ≡ true → p n ≡ false
 unlisted p nodes n none there =
     let m = any_member (λ other. nat_eq other n) nodes there in
     subst (λ k. p k ≡ false) (eqb-true m.0 n m.2) (member_none p nodes m.0 none m.1)
@@ -75,24 +75,11 @@ module _ (net : List NodeDecl) (legal : IsLegalNet net) (flats : FlatsView) (are
   abbrev fresh : Held
   fresh = allowing access (fresh_records h added)
 
-  -- what stands where no hop can be met does not come to one
-  not_newly : (t z : Name) → can_meet net flats p.hops t.node ≡ false → Newly net (allowing access h) fresh (allowing access (joined_records h added)) 3 t z → ⊥
-  not_newly t z none k = by k
+  -- what goes on to no units comes to a name newly by the record of its own slot
+  pub by_own_slot : (t z : Name) → leads_to_units flats (unit_at net t.node) ≡ false → ComesNewly net (allowing access h) fresh (allowing access (joined_records h added)) t z → (w : Name) × Member w (outputs_by fresh t (unit_at net t.node))
+  unfolding ComesNewly
+  by_own_slot t z none k = by k
     where
-      parts : (has_hop p.hops t.node ≡ false) × (leads_to_units flats (unit_at net t.node) ≡ false)
-      parts = or_parts (has_hop p.hops t.node) (leads_to_units flats (unit_at net t.node)) none
-
-      empty : (slot : ℕ) → fresh t.node slot ≡ None
-      empty slot = ap (λ o. record_allowing access (fresh_record (h t.node slot) o)) (unplaced net rq.size rq.rights p.own 0 p.hops t.node slot parts.0) ∙ no_record (h t.node slot)
-        where
-          no_record : (o : Option Record) → record_allowing access (fresh_record o None) ≡ None
-          no_record None = refl
-          no_record (Some r) = refl
-
-      not_fresh : (w : Name) (o : Option UnitPart) → Member w (outputs_by fresh t o) → ⊥
-      not_fresh w None m = absurd m
-      not_fresh w (Some u) m = absurd (subst (λ o. Member w (output u o t.addr)) (empty (t.addr / 2 ^ u.page)) m)
-
       not_on : (w v : Name) (o : Option UnitPart) → unit_at net t.node ≡ o → leads_to_units flats o ≡ false → Member w (outputs_by (allowing access h) t o) → StopsAt net w v → ⊥
       not_on w v None e f m st = absurd m
       not_on w v (Some u) e f m st = on (allowing access h t.node (t.addr / 2 ^ u.page)) m
@@ -121,19 +108,36 @@ module _ (net : List NodeDecl) (legal : IsLegalNet net) (flats : FlatsView) (are
           on None k = absurd k
           on (Some r) k = at (slice_get u.ports r.port) r.port (r.page * 2 ^ u.page + t.addr % 2 ^ u.page) refl k
 
-      by : Newly net (allowing access h) fresh (allowing access (joined_records h added)) 3 t z → ⊥
-      by (inl n) = not_fresh n.0 (unit_at net t.node) n.1
-      by (inr n) = not_on n.0 n.2.0 (unit_at net t.node) refl parts.1 n.1 n.2.1
+      by : Newly net (allowing access h) fresh (allowing access (joined_records h added)) 3 t z → (w : Name) × Member w (outputs_by fresh t (unit_at net t.node))
+      by (inl n) = (n.0, n.1)
+      by (inr n) = absurd (not_on n.0 n.2.0 (unit_at net t.node) refl none n.1 n.2.1)
+
+  -- what stands where no hop can be met does not come to one
+  not_newly : (t z : Name) → can_meet net flats p.hops t.node ≡ false → ComesNewly net (allowing access h) fresh (allowing access (joined_records h added)) t z → ⊥
+  not_newly t z none k = let n = by_own_slot t z parts.1 k in not_fresh n.0 (unit_at net t.node) n.1
+    where
+      parts : (has_hop p.hops t.node ≡ false) × (leads_to_units flats (unit_at net t.node) ≡ false)
+      parts = or_parts (has_hop p.hops t.node) (leads_to_units flats (unit_at net t.node)) none
+
+      empty : (slot : ℕ) → fresh t.node slot ≡ None
+      empty slot = ap (λ o. record_allowing access (fresh_record (h t.node slot) o)) (unplaced net rq.size rq.rights p.own 0 p.hops t.node slot parts.0) ∙ no_record (h t.node slot)
+        where
+          no_record : (o : Option Record) → record_allowing access (fresh_record o None) ≡ None
+          no_record None = refl
+          no_record (Some r) = refl
+
+      not_fresh : (w : Name) (o : Option UnitPart) → Member w (outputs_by fresh t o) → ⊥
+      not_fresh w None m = absurd m
+      not_fresh w (Some u) m = absurd (subst (λ o. Member w (output u o t.addr)) (empty (t.addr / 2 ^ u.page)) m)
 
   -- the units of a node's stops are listed
-  listed : (node : ℕ) → node < length flats.nodes → (a : ℕ) (z : End) → a ≤ TOP → levels_give (stops_of flats node) a z ≡ true → is_among z.node (units_in (slice_get flats.nodes node)) ≡ true
+  pub listed : (node : ℕ) → node < length flats.nodes → (a : ℕ) (z : End) → a ≤ TOP → levels_give (stops_of flats node) a z ≡ true → is_among z.node (units_in (slice_get flats.nodes node)) ≡ true
   listed node l a z low given =
       let t = levels_there net flats are node (subst (λ n. node < n) are.every l) in
       subst (λ (o : Option Levels). is_among z.node (units_in o) ≡ true) (sym t.1) ((are.each node t.0 t.1).units a z low (ap (λ (o : Option Levels). levels_give (stops_in o) a z) (sym t.1) ∙ given))
 
   -- a node at which nothing is asked for, and from which no hop can be met, is exact
   pub untouched : (node : ℕ) → node < length flats.nodes → (nat_eq node rq.agent && allows rq.rights access) ≡ false → list_any (can_meet net flats p.hops) (units_in (slice_get flats.nodes node)) ≡ false → IsExactAt net h rq p access node
-  unfolding ComesNewly
   untouched node l asked none = (exact_none net h rq p access node [] (not_asked net h rq p access node asked) (λ a z low. ((λ e. absurd (false≢true e)), (λ k. absurd (never a z low k))))).0 refl
     where
       never : (a : ℕ) (z : End) → a ≤ TOP → IsAdded net h rq p access (record { node = node; addr = a }) (name_of_end z) → ⊥

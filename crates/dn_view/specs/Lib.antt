@@ -1,6 +1,7 @@
 pub mod Courses
 pub mod Exact
 pub mod Named
+pub mod Near
 pub mod Passes
 pub mod Records
 pub mod Systems

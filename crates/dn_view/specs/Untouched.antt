@@ -22,3 +22,7 @@ leads_to_units flats (Some u) =
 -- what stands in the node can come to a hop: to one in the node itself, or through it to others
 abbrev pub can_meet : List NodeDecl → FlatsView → List Hop → ℕ → Bool
 can_meet net flats hops node = has_hop hops node || leads_to_units flats (unit_at net node)
+
+-- what stands in the node goes on to units
+abbrev pub leads_on : List NodeDecl → FlatsView → ℕ → Bool
+leads_on net flats node = leads_to_units flats (unit_at net node)

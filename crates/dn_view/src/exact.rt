@@ -14,10 +14,11 @@ ghost use Rattle.dn_view.specs.Terms.{AreExactIn, ComesIn, IsAskedAt, IsExactIn,
 
 use crate::OutOfMemory;
 use crate::course::Course;
+use crate::met::met_stops;
 use crate::part::FlatPart;
 use crate::pass::pass;
 use crate::records::Records;
-use crate::shown::{UNITS, node_stops, passed_stops, push_through};
+use crate::shown::{UNITS, passed_stops, push_through};
 use crate::system::System;
 use crate::trial::Trial;
 use crate::untouched::is_untouched;
@@ -100,7 +101,7 @@ fn exact_at(alloc: Global, trial: Trial, node: u16) -> Result<bool, OutOfMemory>
     if is_untouched(trial, node) {
         return Ok(true);
     }
-    let stops = node_stops(alloc, trial.system.flats, node)?;
+    let stops = met_stops(alloc, trial, node)?;
     let shown = newly_shown(alloc, trial, stops)?;
     if is_asked(trial.request, node, trial.access) {
         let segs = shown.as_slice();

@@ -4,7 +4,9 @@
 mod course;
 pub mod exact;
 pub mod laws;
+mod met;
 pub mod names;
+pub mod near;
 mod output;
 pub mod part;
 mod pass;

@@ -61,7 +61,7 @@ fn has_hop(placement: &Placement, node: u16) -> bool
 }
 
 /// Whether the node is a unit with a port whose node leads to units.
-fn leads_to_units(system: System, node: u16) -> bool
+pub(crate) fn leads_to_units(system: System, node: u16) -> bool
     requires { IsSystem meaning system }
     ensures { result
         ≡ leads_to_units system.entry.flats.now (unit_at system.entry.on.net.now node) }

@@ -4,7 +4,8 @@ use Rattle.dn_interval.specs.Rows.{AreNormal}
 use Rattle.dn_flat.specs.Levels.{ResolvesWhole}
 use Rattle.dn_placement.specs.declared.request.Request.{Request}
 use Rattle.dn_place.specs.Hops.{hops_view}
-use Rattle.dn_place.specs.Rows.{AreToward, levels_near, wanted_name}
+use Rattle.dn_view.specs.Near.{levels_near}
+use Rattle.dn_place.specs.Rows.{AreToward, wanted_name}
 use Rattle.dn_place.proofs.Toward.{buffer_toward, near_toward, wanted_fits}
 use Rattle.dn_place.proofs.rows.made_rows.Goals as goal
 
