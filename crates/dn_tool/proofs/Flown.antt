@@ -61,6 +61,9 @@ module _ (kinds : List Meaning) (net : List NodeDecl) (lawful : All IsLawful kin
       same : ◌≡◌ {A = Held} (held_at net kinds first (events_of turns) d) (held_at net kinds first log d)
       same = ap (λ es. record_held net kinds (after_events es first)) (ap (take d) (sym front) ∙ take-append-le d log rest l)
 
+  within : (k : ℕ) → moment events k ≤ length log
+  within k = moment_within log events k s.logged
+
   pub given_owed : (n : ℕ) (l : Lookup) (names : List Name) → slice_get (world_after net kinds (first_world kinds net) events).lookups n ≡ Some l → l.state ≡ Ended names → IsGivenOwed kinds net turns log events n l names
   given_owed n l names there is = record {
     flown = f;
@@ -79,15 +82,6 @@ module _ (kinds : List Meaning) (net : List NodeDecl) (lawful : All IsLawful kin
       f : HasFlown net kinds (first_world kinds net) log events n l names
       f = lookups_have_flown net kinds (first_world kinds net) log events legal.legal lawful refl fenced s n l names there is
 
-      in_order : moment events f.before ≤ moment events f.after
-      in_order = le_then (moment events f.before) f.peak (moment events f.after) f.from f.to
-
-      agent : IsTrue (is_agent_at (slice_get net x.node))
-      agent = may_come net kinds (first_world kinds net) events f.before (Begin l.agent l.start l.access) s.allowed f.is_begin
-
-      within : (k : ℕ) → moment events k ≤ length log
-      within k = moment_within log events k s.logged
-
       peak : IsBracketed net (held_at net kinds first log f.peak) (books_at [] turns f.peak)
       peak = at_moment f.peak (le_then f.peak (moment events f.after) (length log) f.to (within f.after))
 
@@ -96,6 +90,10 @@ module _ (kinds : List Meaning) (net : List NodeDecl) (lawful : All IsLawful kin
 
       finish : IsBracketed net (held_at net kinds first log (moment events f.after)) (books_at [] turns (moment events f.after))
       finish = at_moment (moment events f.after) (within f.after)
+
+      -- it began at an agent
+      agent : IsTrue (is_agent_at (slice_get net x.node))
+      agent = may_come net kinds (first_world kinds net) events f.before (Begin l.agent l.start l.access) s.allowed f.is_begin
 
       -- a book above the records of the peak owes each of the names
       given : (y : Name) → Member y names → Owes net peak.high l.access x y
@@ -113,6 +111,9 @@ module _ (kinds : List Meaning) (net : List NodeDecl) (lawful : All IsLawful kin
       exact : (owed : List Name) → ((d : ℕ) (b : List GrantPart) → moment events f.before ≤ d → d ≤ moment events f.after → Member b (books_at [] turns d) → owed_names net b l.access x ≡ owed) → names ≡ owed
       exact owed all = ascending_same names owed f.ascending up (λ y. ((λ m. into y m), (λ m. out y m)))
         where
+          in_order : moment events f.before ≤ moment events f.after
+          in_order = le_then (moment events f.before) f.peak (moment events f.after) f.from f.to
+
           up : is_ascending owed ≡ true
           up = subst (λ (ns : List Name). is_ascending ns ≡ true) (all f.peak peak.high f.from f.to peak.has_high)
               (sorted_ascending (resolved_names net x ++ granted_names peak.high l.access x))

@@ -1,5 +1,5 @@
 -- What a text comes to where it is refused.
-use Rattle.std.proofs.Common.{◌≡◌, ◌∙◌, ap, sym, Option, option_map, IfSome, Some, None, List, ℕ, Result, Ok, Err, IfOk, refl}
+use Rattle.std.proofs.Common.{◌≡◌, ◌∙◌, ap, sym, subst, Option, option_map, IfSome, Some, None, List, ℕ, Result, Ok, Err, IfOk, refl}
 use Rattle.std.proofs.lemmas.Option.{same_Some}
 use Rattle.dn_base.specs.Answers.{Answers, Checks}
 use Rattle.dn_parse.specs.declared.reader.ParseFault.{ParseFault}
@@ -37,9 +37,13 @@ expansion_refused kinds text tree e (Ok x) read fault is = go (expand_fault_view
 expansion_refused kinds text tree e (Err y) read fault is = tt
 
 -- what its net comes to is what it comes to
-pub outcome_compiled : (kinds : List Meaning) (text : List ℕ) (tree : Tree) (o : Expansion) → text_reading text ≡ Ok tree → expansion_of kinds tree ≡ Ok o → expansion_compilation kinds (Ok o) ≡ compilation kinds text
+outcome_compiled : (kinds : List Meaning) (text : List ℕ) (tree : Tree) (o : Expansion) → text_reading text ≡ Ok tree → expansion_of kinds tree ≡ Ok o → expansion_compilation kinds (Ok o) ≡ compilation kinds text
 unfolding compilation
 outcome_compiled kinds text tree o read made = sym (ap (reading_compilation kinds) read ∙ ap (expansion_compilation kinds) made)
+
+-- so what answers the expansion answers the text
+pub expanded_answer : {X E : Type 0} (view : X → Expansion) (refused : E → Option Refused) (r : Result X E) (kinds : List Meaning) (text : List ℕ) (tree : Tree) (o : Expansion) → text_reading text ≡ Ok tree → expansion_of kinds tree ≡ Ok o → Answers view refused r (with_refusal (expansion_compilation kinds (Ok o))) → Answers view refused r (with_refusal (compilation kinds text))
+expanded_answer view refused r kinds text tree o read made a = subst (λ (k : Compilation). Answers view refused r (with_refusal k)) (outcome_compiled kinds text tree o read made) a
 
 -- a node breaks a rule
 pub nodes_refused : {E : Type 0} (kinds : List Meaning) (o : Expansion) (v : Option BrokenNode) (r : Result Refused E) → IfSome v (λ b. node_fault o.net ≡ Some b) → IfOk r (λ x. option_map (node_refusal o.net) v ≡ Some x) → IfOk r (λ x. with_refusal (expansion_compilation kinds (Ok o)) ≡ Err x)

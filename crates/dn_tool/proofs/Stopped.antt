@@ -1,5 +1,5 @@
 -- What a device tells of the tables: those of a book, and those that a fault left inside a turn.
-use Rattle.std.proofs.Common.{◌≡◌, ◌∙◌, ap, sym, subst, refl, ℕ, inl, Bool, true, false, List, [], ◌∷◌, ◌++◌, Option, Result, Err}
+use Rattle.std.proofs.Common.{◌≡◌, ◌∙◌, ap, sym, subst, refl, ℕ, inl, Bool, true, false, List, [], ◌∷◌, ◌++◌, Option, Result, Ok, Err}
 use Rattle.std.specs.Option.{IfSome}
 use Rattle.dn_base.specs.declared.device.TableEvent.{TableEvent}
 use Rattle.dn_base.specs.declared.device.UnitWords.{UnitWords}
@@ -27,7 +27,7 @@ use Rattle.dn_tool.specs.Halt.{is_device_halt}
 use Rattle.dn_tool.specs.Ids.{id_number, with_id}
 use Rattle.dn_tool.specs.declared.machine.Machine.{Machine}
 use Rattle.dn_tool.specs.declared.state.Session.{Session as Kept}
-use Rattle.dn_tool.specs.State.{CameThroughChange, IsChangeDone, state_view}
+use Rattle.dn_tool.specs.State.{CameThroughChange, IsChangeDone, IsChanged, IsReadyOn, state_view}
 use Rattle.dn_tool.specs.Stopped.{AreCaught, IsStopped}
 use Rattle.dn_tool.specs.Turn.{IsGrantTurn, IsRevokeTurn, IsRouteTurn, State, Turn, turn_with_grant}
 use Rattle.dn_tool.proofs.Changes.{lives}
@@ -76,6 +76,15 @@ module _ (kinds : List Meaning) (net : List NodeDecl) (s : State) (id : List ℕ
 -- a turn of one sort is one of another, by what both are made of
 pub done_as : {A K : Type 0} {V : K → Type 0} (means : (k : K) × V k → Meaning) (m : Machine K V) (P : A → Turn → Type 0) (a b : A) (r : Result (List ℕ) RunHalt) (k k' : Kept) (log log' : Option (List TableEvent)) (units : List UnitSize) (words : Option (List UnitWords)) (x y : Faults) → a ≡ b → IsChangeDone means m (P a) r k k' log log' units words x y → IsChangeDone means m (P b) r k k' log log' units words x y
 done_as {A} means m P a b r k k' log log' units words x y e = subst (λ (c : A). IsChangeDone means m (P c) r k k' log log' units words x y) e
+
+-- a change that was gone through, and its reply
+pub done_said : {K : Type 0} {V : K → Type 0} (means : (k : K) × V k → Meaning) (m : Machine K V) (P : Turn → Type 0) (reply text : List ℕ) (k k' : Kept) (log log' : Option (List TableEvent)) (units : List UnitSize) (words : Option (List UnitWords)) (x y : Faults) → text ≡ reply → IsChanged P (state_view k') reply log log' → IsReadyOn means m k' units words → IsCounted x y false → IsChangeDone means m P (Ok text) k k' log log' units words x y
+done_said means m P reply text k k' log log' units words x y is changed ready counted = record {
+  changed = subst (λ (t : List ℕ). IsChanged P (state_view k') t log log') (sym is) changed;
+  caught = λ f. cc;
+  ready = ready;
+  halted = record { no_write = refl; counted = counted };
+}
 
 -- a change that was made, and for whose reply there was no memory
 pub done_unsaid : {K : Type 0} {V : K → Type 0} (means : (k : K) × V k → Meaning) (m : Machine K V) (P : Turn → Type 0) (r : Result (List ℕ) RunHalt) (k k' : Kept) (log log' : Option (List TableEvent)) (units : List UnitSize) (words : Option (List UnitWords)) (x y : Faults) → r ≡ Err NoMemory → CameThroughChange P r (state_view k') log log' → IsCounted x y false → IsChangeDone means m P r k k' log log' units words x y

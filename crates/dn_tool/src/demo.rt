@@ -112,13 +112,13 @@ fn play<D: Tables>(
     ensures through { CameThrough (IsTurn (kinds_of meaning machine.entry.on.kinds.now)
         machine.entry.on.net.now (state_view state.old) command.now) result
         (state_view state.new) None None (D.log device.old) (D.log device.new) }
+    ensures ready { OnOk result
+        (IsReadyOn meaning machine.entry state.new (D.units device.new) (D.words device.new)) }
+    ensures halted { HaltsByDevice result (D.faults device.old) (D.faults device.new) }
     ensures caught { result ≡ Err RunHalt.DeviceFault
         → IsStopped (kinds_of meaning machine.entry.on.kinds.now) machine.entry.on.net.now
         state.old.book.grants (IsTurn (kinds_of meaning machine.entry.on.kinds.now)
         machine.entry.on.net.now (state_view state.old) command.now) (D.words device.new) }
-    ensures ready { OnOk result
-        (IsReadyOn meaning machine.entry state.new (D.units device.new) (D.words device.new)) }
-    ensures halted { HaltsByDevice result (D.faults device.old) (D.faults device.new) }
 {
     if !is_change(command) {
         return Ok(());

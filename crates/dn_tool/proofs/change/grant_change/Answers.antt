@@ -16,7 +16,7 @@ use Rattle.dn_tool.specs.State.{IsChanged, state_view}
 use Rattle.dn_tool.specs.declared.state.Session.{Session as Kept}
 use Rattle.dn_tool.specs.Turn.{IsGrantTurn, State, state_with_id}
 use Rattle.dn_tool.proofs.Changes.{grant_refused_so, grant_said, grant_stopped, halted_after, not_granted_turn, state_granted, state_named, state_same}
-use Rattle.dn_tool.proofs.Stopped.{done_unsaid, grant_caught}
+use Rattle.dn_tool.proofs.Stopped.{done_said, done_unsaid, grant_caught}
 use Rattle.dn_tool.proofs.change.grant_change.Given.{Over}
 use Rattle.dn_tool.proofs.change.grant_change.Goals.{After-renew, In-Err-Device}
 use Rattle.dn_tool.proofs.change.grant_change.Goals as goal
@@ -36,12 +36,9 @@ returns-in_err-granted_reply-in-Ok g c =
     (halted_after _ c.from_residual-in_err-granted_reply-in-Ok.result (state_view c.renew.new.state) _ _ _ _ none (made g (goal.at.returns-in_err-granted_reply-in-Ok g c).After-renew)) c.in-Ok.ensures.changed.counted
 
 pub returns-in_ok-granted_reply-in-Ok : goal.returns-in_ok-granted_reply-in-Ok
-returns-in_ok-granted_reply-in-Ok g c = record {
-  changed = subst (λ (t : List ℕ). IsChanged (IsGrantTurn (kinds_of (λ k. (goal.UnitKind-dyn g k).meaning k.1) c.args.machine.on.kinds.now) c.args.machine.on.net.now (state_view c.args.state.now) c.args.id.now c.args.request.now) (state_view c.renew.new.state) t (g.D.Tables.log c.args.device.now) (g.D.Tables.log c.grant.new.device)) (sym c.in_ok-granted_reply-in-Ok.ensures) (made g (goal.at.returns-in_ok-granted_reply-in-Ok g c).After-renew);
-  caught = λ e. cc;
-  ready = search rules;
-  halted = search rules;
-}
+returns-in_ok-granted_reply-in-Ok g c =
+    done_said _ _ _ (granted_text c.args.id.now c.in-Ok.v) _ _ c.renew.new.state _ _ _ _ _ _ c.in_ok-granted_reply-in-Ok.ensures
+    (made g (goal.at.returns-in_ok-granted_reply-in-Ok g c).After-renew) (search rules) c.in-Ok.ensures.changed.counted
 
 -- the events of the grant at which the device failed
 logged : (g : Over) (c : In-Err-Device g) → IsGrantLogged c.args.machine.on.net.now (kinds_of (λ k. (goal.UnitKind-dyn g k).meaning k.1) c.args.machine.on.kinds.now) c.args.state.now.book.grants c.args.state.now.book.cleared (id_number c.args.state.now.ids c.args.id.now) c.args.request.now true (g.D.Tables.log c.args.device.now) (g.D.Tables.log c.grant.new.device) (words_of c.grant.new.book.set)
@@ -87,9 +84,6 @@ returns-in_ok-grant_refused-in-Err g c =
     let after : Kept = record { book = c.grant.new.book; ids = c.number.new.self; image = state.image; first = state.first; flats = c.keep_flats.new.flats; unmade = state.unmade } in
     let left : state_with_id s id ≡ state_view after = state_named after s id state.book same.0 refl refl c.in_ok-number.ensures.ids in
     let turned = not_granted_turn kinds net s (state_view after) id rq said.0 (g.D.Tables.log c.args.device.now) (g.D.Tables.log c.grant.new.device) refused (ap g.D.Tables.log same.1) left in
-    record {
-      caught = λ e. cc;
-      changed = subst (λ (t : List ℕ). IsChanged (IsGrantTurn kinds net s id rq) (state_view after) t (g.D.Tables.log c.args.device.now) (g.D.Tables.log c.grant.new.device)) (sym text) turned;
-      ready = record { machine = c.requires.ready.machine; state = state_same kinds net state after c.requires.ready.state same.0 refl c.requires.ready.state.first c.in_ok-keep_flats.ensures.flat c.requires.ready.state.unmade; on_device = c.in-Err.ensures.changed.on_device };
-      halted = record { no_write = refl; counted = subst (λ d. IsCounted (g.D.Tables.faults c.args.device.now) (g.D.Tables.faults d) false) (sym same.1) (counted_none (g.D.Tables.faults c.args.device.now)) };
-    }
+    done_said _ _ _ (grant_refused_text id said.0) _ _ after _ _ _ _ _ _ text turned
+    (record { machine = c.requires.ready.machine; state = state_same kinds net state after c.requires.ready.state same.0 refl c.requires.ready.state.first c.in_ok-keep_flats.ensures.flat c.requires.ready.state.unmade; on_device = c.in-Err.ensures.changed.on_device })
+    (subst (λ d. IsCounted (g.D.Tables.faults c.args.device.now) (g.D.Tables.faults d) false) (sym same.1) (counted_none (g.D.Tables.faults c.args.device.now)))

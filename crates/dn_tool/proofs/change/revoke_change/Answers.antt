@@ -10,13 +10,13 @@ use Rattle.dn_tables.specs.Set.{words_of}
 use Rattle.dn_book.specs.Between.{IsCaught}
 use Rattle.dn_book.specs.Book.{has_id, without_id}
 use Rattle.dn_tool.specs.declared.halt.RunHalt.TheVariants.{DeviceFault, NoMemory}
-use Rattle.dn_tool.specs.Changed.{revoked_text}
+use Rattle.dn_tool.specs.Changed.{revoke_refused_text, revoked_text}
 use Rattle.dn_tool.specs.Ids.{id_number}
 use Rattle.dn_tool.specs.State.{IsChanged, state_view}
 use Rattle.dn_tool.specs.declared.state.Session.{Session as Kept}
 use Rattle.dn_tool.specs.Turn.{IsRevokeTurn, State, state_with_id}
 use Rattle.dn_tool.proofs.Changes.{halted_after, not_revoked_turn, revoke_stopped, state_named, state_revoked, state_same}
-use Rattle.dn_tool.proofs.Stopped.{done_unsaid, revoke_caught}
+use Rattle.dn_tool.proofs.Stopped.{done_said, done_unsaid, revoke_caught}
 use Rattle.dn_tool.proofs.change.revoke_change.Given.{Over}
 use Rattle.dn_tool.proofs.change.revoke_change.Goals.{After-renew}
 use Rattle.dn_tool.proofs.change.revoke_change.Goals as goal
@@ -36,12 +36,9 @@ returns-in_err-revoked_reply-in-Ok g c =
     (halted_after _ c.from_residual-in_err-revoked_reply-in-Ok.result (state_view c.renew.new.state) _ _ _ _ none (made g (goal.at.returns-in_err-revoked_reply-in-Ok g c).After-renew)) c.in-Ok.ensures.changed.counted
 
 pub returns-in_ok-revoked_reply-in-Ok : goal.returns-in_ok-revoked_reply-in-Ok
-returns-in_ok-revoked_reply-in-Ok g c = record {
-  changed = subst (λ (t : List ℕ). IsChanged (IsRevokeTurn (kinds_of (λ k. (goal.UnitKind-dyn g k).meaning k.1) c.args.machine.on.kinds.now) c.args.machine.on.net.now (state_view c.args.state.now) c.args.id.now) (state_view c.renew.new.state) t (g.D.Tables.log c.args.device.now) (g.D.Tables.log c.revoke.new.device)) (sym c.in_ok-revoked_reply-in-Ok.ensures) (made g (goal.at.returns-in_ok-revoked_reply-in-Ok g c).After-renew);
-  caught = λ e. cc;
-  ready = search rules;
-  halted = search rules;
-}
+returns-in_ok-revoked_reply-in-Ok g c =
+    done_said _ _ _ (revoked_text c.args.id.now) _ _ c.renew.new.state _ _ _ _ _ _ c.in_ok-revoked_reply-in-Ok.ensures
+    (made g (goal.at.returns-in_ok-revoked_reply-in-Ok g c).After-renew) (search rules) c.in-Ok.ensures.changed.counted
 
 pub returns-in_ok-refused_reply-in-Err-NoGrant : goal.returns-in_ok-refused_reply-in-Err-NoGrant
 returns-in_ok-refused_reply-in-Err-NoGrant g c =
@@ -56,16 +53,10 @@ returns-in_ok-refused_reply-in-Err-NoGrant g c =
     let none : has_id (id_number state.ids id) state.book.grants ≡ false = subst (λ n. has_id n state.book.grants ≡ false) number (c.revoke.ensures.unknown.0 failed) in
     let after : Kept = record { book = c.revoke.new.self; ids = c.number.new.self; image = state.image; first = state.first; flats = state.flats; unmade = state.unmade } in
     let left : state_with_id s id ≡ state_view after = state_named after s id state.book same.0 refl refl c.in_ok-number.ensures.ids in
-    record {
-      changed = subst (λ (t : List ℕ). IsChanged (IsRevokeTurn kinds net s id) (state_view after) t (g.D.Tables.log c.args.device.now) (g.D.Tables.log c.revoke.new.device)) (sym c.in_ok-refused_reply-in-Err-NoGrant.ensures) (not_revoked_turn kinds net s (state_view after) id (g.D.Tables.log c.args.device.now) (g.D.Tables.log c.revoke.new.device) none (ap g.D.Tables.log same.1) left);
-      caught = λ e. cc;
-      ready = record {
-        machine = c.requires.ready.machine;
-        state = state_same kinds net state after c.requires.ready.state same.0 refl c.requires.ready.state.first c.requires.ready.state.flat c.requires.ready.state.unmade;
-        on_device = c.revoke.ensures.changed.on_device;
-      };
-      halted = record { no_write = refl; counted = subst (λ d. IsCounted (g.D.Tables.faults c.args.device.now) (g.D.Tables.faults d) false) (sym same.1) (counted_none (g.D.Tables.faults c.args.device.now)) };
-    }
+    done_said _ _ _ (revoke_refused_text id) _ _ after _ _ _ _ _ _ c.in_ok-refused_reply-in-Err-NoGrant.ensures
+    (not_revoked_turn kinds net s (state_view after) id (g.D.Tables.log c.args.device.now) (g.D.Tables.log c.revoke.new.device) none (ap g.D.Tables.log same.1) left)
+    (record { machine = c.requires.ready.machine; state = state_same kinds net state after c.requires.ready.state same.0 refl c.requires.ready.state.first c.requires.ready.state.flat c.requires.ready.state.unmade; on_device = c.revoke.ensures.changed.on_device })
+    (subst (λ d. IsCounted (g.D.Tables.faults c.args.device.now) (g.D.Tables.faults d) false) (sym same.1) (counted_none (g.D.Tables.faults c.args.device.now)))
 
 pub returns-in-Err-Device : goal.returns-in-Err-Device
 returns-in-Err-Device g c =

@@ -1,11 +1,10 @@
-use Rattle.std.proofs.Common.{subst, List, Err}
+use Rattle.std.proofs.Common.{List, Err}
 use Rattle.dn_kind.specs.Kind.{Meaning}
-use Rattle.dn_base.specs.Answers.{Answers}
 use Rattle.dn_parse.specs.Views.{tree_view}
 use Rattle.dn_kind.specs.Kinded.{kinds_of}
 use Rattle.dn_module.specs.Finish.{outcome_view}
-use Rattle.dn_tool.specs.Compiled.{Compilation, compilation, compile_fault_view, platform_view, with_refusal}
-use Rattle.dn_tool.proofs.Refusals.{compiled_checks, compiled_legal, expansion_refused, outcome_compiled, text_refused}
+use Rattle.dn_tool.specs.Compiled.{compilation, compile_fault_view, platform_view}
+use Rattle.dn_tool.proofs.Refusals.{compiled_checks, compiled_legal, expanded_answer, expansion_refused, text_refused}
 use Rattle.dn_tool.proofs.compile.compile.Goals as goal
 
 pub returns-in-Err-clause-answer : goal.returns-in-Err-clause-answer
@@ -14,8 +13,7 @@ returns-in-Err-clause-answer g c =
 
 pub returns-in-Ok-expand-clause-answer : goal.returns-in-Ok-expand-clause-answer
 returns-in-Ok-expand-clause-answer g c =
-    let same = outcome_compiled _ c.args.text.now (tree_view c.in-Ok.tree) (outcome_view c.in-Ok-expand.expanded) c.in-Ok.ensures c.in-Ok-expand.ensures.expansion in
-    subst (λ (k : Compilation). Answers platform_view compile_fault_view c.platform_of.result (with_refusal k)) same c.platform_of.ensures.answer
+    expanded_answer platform_view compile_fault_view c.platform_of.result _ c.args.text.now (tree_view c.in-Ok.tree) (outcome_view c.in-Ok-expand.expanded) c.in-Ok.ensures c.in-Ok-expand.ensures.expansion c.platform_of.ensures.answer
 
 pub returns-clause-answer : goal.returns-clause-answer
 returns-clause-answer g c =
@@ -31,16 +29,14 @@ returns-in-Err-clause-fault g c =
 pub returns-in-Ok-expand-clause-fault : goal.returns-in-Ok-expand-clause-fault
 returns-in-Ok-expand-clause-fault g c =
     let kinds : List Meaning = (kinds_of (λ k. (goal.UnitKind-dyn g k).meaning k.1) c.args.kinds.now) in
-    let same = outcome_compiled kinds c.args.text.now (tree_view c.in-Ok.tree) (outcome_view c.in-Ok-expand.expanded) c.in-Ok.ensures c.in-Ok-expand.ensures.expansion in
     compiled_checks platform_view compile_fault_view c.platform_of.result (compilation kinds c.args.text.now)
-    (subst (λ (k : Compilation). Answers platform_view compile_fault_view c.platform_of.result (with_refusal k)) same c.platform_of.ensures.answer)
+    (expanded_answer platform_view compile_fault_view c.platform_of.result kinds c.args.text.now (tree_view c.in-Ok.tree) (outcome_view c.in-Ok-expand.expanded) c.in-Ok.ensures c.in-Ok-expand.ensures.expansion c.platform_of.ensures.answer)
 
 pub returns-in-Ok-expand-clause-legal : goal.returns-in-Ok-expand-clause-legal
 returns-in-Ok-expand-clause-legal g c =
     let kinds : List Meaning = (kinds_of (λ k. (goal.UnitKind-dyn g k).meaning k.1) c.args.kinds.now) in
-    let same = outcome_compiled kinds c.args.text.now (tree_view c.in-Ok.tree) (outcome_view c.in-Ok-expand.expanded) c.in-Ok.ensures c.in-Ok-expand.ensures.expansion in
     compiled_legal platform_view compile_fault_view c.platform_of.result (compilation kinds c.args.text.now)
-    (subst (λ (k : Compilation). Answers platform_view compile_fault_view c.platform_of.result (with_refusal k)) same c.platform_of.ensures.answer)
+    (expanded_answer platform_view compile_fault_view c.platform_of.result kinds c.args.text.now (tree_view c.in-Ok.tree) (outcome_view c.in-Ok-expand.expanded) c.in-Ok.ensures c.in-Ok-expand.ensures.expansion c.platform_of.ensures.answer)
 
 pub returns-clause-fault : goal.returns-clause-fault
 returns-clause-fault g c =
