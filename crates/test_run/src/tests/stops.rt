@@ -90,17 +90,39 @@ fn word_in(events: &[TableEvent], unit: u16, word: u32) -> u64 {
 /// Whether a record with this gate word lets an access through.
 fn is_open(gate: u64, access: Access) -> bool {
     let shut = match access {
-        Access::Read => 16,
-        Access::Write => 32,
+        Access::Read => gate / 16,
+        Access::Write => gate / 32,
     };
-    gate % 2 == 1 && (gate / shut) % 2 == 0
+    gate % 2 == 1 && shut % 2 == 0
 }
 
-/// Where the words of two units in a row lead a page of a card: the slot of the near one may send its pages to the first
-/// slots of the far one alone.
+/// Where the words of two units in a row lead a page: the slot of the near one may send its pages to the first slots of
+/// the far one alone.
 fn page_of(near: u64, far: u64, access: Access) -> Option<u64> {
     let passed = is_open(near, access) && near / 256 == 0 && is_open(far, access);
     passed.then_some(far / 256)
+}
+
+/// Where the words that events leave lead a page of the card behind `bridge` and `smmu`, of which four are a slot of
+/// `bridge`.
+fn page_end(events: &[TableEvent], page: u16, access: Access) -> Option<u64> {
+    let page = u32::from(page);
+    let near = word_in(events, 2, page / 4);
+    page_of(near, word_in(events, 4, page % 4), access)
+}
+
+/// Where they lead one of the first pages of the card behind `smpt` and `iommu`, by the bus to the memory.
+fn bus_end(events: &[TableEvent], page: u16, access: Access) -> Option<u64> {
+    let far = word_in(events, 7, u32::from(page));
+    let page = page_of(word_in(events, 5, 0), far, access)?;
+    page.checked_sub(0x80000)
+}
+
+/// Where they lead a line of the network card behind a unit.
+fn line_end(events: &[TableEvent], unit: u16, line: u16, access: Access) -> Option<u64> {
+    let line = u32::from(line);
+    let vector = word_in(events, unit, 2 * line);
+    is_open(word_in(events, unit, 2 * line + 1), access).then_some(vector)
 }
 
 /// Where the words that events leave lead a page of the card or a line of the network card, for an
@@ -111,23 +133,15 @@ pub(crate) fn end_of(
     input: u16,
     access: Access,
 ) -> Option<u64> {
-    let input = u32::from(input);
-    let (irt, line) = match platform {
-        Board::Card => (0, None),
-        Board::Network => (2, Some(input)),
-        Board::Both => (7, input.checked_sub(16)),
-        Board::Bus => {
-            let near = word_in(events, 5, 0);
-            let page = page_of(near, word_in(events, 7, input), access);
-            return page.and_then(|page| page.checked_sub(0x80000));
-        }
-    };
-    let Some(line) = line else {
-        let near = word_in(events, 2, input / 4);
-        return page_of(near, word_in(events, 4, input % 4), access);
-    };
-    let vector = word_in(events, irt, 2 * line);
-    is_open(word_in(events, irt, 2 * line + 1), access).then_some(vector)
+    match platform {
+        Board::Card => page_end(events, input, access),
+        Board::Network => line_end(events, 2, input, access),
+        Board::Both => match input.checked_sub(16) {
+            Some(line) => line_end(events, 7, line, access),
+            None => page_end(events, input, access),
+        },
+        Board::Bus => bus_end(events, input, access),
+    }
 }
 
 /// Runs a script over a device of which one call fails.
