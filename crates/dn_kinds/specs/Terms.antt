@@ -1,2 +1,2 @@
 -- The words of the crate that clauses cite, from one place.
-pub use Rattle.dn_kinds.specs.Layouts.{bits, denials, gate_bits, gated, has_ports, rights_left, shipped}
+pub use Rattle.dn_kinds.specs.Layouts.{bits, denials, gate_bits, gated, has_ports, pages, radix, remap, rights_left, shipped, vectors}

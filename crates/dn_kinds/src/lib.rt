@@ -6,4 +6,5 @@
 #![tactic(auto)]
 
 mod layout;
+pub mod listed;
 pub mod shipped;

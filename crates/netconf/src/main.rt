@@ -6,7 +6,7 @@ use dn_base::sink::Sink;
 use dn_base::source::Source;
 use dn_base::streams::{StdSink, StdSource};
 use dn_kind::kinds::Kinds;
-use dn_kinds::shipped::{ShippedKind, shipped_are_lawful};
+use dn_kinds::listed::{Pages, Radix, Remap, Vectors, listed_are_lawful};
 use dn_tool::run;
 use dn_tool::words::Words;
 use std::alloc::{AllocError, Global};
@@ -56,12 +56,12 @@ fn answer<S: Source, K: Sink>(
     source: &mut S,
     sink: &mut K,
 ) -> Result<u8, AllocError> {
-    shipped_are_lawful();
+    listed_are_lawful();
     let mut kinds = Kinds::none(alloc);
-    kinds.add(Box::new(alloc, ShippedKind::Pages)?)?;
-    kinds.add(Box::new(alloc, ShippedKind::Remap)?)?;
-    kinds.add(Box::new(alloc, ShippedKind::Vectors)?)?;
-    kinds.add(Box::new(alloc, ShippedKind::Radix)?)?;
+    kinds.add(Box::new(alloc, Pages)?)?;
+    kinds.add(Box::new(alloc, Remap)?)?;
+    kinds.add(Box::new(alloc, Vectors)?)?;
+    kinds.add(Box::new(alloc, Radix)?)?;
     let mut device = MemTables::new(alloc, 0, Vec::new(alloc))?;
     Ok(run::run(alloc, words, &kinds, source, sink, &mut device))
 }

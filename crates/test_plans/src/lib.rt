@@ -31,12 +31,12 @@ pub const RADIX: u8 = 3;
 #[macro_export]
 macro_rules! program_kinds {
     ($alloc:expr) => {{
-        dn_kinds::shipped::shipped_are_lawful();
+        dn_kinds::listed::listed_are_lawful();
         let mut kinds = dn_kind::kinds::Kinds::none($alloc);
-        kinds.add(Box::new($alloc, dn_kinds::shipped::ShippedKind::Pages)?)?;
-        kinds.add(Box::new($alloc, dn_kinds::shipped::ShippedKind::Remap)?)?;
-        kinds.add(Box::new($alloc, dn_kinds::shipped::ShippedKind::Vectors)?)?;
-        kinds.add(Box::new($alloc, dn_kinds::shipped::ShippedKind::Radix)?)?;
+        kinds.add(Box::new($alloc, dn_kinds::listed::Pages)?)?;
+        kinds.add(Box::new($alloc, dn_kinds::listed::Remap)?)?;
+        kinds.add(Box::new($alloc, dn_kinds::listed::Vectors)?)?;
+        kinds.add(Box::new($alloc, dn_kinds::listed::Radix)?)?;
         kinds
     }};
 }
@@ -45,15 +45,15 @@ macro_rules! program_kinds {
 #[macro_export]
 macro_rules! sure_kinds {
     ($rt:expr, $alloc:expr) => {{
-        dn_kinds::shipped::shipped_are_lawful();
+        dn_kinds::listed::listed_are_lawful();
         let mut kinds = dn_kind::kinds::Kinds::none($alloc);
-        let pages = Box::new($alloc, dn_kinds::shipped::ShippedKind::Pages).expect($rt, "memory");
+        let pages = Box::new($alloc, dn_kinds::listed::Pages).expect($rt, "memory");
         kinds.add(pages).expect($rt, "memory");
-        let remap = Box::new($alloc, dn_kinds::shipped::ShippedKind::Remap).expect($rt, "memory");
+        let remap = Box::new($alloc, dn_kinds::listed::Remap).expect($rt, "memory");
         kinds.add(remap).expect($rt, "memory");
-        let vectors = Box::new($alloc, dn_kinds::shipped::ShippedKind::Vectors).expect($rt, "memory");
+        let vectors = Box::new($alloc, dn_kinds::listed::Vectors).expect($rt, "memory");
         kinds.add(vectors).expect($rt, "memory");
-        let radix = Box::new($alloc, dn_kinds::shipped::ShippedKind::Radix).expect($rt, "memory");
+        let radix = Box::new($alloc, dn_kinds::listed::Radix).expect($rt, "memory");
         kinds.add(radix).expect($rt, "memory");
         kinds
     }};

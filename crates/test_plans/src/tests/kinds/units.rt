@@ -6,8 +6,7 @@ use dn_kind::kinds::Kinds;
 use dn_kind::shape::Shape;
 use dn_kind::unit_kind::UnitKind;
 use dn_kind::units::UnitFault;
-use dn_kinds::shipped::ShippedKind::{Pages, Radix, Remap, Vectors};
-use dn_kinds::shipped::shipped_are_lawful;
+use dn_kinds::listed::{Pages, Radix, Remap, Vectors, listed_are_lawful};
 use dn_net::node::Role;
 use std::alloc::Global;
 use std::test::Fail;
@@ -42,7 +41,7 @@ fn checked(alloc: Global, first: ShapedUnit, second: ShapedUnit) -> Result<(), U
 #[test]
 fn lists_kinds_in_their_order(rt: HostRuntime) -> Result<(), Fail> {
     let alloc = rt.alloc();
-    shipped_are_lawful();
+    listed_are_lawful();
     let mut kinds = Kinds::none(alloc);
     assert_eq!(rt; kinds.len(), 0);
     kinds.add(Box::new(alloc, Pages)?)?;
