@@ -1,15 +1,59 @@
 //! The one test of lookups in flight that makes the kinds of the program, and calls all that needs them.
 
+ghost use Rattle.dn_kind.specs.Terms.{AreKinds};
+
 use crate::flights::{clear_before_a_read, follow_two_units, put_before_a_lookup};
 use crate::played::{play_one_unit, play_two_units};
-use crate::worlds::{ask_for_rights, begin_too_many, refuse_events};
-use test_plans::run_with_kinds;
+use crate::sky::{sky_of, system_of};
+use crate::worlds::{
+    ask_for_rights, begin_too_many, refuse_by_the_first_in_flight, refuse_what_is_not_there,
+};
+use dn_kind::kinds::Kinds;
+use dn_net::node::Role;
+use std::alloc::Global;
+use std::process::Abort;
+use test_plans::{PAGES, Plan, REMAP, run_with_kinds, to};
 
 #[test]
 fn looks_up_while_tables_are_written(rt: HostRuntime) {
-    run_with_kinds!(
-        rt;
-        put_before_a_lookup, clear_before_a_read, follow_two_units, refuse_events, ask_for_rights,
-        begin_too_many, play_one_unit, play_two_units
-    )
+    run_with_kinds!(rt; fly_over_one_unit, fly_over_two_units)
+}
+
+/// All that is looked up behind one unit.
+fn fly_over_one_unit(rt: &impl Abort, alloc: Global, kinds: &Kinds)
+    requires { AreKinds meaning kinds.now }
+{
+    let sky = sky_of(rt, alloc, kinds, Plan::pages(alloc).expect(rt, "a plan"));
+    let system = system_of(&sky, kinds);
+    put_before_a_lookup(rt, alloc, system);
+    clear_before_a_read(rt, alloc, system);
+    refuse_what_is_not_there(rt, alloc, system);
+    refuse_by_the_first_in_flight(rt, alloc, system);
+    ask_for_rights(rt, alloc, system);
+    begin_too_many(rt, alloc, system);
+    play_one_unit(rt, alloc, system);
+}
+
+/// All that is looked up behind two units in a row.
+fn fly_over_two_units(rt: &impl Abort, alloc: Global, kinds: &Kinds)
+    requires { AreKinds meaning kinds.now }
+{
+    let sky = sky_of(rt, alloc, kinds, two_unit_plan(rt, alloc));
+    let system = system_of(&sky, kinds);
+    follow_two_units(rt, alloc, system);
+    play_two_units(rt, alloc, system);
+}
+
+/// The bus, and behind it an agent `phi`, node 4, whose addresses go through `smpt`, node 5, then over
+/// `hostin`, node 6, through `iommu`, node 7.
+fn two_unit_plan(rt: &impl Abort, alloc: Global) -> Plan {
+    let mut plan = Plan::bus(alloc).expect(rt, "a plan");
+    plan.agent("phi", 0x3fffff, to(5, 0)).expect(rt, "a plan");
+    plan.unit("smpt", REMAP, 20, 4, 24, &[6])
+        .expect(rt, "a plan");
+    plan.mapping("hostin", Role::Plain, 0, 0xfffff, to(7, 0))
+        .expect(rt, "a plan");
+    plan.unit("iommu", PAGES, 12, 256, 32, &[2])
+        .expect(rt, "a plan");
+    plan
 }

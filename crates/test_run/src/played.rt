@@ -4,8 +4,7 @@ ghost use Rattle.dn_kind.specs.Terms.{AreKinds, kinds_of};
 ghost use Rattle.dn_view.specs.Terms.{IsSystem};
 ghost use Rattle.dn_flight.specs.Terms.{IsWorld};
 
-use crate::flights::two_unit_plan;
-use crate::sky::{begin, ends_with, name, plays, read, sky_of, stands_at, system_of, write};
+use crate::sky::{begin, ends_with, name, plays, read, stands_at, write};
 use dn_base::device::TableEvent;
 use dn_base::memory::{MemSink, MemSource};
 use dn_base::memory_tables::MemTables;
@@ -17,7 +16,6 @@ use dn_tool::words::Words;
 use dn_view::system::System;
 use std::alloc::Global;
 use std::process::Abort;
-use test_plans::Plan;
 
 /// A buffer is granted to an engine behind one unit, taken back, and another granted in its place.
 const ONE_UNIT: &str = "dram is accept [0x0-0x3fffffff];
@@ -94,21 +92,13 @@ fn play_at(
     }
 }
 
-/// Lookups before, inside and after a revoke, behind one unit.
-pub fn play_one_unit(rt: &impl Abort, alloc: Global, kinds: &Kinds)
-    requires { AreKinds meaning kinds.now }
-{
-    let device = run_text(rt, alloc, kinds, ONE_UNIT);
-    let plan = Plan::pages(alloc).expect(rt, "a plan");
-    let sky = sky_of(rt, alloc, kinds, plan);
-    look_up_behind_one(rt, alloc, system_of(&sky, kinds), device.log());
-}
-
-/// The same over the log: unit 5 is made, the first buffer's record is put and cleared, and behind a fence the
+/// Lookups before, inside and after a revoke, behind one unit. In the log unit 5 is made, the first buffer's record is put and cleared, and behind a fence the
 /// second buffer's is put.
-fn look_up_behind_one(rt: &impl Abort, alloc: Global, system: System, log: &[TableEvent])
+pub fn play_one_unit(rt: &impl Abort, alloc: Global, system: System)
     requires { IsSystem meaning system }
 {
+    let device = run_text(rt, alloc, system.on.kinds, ONE_UNIT);
+    let log = device.log();
     let mut world = World::start(alloc, system.on).expect(rt, "a world");
     assert_eq!(rt; log.len(), 5);
     play_at(rt, alloc, system, &mut world, log, 0);
@@ -133,21 +123,14 @@ fn look_up_behind_one(rt: &impl Abort, alloc: Global, system: System, log: &[Tab
     ends_with(rt, &world, 3, Some(name(0, 0x6010)));
 }
 
-/// Lookups before, inside and after grants and a revoke, behind two units in a row.
-pub fn play_two_units(rt: &impl Abort, alloc: Global, kinds: &Kinds)
-    requires { AreKinds meaning kinds.now }
-{
-    let device = run_text(rt, alloc, kinds, TWO_UNITS);
-    let plan = two_unit_plan(rt, alloc);
-    let sky = sky_of(rt, alloc, kinds, plan);
-    look_up_behind_two(rt, alloc, system_of(&sky, kinds), device.log());
-}
-
-/// The same over the log: units 5 and 7 are made; of the first buffer the record of unit 7 is put, then that of
+/// Lookups before, inside and after grants and a revoke, behind two units in a row. In the log units 5 and 7 are
+/// made; of the first buffer the record of unit 7 is put, then that of
 /// unit 5, and they are cleared from unit 5 on; then a fence, and the records of the second buffer.
-fn look_up_behind_two(rt: &impl Abort, alloc: Global, system: System, log: &[TableEvent])
+pub fn play_two_units(rt: &impl Abort, alloc: Global, system: System)
     requires { IsSystem meaning system }
 {
+    let device = run_text(rt, alloc, system.on.kinds, TWO_UNITS);
+    let log = device.log();
     let mut world = World::start(alloc, system.on).expect(rt, "a world");
     assert_eq!(rt; log.len(), 9);
     play_at(rt, alloc, system, &mut world, log, 0);

@@ -1,32 +1,19 @@
 //! What a world refuses.
 
-ghost use Rattle.dn_kind.specs.Terms.{AreKinds, kinds_of};
+ghost use Rattle.dn_kind.specs.Terms.{kinds_of};
 ghost use Rattle.dn_view.specs.Terms.{IsSystem};
 ghost use Rattle.dn_flight.specs.Terms.{IsWorld};
 
-use crate::sky::{begin, ends_with, name, plays, read, sky_of, stands_at, system_of, write};
+use crate::sky::{begin, ends_with, name, plays, read, stands_at, write};
 use dn_flight::event::{Event, FlightFault};
 use dn_flight::world::World;
-use dn_kind::kinds::Kinds;
 use dn_kind::rights::Access;
 use dn_view::system::System;
 use std::alloc::Global;
 use std::process::Abort;
-use test_plans::Plan;
-
-/// Each fault once, by an event at the edge of what may come.
-pub fn refuse_events(rt: &impl Abort, alloc: Global, kinds: &Kinds)
-    requires { AreKinds meaning kinds.now }
-{
-    let plan = Plan::pages(alloc).expect(rt, "a plan");
-    let sky = sky_of(rt, alloc, kinds, plan);
-    let system = system_of(&sky, kinds);
-    refuse_what_is_not_there(rt, alloc, system);
-    refuse_by_the_first_in_flight(rt, alloc, system);
-}
 
 /// Nodes, words and lookups that are not there.
-fn refuse_what_is_not_there(rt: &impl Abort, alloc: Global, system: System)
+pub fn refuse_what_is_not_there(rt: &impl Abort, alloc: Global, system: System)
     requires { IsSystem meaning system }
 {
     let mut world = World::start(alloc, system.on).expect(rt, "a world");
@@ -55,7 +42,7 @@ fn refuse_what_is_not_there(rt: &impl Abort, alloc: Global, system: System)
 }
 
 /// A fence tells the first lookup in flight, whichever began or ended before it.
-fn refuse_by_the_first_in_flight(rt: &impl Abort, alloc: Global, system: System)
+pub fn refuse_by_the_first_in_flight(rt: &impl Abort, alloc: Global, system: System)
     requires { IsSystem meaning system }
 {
     let mut world = World::start(alloc, system.on).expect(rt, "a world");
@@ -78,16 +65,7 @@ fn refuse_by_the_first_in_flight(rt: &impl Abort, alloc: Global, system: System)
 }
 
 /// A record that allows reading alone lets a lookup through that is to read.
-pub fn ask_for_rights(rt: &impl Abort, alloc: Global, kinds: &Kinds)
-    requires { AreKinds meaning kinds.now }
-{
-    let plan = Plan::pages(alloc).expect(rt, "a plan");
-    let sky = sky_of(rt, alloc, kinds, plan);
-    ask_by_access(rt, alloc, system_of(&sky, kinds));
-}
-
-/// The same over the system.
-fn ask_by_access(rt: &impl Abort, alloc: Global, system: System)
+pub fn ask_for_rights(rt: &impl Abort, alloc: Global, system: System)
     requires { IsSystem meaning system }
 {
     let mut world = World::start(alloc, system.on).expect(rt, "a world");
@@ -113,17 +91,8 @@ fn ask_by_access(rt: &impl Abort, alloc: Global, system: System)
     ends_with(rt, &world, 1, None);
 }
 
-/// 65,536 lookups begin, and no more, also where a fence would pass.
-pub fn begin_too_many(rt: &impl Abort, alloc: Global, kinds: &Kinds)
-    requires { AreKinds meaning kinds.now }
-{
-    let plan = Plan::pages(alloc).expect(rt, "a plan");
-    let sky = sky_of(rt, alloc, kinds, plan);
-    fill_a_world(rt, alloc, system_of(&sky, kinds));
-}
-
-/// The same over the system.
-fn fill_a_world(rt: &impl Abort, alloc: Global, system: System)
+/// 65,536 lookups begin, and no more.
+pub fn begin_too_many(rt: &impl Abort, alloc: Global, system: System)
     requires { IsSystem meaning system }
 {
     let mut world = World::start(alloc, system.on).expect(rt, "a world");
