@@ -92,8 +92,8 @@ fn play_at(
     }
 }
 
-/// Lookups before, inside and after a revoke, behind one unit. In the log unit 5 is made, the first buffer's record is put and cleared, and behind a fence the
-/// second buffer's is put.
+/// Lookups before, inside and after a revoke, behind one unit. In the log unit 5 is made, the first buffer's
+/// record is put and cleared, and after a fence the second buffer's is put.
 pub fn play_one_unit(rt: &impl Abort, alloc: Global, system: System)
     requires { IsSystem meaning system }
 {
@@ -124,8 +124,8 @@ pub fn play_one_unit(rt: &impl Abort, alloc: Global, system: System)
 }
 
 /// Lookups before, inside and after grants and a revoke, behind two units in a row. In the log units 5 and 7 are
-/// made; of the first buffer the record of unit 7 is put, then that of
-/// unit 5, and they are cleared from unit 5 on; then a fence, and the records of the second buffer.
+/// made; of the first buffer the record of unit 7 is put, then that of unit 5, and they are cleared from unit 5
+/// on; then come a fence and the records of the second buffer.
 pub fn play_two_units(rt: &impl Abort, alloc: Global, system: System)
     requires { IsSystem meaning system }
 {
