@@ -2,7 +2,7 @@
 
 ghost use Rattle.dn_view.specs.Terms.{IsSystem};
 
-use crate::sky::{begin, ends_with, name, plays, read, stands_at, write};
+use crate::playing::{begin, ends_with, name, plays, read, stands_at, write};
 use dn_flight::event::{Event, FlightFault};
 use dn_flight::world::World;
 use dn_view::system::System;

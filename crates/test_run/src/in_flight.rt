@@ -4,7 +4,7 @@ ghost use Rattle.dn_kind.specs.Terms.{AreKinds};
 
 use crate::flights::{clear_before_a_read, follow_two_units, put_before_a_lookup};
 use crate::played::{play_one_unit, play_two_units};
-use crate::sky::{sky_of, system_of};
+use crate::playing::{sky_of, system_of};
 use crate::worlds::{
     ask_for_rights, begin_too_many, refuse_by_the_first_in_flight, refuse_what_is_not_there,
 };

@@ -13,7 +13,8 @@
 //!
 //! Lookups in flight are tested over worked events (`flights`), for each answer of a world that
 //! refuses (`worlds`), and over the logs of runs, which are played event by event with lookups
-//! between (`played`). What needs the kinds of the program is called by one test, in `in_flight`.
+//! between (`played`), all by the calls of `playing`. What needs the kinds of the program is called
+//! by one test, in `in_flight`.
 #![tactic(auto)]
 
 pub mod failing;
@@ -25,6 +26,8 @@ mod in_flight;
 mod outcome;
 #[cfg(test)]
 mod played;
+#[cfg(test)]
+mod playing;
 pub mod sky;
 #[cfg(test)]
 mod tests;

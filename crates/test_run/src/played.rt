@@ -4,7 +4,7 @@ ghost use Rattle.dn_kind.specs.Terms.{AreKinds, kinds_of};
 ghost use Rattle.dn_view.specs.Terms.{IsSystem};
 ghost use Rattle.dn_flight.specs.Terms.{IsWorld};
 
-use crate::sky::{begin, ends_with, name, plays, read, stands_at, write};
+use crate::playing::{begin, ends_with, name, plays, read, stands_at, write};
 use dn_base::device::TableEvent;
 use dn_base::memory::{MemSink, MemSource};
 use dn_base::memory_tables::MemTables;
