@@ -3,7 +3,7 @@
 //!
 //! The nets are made by calls. A call asks much of its arguments, so it is made by a function that tests this
 //! first. On a slot of a set these functions are in `slots`: they test that the slot is there, and for some calls
-//! that it is empty and that a record fits. On a book of grants they are in `calls`. The wanted words, events, bytes
+//! that it is empty and that a record fits. On a book of grants they are in `desk`. The wanted words, events, bytes
 //! and names are worked out by hand.
 #![tactic(auto)]
 
@@ -13,7 +13,6 @@ mod calls;
 pub mod desk;
 #[cfg(test)]
 mod grants;
-#[cfg(test)]
 mod own;
 #[cfg(test)]
 mod slots;

@@ -7,13 +7,12 @@ ghost use Rattle.dn_tables.specs.Terms.{IsEmpty, has_slot, unit_in, units_of};
 ghost use Rattle.test_tables.specs.Terms.{IsHoldable, IsHoldableIn, IsBench};
 
 use crate::bench::Bench;
-use bitflags::Flags;
+use crate::desk::are_rights;
 use dn_base::device::{DeviceFault, Tables};
 use dn_base::filled::Filled;
 use dn_base::memory_tables::MemTables;
 use dn_kind::kinded::KindedNet;
 use dn_kind::kinds::Kinds;
-use dn_kind::rights::Rights;
 use dn_kind::shape::shape_of;
 use dn_kind::unit_kind::Record;
 use dn_net::net::Net;
@@ -88,13 +87,6 @@ fn can_hold(unit: &Unit, wanted: Record) -> bool
         return false;
     }
     wanted.is_within(shape_of(unit)) && are_rights(wanted.rights)
-}
-
-/// Whether rights are those of a record: one access, or both.
-pub fn are_rights(rights: Rights) -> bool
-    ensures { result ≡ are_rights rights }
-{
-    1 <= rights.bits() && rights.bits() <= 3
 }
 
 /// New tables of the net of a plan, over a device that has room for so many events and fails at these calls.
