@@ -2,7 +2,7 @@
 use Rattle.std.proofs.Common.{rules, ◌≡◌, refl, true, ℕ, List, [], ◌∷◌, Option, Some, None, Result, Ok, Err, IsTrue, is_ok, length}
 use Rattle.std.proofs.lemmas.Bool.{and_parts, false≢true}
 use Rattle.std.specs.List.{list_all}
-use Rattle.dn_parse.specs.Tree.{Expression, constant, variable, sum, product, minus, Part, Order, resolve, lookup, view, grant, route, revoke, dump, split, absorb, Command as CommandOf}
+use Rattle.dn_parse.specs.Tree.{Expression, constant, variable, sum, product, minus, Part, Order, resolve, lookup, view, grant, route, revoke, dump, split, absorb, radix, Command as CommandOf}
 use Rattle.dn_parse.specs.Plain.{is_constant, is_constant_index, is_constant_name, is_plain_order, are_plain}
 use Rattle.dn_module.specs.declared.command.Command.{Command}
 use Rattle.dn_module.specs.declared.command.Target.{Target}
@@ -76,6 +76,7 @@ module _ (known : List (List ℕ)) (line : ℕ) where
   plain_made dump h = refl
   plain_made split h = refl
   plain_made (absorb name) h = targeted name _ h (λ t w. w)
+  plain_made (radix name e) h = let p = and_parts (is_constant_name name) (is_constant e) h in targeted name _ p.0 (λ t w. valued e _ p.1 (λ n. w))
 
 -- commands that are all plain are all made, and their nodes are there
 pub plain_list : (known : List (List ℕ)) (cs : List CommandOf) → IsTrue (are_plain cs) → (is_ok (commands_of known cs) ≡ true) × IsTrue (list_all (names_within (length known)) (commands_or_none (commands_of known cs)))

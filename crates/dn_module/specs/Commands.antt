@@ -1,8 +1,8 @@
 -- The commands of a tree, with the values of their expressions and the numbers of the nodes that they name.
 use Rattle.std.specs.Prelude.{ℕ, Bool, true, false, ◌&&◌, nat_lt, List, [], Option, Some, None, Result, Ok, Err}
-use Rattle.dn_parse.specs.Tree.{Expression, Part, Order, resolve, lookup, view, grant, route, revoke, dump, split, absorb, Command as CommandOf}
+use Rattle.dn_parse.specs.Tree.{Expression, Part, Order, resolve, lookup, view, grant, route, revoke, dump, split, absorb, radix, Command as CommandOf}
 use Rattle.dn_module.specs.declared.command.Command.{Command}
-use Rattle.dn_module.specs.declared.command.Command.TheVariants.{Resolve, Lookup, View, Grant, Route, Revoke, Dump, Split, Absorb}
+use Rattle.dn_module.specs.declared.command.Command.TheVariants.{Resolve, Lookup, View, Grant, Route, Revoke, Dump, Split, Absorb, Radix}
 use Rattle.dn_module.specs.declared.command.Target.{Target}
 use Rattle.dn_module.specs.Values.{◌>>=◌, Flaw, each, value, full_name}
 use Rattle.dn_module.specs.Drafts.{at_line, number_in}
@@ -48,6 +48,7 @@ command_of known split = Ok Split
 command_of known (absorb name) = do
   target ← target_of known name
   Ok (Absorb target)
+command_of known (radix name e) = asked_of known name e Radix
 
 -- the commands of a tree, or the first fault
 abbrev pub commands_of : List (List ℕ) → List CommandOf → Result (List Command) ExpansionFault
@@ -74,6 +75,7 @@ names_within count (Revoke id) = true
 names_within count Dump = true
 names_within count Split = true
 names_within count (Absorb target) = node_within count target.node
+names_within count (Radix target pool) = node_within count target.node
 
 -- a command is made, and each node that it names is one of so many
 abbrev pub makes_within : ℕ → Result Command ExpansionFault → Bool

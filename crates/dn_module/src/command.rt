@@ -47,6 +47,13 @@ pub enum Command {
     Split,
     /// The net with a node absorbed.
     Absorb(Target),
+    /// A unit's tables as a tree of pages.
+    Radix {
+        /// The unit.
+        node: Target,
+        /// The most pages that the tree may have.
+        pool: u64,
+    },
 }
 
 /// A node as a command names it.

@@ -95,6 +95,10 @@ pub fn command(alloc: Global, names: &NameTable, order: &Order) -> Result<Comman
         Order::Dump => Ok(Command::Dump),
         Order::Split => Ok(Command::Split),
         Order::Absorb(name) => absorb(alloc, names, name),
+        Order::Radix { node, pool } => {
+            let (node, pool) = asked_target(alloc, names, node, pool)?;
+            Ok(Command::Radix { node, pool })
+        }
     }
 }
 

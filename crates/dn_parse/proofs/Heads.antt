@@ -1,22 +1,24 @@
 -- What is read of each statement is what the machine does with its form.
-use Rattle.std.proofs.Common.{◌≡◌, ◌∙◌, ap, sym, refl, ℕ, suc, Bool, true, false, cond, List, [], ◌∷◌, ◌++◌, length, codes, Option, Some, None, Ok, Err, arith}
+use Rattle.std.proofs.Common.{◌≡◌, ◌∙◌, ap, sym, refl, ℕ, suc, Bool, true, false, cond, not, ◌&&◌, List, [], ◌∷◌, ◌++◌, length, codes, Option, Some, None, Ok, Err, arith}
 use Rattle.dn_parse.specs.declared.syntax.Mode.TheVariants.{Unsaid, Read as ForRead, Write as ForWrite}
+use Rattle.std.proofs.lemmas.Slice.Eq.{bytes_eq-Decides}
 use Rattle.dn_token.specs.declared.token.Keyword.{Keyword}
 use Rattle.dn_token.specs.declared.token.Keyword.TheVariants.{Agent, Vectors, Unit as UnitWord, Module, Use, For, In, End, Begin, Is, Accept, Map, To, And, At, Over, Kind, Page, Slots, Reach, As, Num, Node, Resolve, Lookup, View, Grant, Route, Revoke, Dump, Split, Absorb}
 use Rattle.dn_token.specs.declared.token.Sign.{Sign}
 use Rattle.dn_token.specs.declared.token.Sign.TheVariants.{Comma, OpenParenthesis, CloseParenthesis, Dots}
 use Rattle.dn_token.specs.Token.{Lexeme, Token, word, keyword, number, sign}
 use Rattle.dn_parse.specs.Tree.{Expression, Part, Role, plain_role, agent_role, vectors_role, Spec, Param, Arg, number_arg, node_arg, Declaration, node, unit, Order, revoke, absorb, Statement, declares, heads_module, uses, orders}
-use Rattle.dn_parse.specs.Actions.{Value, Action, perform, text, expression, name, names, spec, param, params, arg, args, mode, statement, first_item, next_item, make_number_param, make_node_param, no_params, make_number_arg, make_node_arg, no_args, make_plain, make_agent, make_vectors, make_unit, make_module, make_use, make_loop, make_end, make_begin, no_access, for_read, for_write, make_resolve, make_lookup, make_view, make_grant, make_route, make_revoke, make_dump, make_split, make_absorb}
-use Rattle.dn_parse.specs.Forms.{Form, takes, does, either, a_word, any_word, the_keyword, the_sign, is, is_sign}
+use Rattle.dn_parse.specs.Actions.{Value, Action, perform, text, expression, name, names, spec, param, params, arg, args, mode, statement, put_word, make_part, first_item, next_item, make_number_param, make_node_param, no_params, make_number_arg, make_node_arg, no_args, make_plain, make_agent, make_vectors, make_unit, make_module, make_use, make_loop, make_end, make_begin, no_access, for_read, for_write, make_resolve, make_lookup, make_view, make_grant, make_route, make_revoke, make_dump, make_split, make_absorb, make_radix}
+use Rattle.dn_parse.specs.Forms.{Form, takes, does, either, one_of, Sort, a_word, a_node_word, any_word, the_keyword, the_sign, is, is_sign, is_command_word, values_with_token}
 use Rattle.dn_parse.specs.Forms.{and_then as both}
-use Rattle.dn_parse.specs.Syntax.{the, this, mark, factor, term, expr, part_form, name_form, spec_form, more_names, param_form, more_params, params_form, arg_form, more_args, args_form, plain_form, agent_form, vectors_form, unit_form, module_form, use_form, loop_form, access_form, maybe_access, command_form, statement_form}
+use Rattle.dn_parse.specs.Syntax.{the, this, mark, factor, term, expr, part_form, name_form, spec_form, more_names, param_form, more_params, params_form, arg_form, more_args, args_form, plain_form, agent_form, vectors_form, unit_form, module_form, use_form, loop_form, access_form, maybe_access, command_form, radix_form, part_by, name_by, plain_by, index, more_parts, minus_expr, more_terms, more_factors, accept, map_form, over, block_form, upper_bound, more_blocks, entry_form, more_entries, dest_form, at_addr, more_dests, statement_form}
 use Rattle.dn_parse.specs.Machine.{Move, to, skips, refuses, move_of_token, move_and_then, move_or_else, move, Fed, on, stuck, fed_by_move, inside, run, go, feed, refused}
-use Rattle.dn_parse.specs.Descent.{and_then, if_there, Read, Reader, sign_at, keyword_at, word_at, any_word_at, row, with_front, after_sign, after_keyword, the_word_at, name_at, expr_at, spec_at, param_at, next_param_at, params_at, closed_params_at, arg_at, next_arg_at, args_at, closed_args_at, next_port_at, ports_at, node_at, measure_at, unit_declaration_at, module_at, use_at, loop_at, mode_at, access_at, resolve_at, lookup_at, view_at, grant_at, route_at, order_at, as_declared, keyword_statement_at, statement_by, statement_at}
+use Rattle.dn_parse.specs.Descent.{and_then, if_there, Read, Reader, sign_at, keyword_at, word_at, any_word_at, row, with_front, after_sign, after_keyword, the_word_at, name_at, expr_at, spec_at, param_at, next_param_at, params_at, closed_params_at, arg_at, next_arg_at, args_at, closed_args_at, next_port_at, ports_at, node_at, measure_at, unit_declaration_at, module_at, use_at, loop_at, mode_at, access_at, resolve_at, lookup_at, view_at, grant_at, route_at, radix_at, order_at, as_declared, as_ordered, keyword_statement_at, is_free, begins_word, begins_order, word_statement_at, statement_by, statement_at}
 use Rattle.dn_parse.proofs.Does.{Does, Row, does_by, seq, pass, last, act, keyword_after, sign_after, word_does, any_word_does, if_keyword, if_word, the_word_after, seq_on, does_same, assoc, most_row_does}
 use Rattle.dn_parse.proofs.Readers.{bind_same, sign_row, row_read, expr_read, expr_does, name_read, name_does, spec_does}
-use Rattle.dn_parse.proofs.Sets.{keyword_is, sign_is}
-use Rattle.dn_parse.proofs.Turns.{run_fed}
+use Rattle.dn_parse.proofs.Sets.{may_skip, starts, fits, among, one_left, keyword_is, sign_is}
+use Rattle.dn_parse.proofs.Begins.{at_start, at_other}
+use Rattle.dn_parse.proofs.Turns.{run_fed, run_then, run_does, run_first, run_second}
 
 -- a value made of what was read
 pub mapped : {X Y : Type 0} {f : Form} {n m : ℕ} {ts : List Token} {ws : List Value} (val : Y → Value) (g : X → Y) (r : Read X) → Does f n m ts ws (λ x. val (g x)) r → Does f n m ts ws val (and_then r (λ p. Ok (g p.0, p.1)))
@@ -241,6 +243,13 @@ route_does : (ts : List Token) → Does (both (takes a_word) (both name_form (bo
 unfolding route_at
 route_does ts = seq (word_at ts) _ (word_does 0 ts) (λ w r. seq (name_at 32 r) _ (name_does r) (λ a r1. seq (expr_at 32 r1) _ (expr_does r1) (λ x r2. seq (name_at 32 r2) _ (name_does r2) (λ n r3. last _ make_route (λ vs. refl)))))
 
+abbrev after_radix : Form
+after_radix = both name_form (both expr (does make_radix))
+
+radix_does : (ts : List Token) → Does after_radix 0 0 ts [] ordered (radix_at ts)
+unfolding radix_at
+radix_does ts = seq (name_at 32 ts) _ (name_does ts) (λ n r. seq (expr_at 32 r) _ (expr_does r) (λ e r1. last _ make_radix (λ vs. refl)))
+
 revoke_does : (ts : List Token) → Does (both (takes a_word) (does make_revoke)) 0 0 ts [] ordered (and_then (word_at ts) (λ w. Ok (revoke w.0, w.1)))
 revoke_does ts = seq (word_at ts) _ (word_does 0 ts) (λ w r. last _ make_revoke (λ vs. refl))
 
@@ -254,9 +263,42 @@ refused_word l t ts e h = record { it = λ line k vs. ap (λ u. go (feed (statem
 order_word : (f : Form) (j : Keyword) (t : Token) (ts : List Token) (r : Read Order) → t.lexeme ≡ keyword j → ((k : List Form) (vs : List Value) → feed (statement_form ∷ k) vs (keyword j) ≡ on (f ∷ k) vs) → Does f 0 0 ts [] ordered r → Does statement_form 0 0 (t ∷ ts) [] statement (and_then r (λ o. Ok (orders o.0, o.1)))
 order_word f j t ts r e h d = by_word f j t ts (and_then r (λ o. Ok (orders o.0, o.1))) e h (mapped statement orders r d)
 
-plain_first : (w : List ℕ) (t : Token) (ts : List Token) → t.lexeme ≡ word w → (line : ℕ) (k : List Form) (vs : List Value) → run (inside line 0 (statement_form ∷ k) vs) (t ∷ ts) ≡ run (inside line 0 (node_rest make_plain ∷ k) vs) (t ∷ ts)
-unfolding statement_form plain_form agent_form vectors_form unit_form module_form use_form loop_form command_form name_form part_form
-plain_first w t ts e line k vs = run_fed line 0 (statement_form ∷ k) (node_rest make_plain ∷ k) vs vs t ts (ap (feed (statement_form ∷ k) vs) e ∙ ap (feed (node_rest make_plain ∷ k) vs) (sym e))
+-- a node by the form of the first word of its name: that form, and what follows it
+abbrev after_first_word : List Form → List Form
+after_first_word k = both index (does make_part) ∷ both (does first_item) more_parts ∷ both (the Is) (both spec_form (does make_plain)) ∷ k
+
+plain_parts : (f : Form) (line : ℕ) (k : List Form) (vs : List Value) (ts : List Token) → run (inside line 0 (plain_by f ∷ k) vs) ts ≡ run (inside line 0 (f ∷ after_first_word k) vs) ts
+plain_parts f line k vs ts = run_then line 0 (name_by f) _ k vs ts ∙ run_then line 0 (part_by f) _ _ vs ts ∙ run_then line 0 f _ _ vs ts
+
+word_taken : (s : Sort) (w : List ℕ) (t : Token) (ts : List Token) → t.lexeme ≡ word w → is s (word w) ≡ true → (line : ℕ) (k : List Form) (vs : List Value) → values_with_token s (word w) vs ≡ text w ∷ vs → run (inside line 0 (takes s ∷ k) vs) (t ∷ ts) ≡ run (inside line 0 k (text w ∷ vs)) ts
+word_taken s w t ts e h line k vs q =
+    ap (λ l. go (feed (takes s ∷ k) vs l) line 0 l (suc (length ts)) (λ p. run p ts)) e
+    ∙ ap (λ b. go (fed_by_move (move_of_token b [] (values_with_token s (word w) vs)) k (λ us. feed k us (word w))) line 0 (word w) (suc (length ts)) (λ p. run p ts)) h
+    ∙ ap (λ us. run (inside line 0 k us) ts) q
+
+-- a name begins with this word
+node_first : (w : List ℕ) (t : Token) (ts : List Token) → t.lexeme ≡ word w → (line : ℕ) (k : List Form) (vs : List Value) → run (inside line 0 (node_rest make_plain ∷ k) vs) (t ∷ ts) ≡ run (inside line 0 (after_first_word k) (text w ∷ vs)) ts
+unfolding name_form part_form
+node_first w t ts e line k vs = plain_parts (takes a_word) line k vs (t ∷ ts) ∙ word_taken a_word w t ts e refl line (after_first_word k) vs refl
+
+-- a word that begins no command
+plain_fits : fits plain_form ≡ true
+unfolding plain_form index expr term factor minus_expr more_terms more_factors more_parts part_form spec_form accept map_form over block_form upper_bound more_blocks entry_form more_entries dest_form at_addr more_dests name_form
+plain_fits = refl
+
+abbrev other_forms : Form
+other_forms = one_of agent_form (vectors_form ∷ unit_form ∷ module_form ∷ use_form ∷ loop_form ∷ both (the End) (does make_end) ∷ both (the Begin) (does make_begin) ∷ command_form ∷ radix_form ∷ [])
+
+node_word_first : (w : List ℕ) (t : Token) (ts : List Token) → t.lexeme ≡ word w → is_command_word w ≡ false → (line : ℕ) (k : List Form) (vs : List Value) → run (inside line 0 (statement_form ∷ k) vs) (t ∷ ts) ≡ run (inside line 0 (node_rest make_plain ∷ k) vs) (t ∷ ts)
+unfolding statement_form plain_form
+node_word_first w t ts e h line k vs =
+    let is_one : is a_node_word (word w) ≡ true = ap not h in
+    let begins : among (starts plain_form) t.lexeme ≡ true = ap (among (starts plain_form)) e ∙ one_left (is a_node_word (word w)) false is_one in
+    let p = at_start plain_form plain_fits vs t.lexeme begins in
+    run_first line 0 plain_form other_forms k p.next vs p.values t ts p.taking
+    ∙ plain_parts (takes a_node_word) line k vs (t ∷ ts)
+    ∙ word_taken a_node_word w t ts e is_one line (after_first_word k) vs refl
+    ∙ sym (node_first w t ts e line k vs)
 
 -- what may follow a reserved word with which a statement begins
 abbrev head : Keyword → Option Form
@@ -284,7 +326,7 @@ by_head (Some f) k vs = on (f ∷ k) vs
 by_head None k vs = stuck
 
 feeds : (j : Keyword) (k : List Form) (vs : List Value) → feed (statement_form ∷ k) vs (keyword j) ≡ by_head (head j) k vs
-unfolding statement_form plain_form agent_form vectors_form unit_form module_form use_form loop_form command_form name_form part_form
+unfolding statement_form plain_form agent_form vectors_form unit_form module_form use_form loop_form command_form radix_form name_form part_form
 feeds Agent k vs = refl
 feeds Vectors k vs = refl
 feeds UnitWord k vs = refl
@@ -319,11 +361,11 @@ feeds Split k vs = refl
 feeds Absorb k vs = refl
 
 feeds_number : (x : ℕ) (k : List Form) (vs : List Value) → feed (statement_form ∷ k) vs (number x) ≡ stuck
-unfolding statement_form plain_form agent_form vectors_form unit_form module_form use_form loop_form command_form name_form part_form
+unfolding statement_form plain_form agent_form vectors_form unit_form module_form use_form loop_form command_form radix_form name_form part_form
 feeds_number x k vs = refl
 
 feeds_sign : (s : Sign) (k : List Form) (vs : List Value) → feed (statement_form ∷ k) vs (sign s) ≡ stuck
-unfolding statement_form plain_form agent_form vectors_form unit_form module_form use_form loop_form command_form name_form part_form
+unfolding statement_form plain_form agent_form vectors_form unit_form module_form use_form loop_form command_form radix_form name_form part_form
 feeds_sign s k vs = refl
 
 keyword_token : (j : Keyword) (t : Token) (ts : List Token) → t.lexeme ≡ keyword j → Does statement_form 0 0 (t ∷ ts) [] statement (keyword_statement_at j (t ∷ ts) ts)
@@ -361,8 +403,63 @@ keyword_token Dump t ts e = order_word (does make_dump) Dump t ts _ e (feeds Dum
 keyword_token Split t ts e = order_word (does make_split) Split t ts _ e (feeds Split) (last _ make_split (λ vs. refl))
 keyword_token Absorb t ts e = order_word (both name_form (does make_absorb)) Absorb t ts _ e (feeds Absorb) (name_order make_absorb absorb (λ n vs. refl) ts)
 
+-- a word that begins a command, where a word follows it
+abbrev radix_node : Form
+radix_node = plain_by (does (put_word (codes "radix")))
+
+abbrev radix_rest : Form
+radix_rest = either after_radix radix_node
+
+radix_begins : (l : Lexeme) → among (starts after_radix) l ≡ is_free l
+unfolding name_form part_form
+radix_begins (word w) = refl
+radix_begins (keyword j) = refl
+radix_begins (number x) = refl
+radix_begins (sign s) = refl
+
+radix_fits : fits after_radix ≡ true
+unfolding name_form part_form more_parts index expr term factor minus_expr more_terms more_factors
+radix_fits = refl
+
+radix_needed : may_skip after_radix ≡ false
+unfolding name_form part_form
+radix_needed = refl
+
+feeds_radix : (k : List Form) (vs : List Value) → feed (statement_form ∷ k) vs (word (codes "radix")) ≡ on (radix_rest ∷ k) vs
+unfolding statement_form plain_form agent_form vectors_form unit_form module_form use_form loop_form command_form radix_form name_form part_form
+feeds_radix k vs = refl
+
+command_word_first : (w : List ℕ) (t : Token) (ts : List Token) → t.lexeme ≡ word w → is_command_word w ≡ true → (line : ℕ) (k : List Form) (vs : List Value) → run (inside line 0 (statement_form ∷ k) vs) (t ∷ ts) ≡ run (inside line 0 (radix_rest ∷ k) vs) ts
+command_word_first w t ts e h line k vs =
+    ap (λ u. go (feed (statement_form ∷ k) vs u) line 0 u (suc (length ts)) (λ p. run p ts)) (e ∙ ap word ((bytes_eq-Decides w (codes "radix")).0 h))
+    ∙ ap (λ (x : Fed). go x line 0 (word (codes "radix")) (suc (length ts)) (λ p. run p ts)) (feeds_radix k vs)
+
+order_there : (ts : List Token) → begins_word ts ≡ true → (line : ℕ) (k : List Form) (vs : List Value) → run (inside line 0 (radix_rest ∷ k) vs) ts ≡ run (inside line 0 (after_radix ∷ k) vs) ts
+order_there [] b line k vs = cc
+order_there (u ∷ us) b line k vs =
+    let p = at_start after_radix radix_fits vs u.lexeme (radix_begins u.lexeme ∙ b) in
+    run_first line 0 after_radix radix_node k p.next vs p.values u us p.taking
+
+node_there : (ts : List Token) → begins_word ts ≡ false → (line : ℕ) (k : List Form) (vs : List Value) → run (inside line 0 (radix_rest ∷ k) vs) ts ≡ run (inside line 0 (after_first_word k) (text (codes "radix") ∷ vs)) ts
+node_there [] b line k vs = refl
+node_there (u ∷ us) b line k vs =
+    run_second line 0 after_radix radix_node k vs u us ((at_other after_radix radix_fits vs u.lexeme (radix_begins u.lexeme ∙ b)).refused radix_needed)
+    ∙ plain_parts (does (put_word (codes "radix"))) line k vs (u ∷ us)
+    ∙ run_does line 0 (put_word (codes "radix")) (after_first_word k) vs (u ∷ us)
+
+abbrev plain_node : List Token → Read Statement
+plain_node ts = as_declared (node_at plain_role ts)
+
+word_token : (w : List ℕ) (t : Token) (ts : List Token) → t.lexeme ≡ word w → (c b : Bool) → is_command_word w ≡ c → begins_word ts ≡ b → Does statement_form 0 0 (t ∷ ts) [] statement (cond (c && b) (as_ordered (radix_at ts)) (plain_node (t ∷ ts)))
+word_token w t ts e false b h q = does_by statement_form (node_rest make_plain) 0 0 0 (t ∷ ts) (t ∷ ts) [] [] statement (plain_node (t ∷ ts)) (λ line k vs. node_word_first w t ts e h line k vs) (omega arith) (node_does plain_role make_plain (λ n s vs. refl) (t ∷ ts))
+word_token w t ts e true true h q = does_by statement_form after_radix 0 0 0 (t ∷ ts) ts [] [] statement (as_ordered (radix_at ts)) (λ line k vs. command_word_first w t ts e h line k vs ∙ order_there ts q line k vs) (omega arith) (mapped statement orders (radix_at ts) (radix_does ts))
+word_token w t ts e true false h q =
+    let word_is : w ≡ codes "radix" = (bytes_eq-Decides w (codes "radix")).0 h in
+    does_by statement_form (node_rest make_plain) 0 0 0 (t ∷ ts) (t ∷ ts) [] [] statement (plain_node (t ∷ ts)) (λ line k vs. command_word_first w t ts e h line k vs ∙ node_there ts q line k vs ∙ sym (node_first (codes "radix") t ts (e ∙ ap word word_is) line k vs)) (omega arith) (node_does plain_role make_plain (λ n s vs. refl) (t ∷ ts))
+
 by_token : (l : Lexeme) (t : Token) (ts : List Token) → t.lexeme ≡ l → Does statement_form 0 0 (t ∷ ts) [] statement (statement_by l (t ∷ ts) ts)
-by_token (word w) t ts e = does_by statement_form (node_rest make_plain) 0 0 0 (t ∷ ts) (t ∷ ts) [] [] statement (as_declared (node_at plain_role (t ∷ ts))) (λ line k vs. plain_first w t ts e line k vs) (omega arith) (node_does plain_role make_plain (λ n s vs. refl) (t ∷ ts))
+unfolding word_statement_at
+by_token (word w) t ts e = word_token w t ts e (is_command_word w) (begins_word ts) refl refl
 by_token (keyword j) t ts e = keyword_token j t ts e
 by_token (number x) t ts e = refused_word (number x) t ts e (feeds_number x)
 by_token (sign s) t ts e = refused_word (sign s) t ts e (feeds_sign s)

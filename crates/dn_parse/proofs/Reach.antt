@@ -8,7 +8,7 @@ use Rattle.dn_token.specs.declared.token.Sign.TheVariants.{Semicolon, OpenParent
 use Rattle.dn_token.specs.Token.{Lexeme, Token, word, keyword, number, sign}
 use Rattle.dn_parse.specs.Tree.{Placed, constant}
 use Rattle.dn_parse.specs.Actions.{Value, perform, expression}
-use Rattle.dn_parse.specs.Forms.{Form, takes, does, and_then, either, many, parenthesised, Sort, a_word, any_word, a_number, the_word, the_keyword, the_sign, is, is_sign, values_with_token, Spells}
+use Rattle.dn_parse.specs.Forms.{Form, takes, does, and_then, either, many, parenthesised, Sort, a_word, a_node_word, any_word, a_number, the_word, the_keyword, the_sign, is, is_sign, values_with_token, Spells}
 use Rattle.dn_parse.specs.Syntax.{SpellsText, statement_form, statement_of, Parenthesised, after_open, expr, term, factor, minus_expr, more_terms, more_factors}
 use Rattle.dn_parse.specs.Machine.{Fed, on, over, stuck, feed, Stop, whole, refused, deep, Outcome, ReadingPlace, between, inside, run, go, go_in, is_deep, parentheses}
 use Rattle.dn_parse.proofs.Counted.{opened}
@@ -43,6 +43,7 @@ same_number n = eq-eqb n n refl
 
 takes_example : (s : Sort) (vs : List Value) → Example (takes s) vs
 takes_example a_word vs = one_token a_word (word []) vs refl
+takes_example a_node_word vs = one_token a_node_word (word []) vs refl
 takes_example any_word vs = one_token any_word (word []) vs refl
 takes_example a_number vs = one_token a_number (number 0) vs refl
 takes_example (the_word w) vs = one_token (the_word w) (word w) vs ((bytes_eq-Decides w w).1 refl)

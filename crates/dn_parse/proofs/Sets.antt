@@ -10,7 +10,7 @@ use Rattle.dn_token.specs.declared.token.Sign.{Sign}
 use Rattle.dn_token.specs.declared.token.Sign.TheVariants.{OpenParenthesis}
 use Rattle.dn_token.specs.Token.{Lexeme, Token, word, keyword, number, sign}
 use Rattle.dn_parse.specs.Actions.{Value, perform}
-use Rattle.dn_parse.specs.Forms.{Form, takes, does, and_then, either, many, parenthesised, Sort, a_word, any_word, a_number, the_word, the_keyword, the_sign, is_any, is_the_word, is_keyword, is_sign, is}
+use Rattle.dn_parse.specs.Forms.{Form, takes, does, and_then, either, many, parenthesised, Sort, a_word, a_node_word, any_word, a_number, the_word, the_keyword, the_sign, is_command_word, is_any, is_the_word, is_keyword, is_sign, is}
 use Rattle.dn_parse.proofs.Taken.{Inner}
 
 -- whether a form may be left out
@@ -56,9 +56,15 @@ abbrev pub is_wordy : Sort → Bool
 is_wordy (the_keyword k) = true
 is_wordy s = is_free_word s
 
+-- it has words that are not reserved and begin no command
+abbrev pub is_for_nodes : Sort → Bool
+is_for_nodes (the_word v) = not (is_command_word v)
+is_for_nodes s = is_free_word s
+
 -- two sorts of tokens have a token in common
 abbrev pub meets : Sort → Sort → Bool
 meets a_word u = is_free_word u
+meets a_node_word u = is_for_nodes u
 meets any_word u = is_wordy u
 meets a_number u = is u (number 0)
 meets (the_word w) u = is u (word w)
@@ -163,14 +169,25 @@ sign_is s (sign u) e = ap sign (same_true the_signs tt u s e)
 -- two sorts of one token meet
 free_word : (u : Sort) (w : List ℕ) → is u (word w) ≡ true → is_free_word u ≡ true
 free_word a_word w e = refl
+free_word a_node_word w e = refl
 free_word any_word w e = refl
 free_word a_number w e = cc
 free_word (the_word v) w e = refl
 free_word (the_keyword k) w e = cc
 free_word (the_sign s) w e = cc
 
+node_word : (u : Sort) (w : List ℕ) → not (is_command_word w) ≡ true → is u (word w) ≡ true → is_for_nodes u ≡ true
+node_word a_word w e f = refl
+node_word a_node_word w e f = refl
+node_word any_word w e f = refl
+node_word a_number w e f = cc
+node_word (the_word v) w e f = subst (λ (x : List ℕ). not (is_command_word x) ≡ true) ((bytes_eq-Decides w v).0 f) e
+node_word (the_keyword k) w e f = cc
+node_word (the_sign s) w e f = cc
+
 wordy : (u : Sort) (l : Lexeme) → is_any l ≡ true → is u l ≡ true → is_wordy u ≡ true
 wordy a_word l e f = refl
+wordy a_node_word l e f = refl
 wordy any_word l e f = refl
 wordy a_number (word w) e f = cc
 wordy a_number (keyword k) e f = cc
@@ -185,6 +202,7 @@ wordy (the_sign s) (sign x) e f = cc
 
 number_alike : (u : Sort) (n : ℕ) → is u (number n) ≡ is u (number 0)
 number_alike a_word n = refl
+number_alike a_node_word n = refl
 number_alike any_word n = refl
 number_alike a_number n = refl
 number_alike (the_word w) n = refl
@@ -196,6 +214,10 @@ common a_word u (word w) e f = free_word u w f
 common a_word u (keyword k) e f = cc
 common a_word u (number n) e f = cc
 common a_word u (sign x) e f = cc
+common a_node_word u (word w) e f = node_word u w e f
+common a_node_word u (keyword k) e f = cc
+common a_node_word u (number n) e f = cc
+common a_node_word u (sign x) e f = cc
 common any_word u l e f = wordy u l e f
 common a_number u (word w) e f = cc
 common a_number u (keyword k) e f = cc

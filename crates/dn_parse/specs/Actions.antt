@@ -2,7 +2,7 @@
 use Rattle.std.specs.Prelude.{ℕ, List, [], ◌∷◌, ◌++◌, Option, Some, None}
 use Rattle.dn_parse.specs.declared.syntax.Mode.{Mode}
 use Rattle.dn_parse.specs.declared.syntax.Mode.TheVariants.{Unsaid, Read, Write}
-use Rattle.dn_parse.specs.Tree.{Expression, variable, sum, product, minus, expressions, Part, Block, Dest, Entry, plain_role, agent_role, vectors_role, Spec, Param, number_param, node_param, Arg, number_arg, node_arg, node, unit, resolve, lookup, view, grant, route, revoke, dump, split, absorb, Statement, declares, heads_module, uses, heads_loop, ends, begins, orders}
+use Rattle.dn_parse.specs.Tree.{Expression, variable, sum, product, minus, expressions, Part, Block, Dest, Entry, plain_role, agent_role, vectors_role, Spec, Param, number_param, node_param, Arg, number_arg, node_arg, node, unit, resolve, lookup, view, grant, route, revoke, dump, split, absorb, radix, Statement, declares, heads_module, uses, heads_loop, ends, begins, orders}
 
 -- a value: a part of the tree, or the list of such parts so far
 pub data Value : Type 0 where
@@ -43,6 +43,7 @@ pub data Action : Type 0 where
   keep : Action
   first_item : Action
   next_item : Action
+  put_word : List ℕ → Action
   make_variable : Action
   make_sum : Action
   make_product : Action
@@ -85,6 +86,7 @@ pub data Action : Type 0 where
   make_dump : Action
   make_split : Action
   make_absorb : Action
+  make_radix : Action
 
 -- the list of this part alone
 abbrev pub list_of_one : Value → Value
@@ -115,6 +117,7 @@ abbrev pub perform : Action → List Value → List Value
 perform keep vs = vs
 perform first_item (v ∷ vs) = list_of_one v ∷ vs
 perform next_item (v ∷ list ∷ vs) = with_last list v ∷ vs
+perform (put_word w) vs = text w ∷ vs
 perform make_variable (text w ∷ vs) = expression (variable w) ∷ vs
 perform make_sum (members es ∷ vs) = expression (sum_of_members es) ∷ vs
 perform make_product (members es ∷ vs) = expression (product_of_members es) ∷ vs
@@ -157,4 +160,5 @@ perform make_revoke (text w ∷ vs) = statement (orders (revoke w)) ∷ vs
 perform make_dump vs = statement (orders dump) ∷ vs
 perform make_split vs = statement (orders split) ∷ vs
 perform make_absorb (name n ∷ vs) = statement (orders (absorb n)) ∷ vs
+perform make_radix (expression pool ∷ name n ∷ vs) = statement (orders (radix n pool)) ∷ vs
 perform a vs = vs

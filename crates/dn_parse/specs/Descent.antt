@@ -1,5 +1,5 @@
 -- Each part of the whole grammar, read from the front of a list of tokens: its value and the tokens after it, or where the reading stops.
-use Rattle.std.specs.Prelude.{ℕ, zero, suc, Bool, true, false, if◌then◌else◌, List, [], ◌∷◌, ◌++◌, length, codes, Option, Some, None, Result, Ok, Err}
+use Rattle.std.specs.Prelude.{ℕ, zero, suc, Bool, true, false, if◌then◌else◌, ◌&&◌, not, List, [], ◌∷◌, ◌++◌, length, codes, Option, Some, None, Result, Ok, Err}
 use Rattle.dn_parse.specs.declared.syntax.Mode.{Mode}
 use Rattle.dn_parse.specs.declared.syntax.Mode.TheVariants.{Unsaid, Read as ForRead, Write as ForWrite}
 use Rattle.dn_token.specs.declared.token.Keyword.{Keyword}
@@ -8,9 +8,9 @@ use Rattle.dn_token.specs.declared.token.Sign.{Sign}
 use Rattle.dn_token.specs.declared.token.Sign.TheVariants.{Semicolon, Comma, OpenBracket, CloseBracket, OpenParenthesis, CloseParenthesis, Minus, Plus, Times, Dot, Dots}
 use Rattle.dn_token.specs.Token.{Lexeme, Token, word, keyword, number, sign}
 use Rattle.dn_token.specs.Words.{spelling}
-use Rattle.dn_parse.specs.Tree.{Expression, constant, variable, minus, Part, Block, Dest, Entry, Role, plain_role, agent_role, vectors_role, Spec, Param, number_param, node_param, Arg, number_arg, node_arg, Declaration, node, unit, Order, resolve, lookup, view, grant, route, revoke, dump, split, absorb, Statement, declares, heads_module, uses, heads_loop, ends, begins, orders}
+use Rattle.dn_parse.specs.Tree.{Expression, constant, variable, minus, Part, Block, Dest, Entry, Role, plain_role, agent_role, vectors_role, Spec, Param, number_param, node_param, Arg, number_arg, node_arg, Declaration, node, unit, Order, resolve, lookup, view, grant, route, revoke, dump, split, absorb, radix, Statement, declares, heads_module, uses, heads_loop, ends, begins, orders}
 use Rattle.dn_parse.specs.Actions.{sum_of_members, product_of_members}
-use Rattle.dn_parse.specs.Forms.{is_sign, is_keyword, is_the_word}
+use Rattle.dn_parse.specs.Forms.{is_sign, is_keyword, is_the_word, is_command_word}
 use Rattle.dn_parse.specs.Machine.{Stop, refused, deep}
 
 -- what follows a part that is read; a stop is final
@@ -469,6 +469,13 @@ route_at ts = do
   name ← name_at 32 line.1
   Ok (route id.0 agent.0 line.0 name.0, name.1)
 
+-- name expr
+unfoldable pub radix_at : Reader Order
+radix_at ts = do
+  name ← name_at 32 ts
+  pool ← expr_at 32 name.1
+  Ok (radix name.0 pool.0, pool.1)
+
 -- the command that this reserved word begins
 unfoldable pub order_at : Keyword → List Token → Reader Order
 order_at Resolve ts rest = resolve_at rest
@@ -486,6 +493,10 @@ order_at _ ts rest = refuses_at ts
 abbrev pub as_declared : Read Declaration → Read Statement
 as_declared r = r >>= λ d. Ok (declares d.0, d.1)
 
+-- a command as a statement
+abbrev pub as_ordered : Read Order → Read Statement
+as_ordered r = r >>= λ o. Ok (orders o.0, o.1)
+
 -- the statement that this reserved word begins
 unfoldable pub keyword_statement_at : Keyword → List Token → Reader Statement
 keyword_statement_at Agent ts rest = as_declared (node_at agent_role rest)
@@ -496,14 +507,7 @@ keyword_statement_at Use ts rest = use_at rest
 keyword_statement_at For ts rest = loop_at rest
 keyword_statement_at End ts rest = Ok (ends, rest)
 keyword_statement_at Begin ts rest = Ok (begins, rest)
-keyword_statement_at k ts rest = order_at k ts rest >>= λ o. Ok (orders o.0, o.1)
-
--- the statement that begins with this lexeme
-abbrev pub statement_by : Lexeme → List Token → Reader Statement
-statement_by (word w) ts rest = as_declared (node_at plain_role ts)
-statement_by (keyword k) ts rest = keyword_statement_at k ts rest
-statement_by (number n) ts rest = refuses_at ts
-statement_by (sign s) ts rest = refuses_at ts
+keyword_statement_at k ts rest = as_ordered (order_at k ts rest)
 
 -- a word that is not reserved
 abbrev pub is_free : Lexeme → Bool
@@ -516,6 +520,33 @@ is_free (sign s) = false
 abbrev pub begins_word : List Token → Bool
 begins_word [] = false
 begins_word (t ∷ ts) = is_free t.lexeme
+
+-- this word, which is not reserved, begins a command: it is the word of one, and a word follows it
+abbrev pub begins_order : List ℕ → List Token → Bool
+begins_order w rest = is_command_word w && begins_word rest
+
+-- the statement that this word begins, which is not reserved: a command, or the declaration of a node
+unfoldable pub word_statement_at : List ℕ → List Token → Reader Statement
+word_statement_at w ts rest = if begins_order w rest then as_ordered (radix_at rest) else as_declared (node_at plain_role ts)
+
+-- the statement that begins with this lexeme
+abbrev pub statement_by : Lexeme → List Token → Reader Statement
+statement_by (word w) ts rest = word_statement_at w ts rest
+statement_by (keyword k) ts rest = keyword_statement_at k ts rest
+statement_by (number n) ts rest = refuses_at ts
+statement_by (sign s) ts rest = refuses_at ts
+
+-- a lexeme with which the declaration of a node begins, as its name does
+abbrev pub is_node_start : Lexeme → List Token → Bool
+is_node_start (word w) rest = not (begins_order w rest)
+is_node_start (keyword k) rest = false
+is_node_start (number n) rest = false
+is_node_start (sign s) rest = false
+
+-- the first tokens are those with which the declaration of a node begins, as its name does
+abbrev pub begins_node : List Token → Bool
+begins_node [] = false
+begins_node (t ∷ ts) = is_node_start t.lexeme ts
 
 -- a statement without its `;`
 unfoldable pub statement_at : Reader Statement

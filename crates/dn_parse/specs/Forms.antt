@@ -1,5 +1,5 @@
 -- What a grammar is made of, and what it is to spell a form: the tokens, and what they add to the values of the tree.
-use Rattle.std.specs.Prelude.{◌≡◌, ◌⊎◌, ℕ, zero, suc, Bool, true, false, List, [], ◌∷◌, ◌++◌}
+use Rattle.std.specs.Prelude.{◌≡◌, ◌⊎◌, ℕ, zero, suc, Bool, true, false, not, List, [], ◌∷◌, ◌++◌, codes}
 use Rattle.std.specs.Str.{bytes_eq}
 use Rattle.dn_token.specs.declared.token.Keyword.{Keyword}
 use Rattle.dn_token.specs.declared.token.Sign.{Sign}
@@ -8,9 +8,15 @@ use Rattle.dn_parse.specs.Actions.{Action, Value, perform, text, expression}
 use Rattle.dn_token.specs.Words.{same_keyword, same_sign, spelling}
 use Rattle.dn_parse.specs.Tree.{constant}
 
--- the sorts of tokens: a word that is not reserved, a word of either sort, a number, one word that is not reserved, one reserved word, one sign
+-- a word that is not reserved and that begins a command where a word follows it
+abbrev pub is_command_word : List ℕ → Bool
+is_command_word w = bytes_eq w (codes "radix")
+
+-- the sorts of tokens: a word that is not reserved, such a word that begins no command, a word of either sort, a number,
+-- one word that is not reserved, one reserved word, one sign
 pub data Sort : Type 0 where
   a_word : Sort
+  a_node_word : Sort
   any_word : Sort
   a_number : Sort
   the_word : List ℕ → Sort
@@ -21,6 +27,11 @@ pub data Sort : Type 0 where
 abbrev pub is_word : Lexeme → Bool
 is_word (word w) = true
 is_word _ = false
+
+-- a word that is not reserved and begins no command
+abbrev pub is_node_word : Lexeme → Bool
+is_node_word (word w) = not (is_command_word w)
+is_node_word _ = false
 
 -- a word, reserved or not
 abbrev pub is_any : Lexeme → Bool
@@ -51,6 +62,7 @@ is_sign s _ = false
 -- whether a token is of this sort
 abbrev pub is : Sort → Lexeme → Bool
 is a_word l = is_word l
+is a_node_word l = is_node_word l
 is any_word l = is_any l
 is a_number l = is_number l
 is (the_word w) l = is_the_word w l
@@ -67,6 +79,7 @@ with_text (sign s) vs = vs
 -- what a token of this sort adds to the values
 abbrev pub values_with_token : Sort → Lexeme → List Value → List Value
 values_with_token a_word l vs = with_text l vs
+values_with_token a_node_word l vs = with_text l vs
 values_with_token any_word l vs = with_text l vs
 values_with_token a_number l vs = with_text l vs
 values_with_token (the_word w) l vs = vs

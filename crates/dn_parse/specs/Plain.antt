@@ -1,7 +1,7 @@
 -- Commands whose parts have their values as they stand.
 use Rattle.std.specs.Prelude.{Bool, true, false, ◌&&◌, List, Option, None, Some}
 use Rattle.std.specs.List.{list_all}
-use Rattle.dn_parse.specs.Tree.{Command, Expression, constant, variable, sum, product, minus, Part, Order, resolve, lookup, view, grant, route, revoke, dump, split, absorb}
+use Rattle.dn_parse.specs.Tree.{Command, Expression, constant, variable, sum, product, minus, Part, Order, resolve, lookup, view, grant, route, revoke, dump, split, absorb, radix}
 
 -- an expression that is a number
 abbrev pub is_constant : Expression → Bool
@@ -31,6 +31,7 @@ is_plain_order (revoke id) = true
 is_plain_order dump = true
 is_plain_order split = true
 is_plain_order (absorb name) = is_constant_name name
+is_plain_order (radix name e) = is_constant_name name && is_constant e
 
 -- commands that are all plain
 abbrev pub are_plain : List Command → Bool

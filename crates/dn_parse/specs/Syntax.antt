@@ -6,8 +6,8 @@ use Rattle.dn_token.specs.declared.token.Sign.{Sign}
 use Rattle.dn_token.specs.declared.token.Sign.TheVariants.{Semicolon, Comma, OpenBracket, CloseBracket, OpenParenthesis, CloseParenthesis, Minus, Plus, Times, Dot, Dots}
 use Rattle.dn_token.specs.Token.{Token, sign}
 use Rattle.dn_parse.specs.Tree.{Statement, Placed, ends}
-use Rattle.dn_parse.specs.Actions.{Value, statement, keep, make_variable, first_item, next_item, make_sum, make_product, make_difference, no_expression, some_expression, make_part, no_name, some_name, make_block, no_blocks, make_dest, make_entry, no_entries, make_spec, make_number_param, make_node_param, no_params, make_number_arg, make_node_arg, no_args, make_plain, make_agent, make_vectors, make_unit, make_module, make_use, make_loop, make_end, make_begin, no_access, for_read, for_write, make_resolve, make_lookup, make_view, make_grant, make_route, make_revoke, make_dump, make_split, make_absorb}
-use Rattle.dn_parse.specs.Forms.{Form, takes, does, many, parenthesised, either, and_then, a_word, any_word, a_number, the_word, the_keyword, the_sign, forms_in_order, one_of, Spells}
+use Rattle.dn_parse.specs.Actions.{Value, statement, keep, make_variable, first_item, next_item, put_word, make_sum, make_product, make_difference, no_expression, some_expression, make_part, no_name, some_name, make_block, no_blocks, make_dest, make_entry, no_entries, make_spec, make_number_param, make_node_param, no_params, make_number_arg, make_node_arg, no_args, make_plain, make_agent, make_vectors, make_unit, make_module, make_use, make_loop, make_end, make_begin, no_access, for_read, for_write, make_resolve, make_lookup, make_view, make_grant, make_route, make_revoke, make_dump, make_split, make_absorb, make_radix}
+use Rattle.dn_parse.specs.Forms.{Form, takes, does, many, parenthesised, either, and_then, a_word, a_node_word, any_word, a_number, the_word, the_keyword, the_sign, forms_in_order, one_of, Spells}
 
 -- one reserved word
 abbrev pub the : Keyword → Form
@@ -70,9 +70,13 @@ perhaps_expr f fs = either (forms_in_order f (expr ∷ fs)) (does no_expression)
 unfoldable pub index : Form
 index = perhaps_expr (mark OpenBracket) (does some_expression ∷ mark CloseBracket ∷ [])
 
+-- word [ "[" expr "]" ], where this form gives the word
+abbrev pub part_by : Form → Form
+part_by f = forms_in_order f (index ∷ does make_part ∷ [])
+
 -- part = word [ "[" expr "]" ]
 unfoldable pub part_form : Form
-part_form = forms_in_order (takes a_word) (index ∷ does make_part ∷ [])
+part_form = part_by (takes a_word)
 
 -- { "." part }
 unfoldable pub more_parts : Form
@@ -81,6 +85,10 @@ more_parts = many (forms_in_order (mark Dot) (part_form ∷ does next_item ∷ [
 -- name = part { "." part }
 unfoldable pub name_form : Form
 name_form = forms_in_order part_form (does first_item ∷ more_parts ∷ [])
+
+-- part { "." part }, where this form gives the first word
+abbrev pub name_by : Form → Form
+name_by f = forms_in_order (part_by f) (does first_item ∷ more_parts ∷ [])
 
 -- [ "-" expr ]
 unfoldable pub upper_bound : Form
@@ -130,9 +138,13 @@ over = either (forms_in_order (the Over) (name_form ∷ does some_name ∷ [])) 
 unfoldable pub spec_form : Form
 spec_form = forms_in_order accept (map_form ∷ over ∷ does make_spec ∷ [])
 
--- plain = name "is" spec
+-- name "is" spec, where this form gives the first word of the name
+abbrev pub plain_by : Form → Form
+plain_by f = forms_in_order (name_by f) (the Is ∷ spec_form ∷ does make_plain ∷ [])
+
+-- plain = name "is" spec, where the first word of the name begins no command
 unfoldable pub plain_form : Form
-plain_form = forms_in_order name_form (the Is ∷ spec_form ∷ does make_plain ∷ [])
+plain_form = plain_by (takes a_node_word)
 
 -- agent = "agent" name "is" spec
 unfoldable pub agent_form : Form
@@ -194,6 +206,15 @@ access_form = forms_in_order (the For) (one_of (forms_in_order (this (codes "rea
 unfoldable pub maybe_access : Form
 maybe_access = either access_form (does no_access)
 
+-- what follows this word, which is not reserved: a form that begins with a word; if no word is there, the rest of
+-- plain = name "is" spec
+abbrev pub after_command_word : List ℕ → Form → Form
+after_command_word w f = forms_in_order (this w) (one_of f (plain_by (does (put_word w)) ∷ []) ∷ [])
+
+-- "radix" name expr
+unfoldable pub radix_form : Form
+radix_form = after_command_word (codes "radix") (forms_in_order name_form (expr ∷ does make_radix ∷ []))
+
 -- command = "resolve" name expr [ access ] | "lookup" name expr [ access ]
 --         | "view" name [ access ]
 --         | "grant" word name name expr expr [ access ]
@@ -214,6 +235,7 @@ command_form =
 
 -- statement = plain | agent | vectors | unit | module | instance | loop
 --           | "end" | "begin" | command
+-- radix_form is the command whose word is not reserved
 unfoldable pub statement_form : Form
 statement_form =
     one_of plain_form
@@ -221,6 +243,7 @@ statement_form =
     ∷ forms_in_order (the End) (does make_end ∷ [])
     ∷ forms_in_order (the Begin) (does make_begin ∷ [])
     ∷ command_form
+    ∷ radix_form
     ∷ [])
 
 -- an expression in parentheses, with fewer than so many open at once in it

@@ -73,6 +73,7 @@ pub data Order : Type 0 where
   dump : Order
   split : Order
   absorb : List Part → Order
+  radix : List Part → Expression → Order
 
 -- the declaration of a node, or of a unit with its kind, page, slots, reach and ports
 pub data Declaration : Type 0 where

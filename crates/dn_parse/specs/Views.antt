@@ -21,7 +21,7 @@ use Rattle.dn_parse.specs.declared.syntax.DeclRole.TheVariants.{Plain, Agent, Ve
 use Rattle.dn_parse.specs.declared.syntax.Decl.{Decl as CodeDeclaration}
 use Rattle.dn_parse.specs.declared.syntax.Decl.TheVariants.{Node, Unit as UnitCase}
 use Rattle.dn_parse.specs.declared.syntax.Order.{Order as CodeOrder}
-use Rattle.dn_parse.specs.declared.syntax.Order.TheVariants.{Resolve, Lookup, View, Grant, Route, Revoke, Dump, Split, Absorb}
+use Rattle.dn_parse.specs.declared.syntax.Order.TheVariants.{Resolve, Lookup, View, Grant, Route, Revoke, Dump, Split, Absorb, Radix}
 use Rattle.dn_parse.specs.declared.statements.Statement.{Statement as CodeStatement}
 use Rattle.dn_parse.specs.declared.statements.Statement.TheVariants.{Decl as DeclCase, Module as ModuleCase, Instance as InstanceCase, Loop as LoopCase, End as EndCase, Begin as BeginCase, Order as OrderCase}
 use Rattle.dn_parse.specs.declared.syntax.Stmt.{Stmt}
@@ -35,7 +35,7 @@ use Rattle.dn_parse.specs.declared.blocks.Opener.TheVariants.{Module as OpenerMo
 use Rattle.dn_parse.specs.declared.blocks.Frame.{Frame as CodeFrame}
 use Rattle.dn_parse.specs.declared.blocks.Blocks.{Blocks as CodeBlocks}
 use Rattle.dn_parse.specs.Whole.{Opener, opens_module, opens_loop, Frame, Blocks}
-use Rattle.dn_parse.specs.Tree.{Expression, constant, variable, sum, product, minus, expressions, Part, Block, Dest, Entry, Role, plain_role, agent_role, vectors_role, Spec, Param, number_param, node_param, Arg, number_arg, node_arg, Declaration, node, unit, Order, resolve, lookup, view, grant, route, revoke, dump, split, absorb, Statement, declares, heads_module, uses, heads_loop, ends, begins, orders, Item, declared, module_of, instance, loop, items, Command, Tree}
+use Rattle.dn_parse.specs.Tree.{Expression, constant, variable, sum, product, minus, expressions, Part, Block, Dest, Entry, Role, plain_role, agent_role, vectors_role, Spec, Param, number_param, node_param, Arg, number_arg, node_arg, Declaration, node, unit, Order, resolve, lookup, view, grant, route, revoke, dump, split, absorb, radix, Statement, declares, heads_module, uses, heads_loop, ends, begins, orders, Item, declared, module_of, instance, loop, items, Command, Tree}
 
 -- one level of an expression, with its parts in their places
 abbrev pub expr_step : Expr-F Expression → Expression
@@ -130,6 +130,7 @@ order_view (Revoke w) = revoke w.now
 order_view Dump = dump
 order_view Split = split
 order_view (Absorb n) = absorb (name_view n)
+order_view (Radix n e) = radix (name_view n) (expr_view e)
 
 -- one statement
 abbrev pub statement_view : CodeStatement → Statement

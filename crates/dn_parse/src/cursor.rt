@@ -3,7 +3,7 @@
 ghost use Rattle.std.specs.Prelude.{◌≡◌, ◌<◌, length, true, Ok, Err, IfOk};
 ghost use Rattle.dn_token.specs.Terms.{cursor_view};
 ghost use Rattle.dn_parse.specs.declared.cursor.Halt.TheVariants.{Refused};
-ghost use Rattle.dn_parse.specs.Terms.{GoesOn, IsShorter, Reads, after_keyword, after_sign, after_word, begins_word, first_line, halt_view, keyword_at, sign_at, the_word_at, word_at};
+ghost use Rattle.dn_parse.specs.Terms.{GoesOn, IsShorter, Reads, after_keyword, after_sign, after_word, begins_node, begins_order, begins_word, first_line, halt_view, keyword_at, sign_at, the_word_at, word_at};
 ghost use Rattle.dn_base.specs.Terms.{Answers};
 
 use dn_token::cursor::Cursor;
@@ -53,13 +53,35 @@ pub fn first_line<'a>(tokens: &Cursor<'a>) -> Option<u32>
 }
 
 /// Whether a word that is not reserved is the next token.
-pub fn at_word<'a>(tokens: &Cursor<'a>) -> bool
+fn at_word<'a>(tokens: &Cursor<'a>) -> bool
     ensures { result ≡ begins_word (cursor_view tokens.now) }
 {
     let Some(token) = tokens.peek() else {
         return false;
     };
     matches!(token.lexeme, Lexeme::Word(_))
+}
+
+/// Whether a command begins with this word, which is not reserved: it is the word of one, and a word
+/// follows it.
+pub fn begins_order<'a>(word: &str, tokens: &Cursor<'a>) -> bool
+    ensures { result ≡ begins_order word.now (cursor_view tokens.now) }
+{
+    word == "radix" && at_word(tokens)
+}
+
+/// Whether the declaration of a node begins here, as its name does: with a word that is not reserved and
+/// that begins no command.
+pub fn at_node<'a>(tokens: &Cursor<'a>) -> bool
+    ensures { result ≡ begins_node (cursor_view tokens.now) }
+{
+    let Some(token) = tokens.peek() else {
+        return false;
+    };
+    let Lexeme::Word(word) = token.lexeme else {
+        return false;
+    };
+    !(word == "radix" && at_word(&tokens.advance()))
 }
 
 /// Whether this sign is the next token; it goes on behind it where it is.

@@ -60,5 +60,6 @@ pub fn is_plain(order: &Order) -> bool
         Order::Dump => true,
         Order::Split => true,
         Order::Absorb(name) => is_constant_name(name.as_slice()),
+        Order::Radix { node, pool } => is_constant_name(node.as_slice()) && is_constant(pool),
     }
 }

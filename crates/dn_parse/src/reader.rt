@@ -3,11 +3,11 @@
 ghost use Rattle.std.specs.Prelude.{◌≡◌, ◌∷◌, [], ◌+◌, ◌^◌, ◌<◌, List, ℕ, length, true, false, Some, Err, IfSome, IfOk, IfErr, MatchOption};
 ghost use Rattle.dn_token.specs.Terms.{cursor_view};
 ghost use Rattle.dn_token.specs.Token.{Token as SpecToken};
-ghost use Rattle.dn_parse.specs.Terms.{IsShorter, at_stop, begins_word, blocks_view, first_line, halt_fault, judge, last_line, line_at, misplaced_fault, no_blocks_yet, parse_fault_view, script_view, text_reading, tree_view, trouble_view, whole, with_commands};
+ghost use Rattle.dn_parse.specs.Terms.{IsShorter, at_stop, begins_node, blocks_view, first_line, halt_fault, judge, last_line, line_at, misplaced_fault, no_blocks_yet, parse_fault_view, script_view, text_reading, tree_view, trouble_view, whole, with_commands};
 ghost use Rattle.dn_base.specs.Terms.{Answers};
 
 use crate::blocks::{Blocks, Misplaced, Trouble};
-use crate::cursor::{Halt, at_word, first_line};
+use crate::cursor::{Halt, at_node, first_line};
 use crate::script::Script;
 use crate::statements::{whole_node, whole_statement};
 use crate::syntax::Tree;
@@ -133,7 +133,7 @@ fn put_node<'a>(
     line: u32,
 ) -> Result<(), Trouble>
     requires begins { first_line (cursor_view tokens.old) ≡ Some line }
-    requires word { begins_word (cursor_view tokens.old) ≡ true }
+    requires word { begins_node (cursor_view tokens.old) ≡ true }
     requires before { blocks.old.begun ≡ false }
     ensures ok { IfOk result (λ _. (last : ℕ) (all : List SpecToken) →
         judge last all (blocks_view blocks.old) (cursor_view tokens.old)
@@ -169,7 +169,7 @@ fn put_next<'a>(
         IfSome (trouble_view e last all)
         (λ f. judge last all (blocks_view blocks.old) (cursor_view tokens.old) ≡ Err f)) }
 {
-    if at_word(tokens) {
+    if at_node(tokens) {
         return put_node(alloc, blocks, tokens, line);
     }
     match whole_statement(alloc, tokens) {

@@ -2,11 +2,12 @@
 
 ghost use Rattle.std.specs.Prelude.{◌≡◌, ◌<◌, true, length, map, IfOk, IfSome};
 ghost use Rattle.dn_token.specs.Terms.{cursor_view};
-ghost use Rattle.dn_parse.specs.Terms.{IsShorter, Reads, ReadsNext, Shortens, access_at, any_word_at, arg_at, arg_view, args_at, as_declared, begins_word, closed_args_at, closed_params_at, command_at, command_view, declaration_view, declares, expr_view, grant_at, keyword_statement_at, lookup_at, loop_at, measure_at, mode_at, module_at, name_view, next_arg_at, next_param_at, next_port_at, node_at, order_at, order_view, param_at, param_view, params_at, ports_at, resolve_at, role_view, route_at, statement_at, statement_view, unit_declaration_at, use_at, view_at, whole_statement_at};
+ghost use Rattle.dn_parse.specs.Terms.{IsShorter, Reads, ReadsNext, Shortens, access_at, any_word_at, arg_at, arg_view, args_at, as_declared, begins_node, closed_args_at, closed_params_at, command_at, command_view, declaration_view, declares, expr_view, grant_at, keyword_statement_at, lookup_at, loop_at, measure_at, mode_at, module_at, name_view, next_arg_at, next_param_at, next_port_at, node_at, order_at, order_view, param_at, param_view, params_at, ports_at, radix_at, resolve_at, role_view, route_at, statement_at, statement_view, unit_declaration_at, use_at, view_at, whole_statement_at, word_statement_at};
 ghost use Rattle.dn_parse.specs.declared.cursor.Halt.TheVariants.{Refused};
 
 use crate::cursor::{
-    Halt, after_keyword, after_sign, after_word, keyword, refusal, sign, the_word, word,
+    Halt, after_keyword, after_sign, after_word, begins_order, keyword, refusal, sign, the_word,
+    word,
 };
 use crate::expressions::expr;
 use crate::listed::{Member, eight_members, members};
@@ -457,6 +458,16 @@ fn route<'a>(alloc: Global, tokens: &mut Cursor<'a>) -> Result<Order<'a>, Halt>
     Ok(Order::Route(Box::new(alloc, route)?))
 }
 
+/// `name expr`, of `radix`
+#[tactic(auto, unfolding(crate::specs::Descent::radix_at))]
+fn radix<'a>(alloc: Global, tokens: &mut Cursor<'a>) -> Result<Order<'a>, Halt>
+    ensures gives { Reads order_view result tokens.new (radix_at (cursor_view tokens.old)) }
+{
+    let node = name(alloc, tokens, MOST_OPEN)?;
+    let pool = expr(alloc, tokens, MOST_OPEN)?;
+    Ok(Order::Radix { node, pool })
+}
+
 /// What follows the word of a command; `whole` begins with the word.
 #[tactic(auto, unfolding(crate::specs::Descent::order_at))]
 fn order<'a>(
@@ -518,6 +529,26 @@ fn keyword_statement<'a>(
     }
 }
 
+/// A statement that begins with a word that is not reserved: a command, or the declaration of a node;
+/// `whole` begins with the word.
+#[tactic(auto, unfolding(crate::specs::Descent::word_statement_at))]
+fn word_statement<'a>(
+    alloc: Global,
+    word: &str,
+    whole: &Cursor<'a>,
+    tokens: &mut Cursor<'a>,
+) -> Result<Statement<'a>, Halt>
+    ensures gives { Reads statement_view result tokens.new
+        (word_statement_at word.now (cursor_view whole.now) (cursor_view tokens.old)) }
+{
+    if begins_order(word, tokens) {
+        let order = radix(alloc, tokens)?;
+        return Ok(Statement::Order(order));
+    }
+    *tokens = *whole;
+    node_statement(alloc, tokens, DeclRole::Plain)
+}
+
 /// A statement, up to its `;`.
 #[tactic(auto, unfolding(crate::specs::Descent::statement_at))]
 fn read_statement<'a>(alloc: Global, tokens: &mut Cursor<'a>) -> Result<Statement<'a>, Halt>
@@ -527,7 +558,11 @@ fn read_statement<'a>(alloc: Global, tokens: &mut Cursor<'a>) -> Result<Statemen
         return Err(refusal(tokens));
     };
     match token.lexeme {
-        Lexeme::Word(_) => node_statement(alloc, tokens, DeclRole::Plain),
+        Lexeme::Word(word) => {
+            let whole = *tokens;
+            tokens.step();
+            word_statement(alloc, word, &whole, tokens)
+        }
         Lexeme::Keyword(word) => {
             let whole = *tokens;
             tokens.step();
@@ -565,7 +600,7 @@ pub fn whole_statement<'a>(alloc: Global, tokens: &mut Cursor<'a>) -> Result<Sta
 /// so that it takes the short way.
 #[tactic(auto, unfolding(crate::specs::Descent::whole_statement_at, crate::specs::Descent::sign_at), using(crate::proofs::Opening::node_begins))]
 pub fn whole_node<'a>(alloc: Global, tokens: &mut Cursor<'a>) -> Result<Decl<'a>, Halt>
-    requires { begins_word (cursor_view tokens.old) ≡ true }
+    requires { begins_node (cursor_view tokens.old) ≡ true }
     ensures gives { Reads (λ d. declares (declaration_view d)) result tokens.new
         (whole_statement_at (cursor_view tokens.old)) }
     ensures shorter { IfOk result (λ _. IsShorter tokens.new tokens.old) }

@@ -154,6 +154,7 @@ pub enum Order<'a> {
     Dump,
     Split,
     Absorb(NameExpr<'a>),
+    Radix { node: NameExpr<'a>, pool: Expr<'a> },
 }
 
 /// What a grant asks for: that an agent reaches addresses of a node.

@@ -1,13 +1,15 @@
 -- The statement of a node as it is printed: its tokens, what is read from them, and the node that this declares.
-use Rattle.std.proofs.Common.{◌≡◌, ◌∙◌, ap, sym, refl, subst, ℕ, ◌+◌, List, [], ◌∷◌, ◌++◌, map, ◌&&◌, codes, Option, Some, None, option_map, Ok, IsTrue, append_assoc}
+use Rattle.std.proofs.Common.{◌≡◌, ◌∙◌, ap, sym, refl, subst, ℕ, ◌+◌, Bool, true, false, cond, not, List, [], ◌∷◌, ◌++◌, map, ◌&&◌, codes, Option, Some, None, option_map, Ok, IsTrue, append_assoc}
 use Rattle.dn_token.specs.declared.token.Keyword.{Keyword}
 use Rattle.dn_token.specs.declared.token.Keyword.TheVariants.{Agent, Vectors, Is, Accept, Map, Over}
-use Rattle.dn_token.specs.declared.token.Sign.TheVariants.{Semicolon, OpenBracket, CloseBracket}
-use Rattle.dn_token.specs.Token.{Token}
+use Rattle.dn_token.specs.declared.token.Sign.TheVariants.{Semicolon, OpenBracket, CloseBracket, Dot}
+use Rattle.dn_token.specs.Token.{Lexeme, Token, word, keyword, number, sign}
 use Rattle.dn_token.specs.Words.{spelling}
 use Rattle.dn_parse.specs.Tree.{Part, Block as BlockOf, Entry as EntryOf, Spec, Role as RoleOf, plain_role, agent_role, vectors_role, Declaration, node, declares}
 use Rattle.dn_token.specs.Going.{tokens_of}
-use Rattle.dn_parse.specs.Descent.{after_sign, after_keyword, sign_at, keyword_at, name_at, blocks_at, entries_at, accept_at, map_at, over_at, spec_at, node_at, keyword_statement_at, statement_at, whole_statement_at}
+use Rattle.dn_parse.specs.Descent.{refuses_at, after, after_sign, after_keyword, sign_at, keyword_at, word_at, row_at, index_at, part_at, next_part_at, name_at, blocks_at, entries_at, accept_at, map_at, over_at, spec_at, node_at, keyword_statement_at, is_free, begins_word, begins_node, statement_at, whole_statement_at}
+use Rattle.dn_parse.specs.Forms.{is_sign, is_keyword, is_command_word}
+use Rattle.dn_parse.proofs.Opening.{node_begins}
 use Rattle.dn_token.proofs.Lexed.{with_tokens}
 use Rattle.dn_net.specs.declared.node.Block.{Block}
 use Rattle.dn_net.specs.declared.node.NodeDecl.{NodeDecl}
@@ -271,9 +273,42 @@ pub marked_lexed : (line : ℕ) (p q : List ℕ) (t : Token) (ts : List Token) �
 marked_lexed line p q t ts o rest e =
     ap (tokens_of line) (append_assoc p q rest) ∙ o.it (q ++ rest) ∙ ap (with_tokens (t ∷ [])) e ∙ with_both (t ∷ []) ts (tokens_of (line + 1) rest)
 
+-- no node is declared by a word that a word follows
+none_at_word : (test : Lexeme → Bool) → ((w : List ℕ) → test (word w) ≡ false) → (ts : List Token) → begins_word ts ≡ true → after test ts ≡ None
+none_at_word test never [] h = cc
+none_at_word test never (t ∷ ts) h = go t.lexeme h
+  where
+    go : (l : Lexeme) → is_free l ≡ true → cond (test l) (Some ts) None ≡ None
+    go (word w) e = ap (λ b. cond b (Some ts) None) (never w)
+    go (keyword k) e = cc
+    go (number x) e = cc
+    go (sign s) e = cc
+
+two_words_refused : (role : RoleOf) (line : ℕ) (w : List ℕ) (ts : List Token) → begins_word ts ≡ true → node_at role (word_token line w ∷ ts) ≡ refuses_at ts
+unfolding node_at name_at part_at word_at index_at row_at next_part_at after_sign keyword_at after_keyword
+two_words_refused role line w ts h =
+    let bracket = none_at_word (is_sign OpenBracket) (λ v. refl) ts h in
+    let dot = none_at_word (is_sign Dot) (λ v. refl) ts h in
+    let is = none_at_word (is_keyword Is) (λ v. refl) ts h in
+    rw (bracket, dot, is) refl
+
+-- so where a node is declared, its first word begins no command
+plain_begins : (line : ℕ) (w : List ℕ) (ts after : List Token) (d : Declaration) → node_at plain_role (word_token line w ∷ ts) ≡ Ok (d, after) → begins_node (word_token line w ∷ ts) ≡ true
+plain_begins line w ts after d e = by (begins_word ts) refl
+  where
+    no_command : (b : Bool) → not (b && false) ≡ true
+    no_command true = refl
+    no_command false = refl
+
+    by : (b : Bool) → begins_word ts ≡ b → not (is_command_word w && b) ≡ true
+    by true h = let refused = sym (two_words_refused plain_role line w ts h) ∙ e in cc
+    by false h = no_command (is_command_word w)
+
 plain_read : (line : ℕ) (w : List ℕ) (ts rest : List Token) (d : Declaration) → node_at plain_role (word_token line w ∷ ts) ≡ Ok (d, sign_token line Semicolon ∷ rest) → whole_statement_at (word_token line w ∷ ts) ≡ Ok (declares d, rest)
-unfolding whole_statement_at statement_at sign_at after_sign
-plain_read line w ts rest d e = rw e refl
+unfolding whole_statement_at sign_at after_sign
+plain_read line w ts rest d e =
+    let begun = node_begins (word_token line w ∷ ts) (plain_begins line w ts _ d e) in
+    rw (begun, e) refl
 
 agent_read : (line : ℕ) (ts rest : List Token) (d : Declaration) → node_at agent_role ts ≡ Ok (d, sign_token line Semicolon ∷ rest) → whole_statement_at (keyword_token line Agent ∷ ts) ≡ Ok (declares d, rest)
 unfolding whole_statement_at statement_at keyword_statement_at sign_at after_sign

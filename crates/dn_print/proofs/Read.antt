@@ -6,11 +6,11 @@ use Rattle.dn_token.specs.declared.token.Keyword.TheVariants.{Agent, Vectors, Un
 use Rattle.dn_token.specs.declared.token.Sign.{Sign}
 use Rattle.dn_token.specs.declared.token.Sign.TheVariants.{Semicolon, Comma, OpenBracket, CloseBracket, OpenParenthesis, CloseParenthesis, Minus, Plus, Times, Dot, Dots}
 use Rattle.dn_token.specs.Token.{Lexeme, Token, word, keyword, number, sign}
-use Rattle.dn_parse.specs.Tree.{Expression, expressions, Role, plain_role, agent_role, vectors_role, Declaration}
+use Rattle.dn_parse.specs.Tree.{Expression, expressions, Role, plain_role, agent_role, vectors_role, Declaration, Order}
 use Rattle.dn_parse.specs.Actions.{sum_of_members, product_of_members}
 use Rattle.dn_parse.specs.Forms.{is_sign, is_the_word}
 use Rattle.dn_parse.specs.Machine.{Stop}
-use Rattle.dn_parse.specs.Descent.{and_then, word_of, any_of, Read, Next, Reader, if_there, after, after_sign, after_keyword, after_word, or_refused, sign_at, keyword_at, the_word_at, word_at, any_word_at, value_or_refused, value_at, with_front, row, row_from, row_at, one_more, after_comma, first_and, next_by, term_with, expr_with, after_open_with, at_sign, factor_of, factor_with, nested_at, factor_at, next_factor_at, factors_at, term_at, next_term_at, terms_at, expr_at, first_and_most, expr_after, in_brackets, index_at, part_at, next_part_at, name_at, upper_at, block_at, next_block_at, blocks_at, addr_at, dest_at, next_dest_at, dests_at, entry_at, next_entry_at, entries_at, accept_at, map_at, over_at, spec_at, param_at, next_param_at, params_at, closed_params_at, arg_at, next_arg_at, args_at, closed_args_at, next_port_at, ports_at, node_at, measure_at, unit_declaration_at, module_at, use_at, loop_at, mode_at, access_at, resolve_at, lookup_at, view_at, grant_at, route_at, order_at, as_declared, keyword_statement_at, statement_by, statement_at, whole_statement_at}
+use Rattle.dn_parse.specs.Descent.{and_then, word_of, any_of, Read, Next, Reader, if_there, after, after_sign, after_keyword, after_word, or_refused, sign_at, keyword_at, the_word_at, word_at, any_word_at, value_or_refused, value_at, with_front, row, row_from, row_at, one_more, after_comma, first_and, next_by, term_with, expr_with, after_open_with, at_sign, factor_of, factor_with, nested_at, factor_at, next_factor_at, factors_at, term_at, next_term_at, terms_at, expr_at, first_and_most, expr_after, in_brackets, index_at, part_at, next_part_at, name_at, upper_at, block_at, next_block_at, blocks_at, addr_at, dest_at, next_dest_at, dests_at, entry_at, next_entry_at, entries_at, accept_at, map_at, over_at, spec_at, param_at, next_param_at, params_at, closed_params_at, arg_at, next_arg_at, args_at, closed_args_at, next_port_at, ports_at, node_at, measure_at, unit_declaration_at, module_at, use_at, loop_at, mode_at, access_at, resolve_at, lookup_at, view_at, grant_at, route_at, radix_at, order_at, as_declared, as_ordered, keyword_statement_at, begins_order, word_statement_at, statement_by, statement_at, whole_statement_at}
 use Rattle.dn_print.proofs.Titles.{Title}
 use Rattle.dn_print.proofs.Words.{IsWord, title_word, keyword_word}
 use Rattle.dn_print.proofs.Formed.{Maybe}
@@ -377,6 +377,10 @@ route_reads : (ts : List Token) → Proper ts → Reads Any (route_at ts)
 unfolding route_at
 route_reads ts h = bind (word_at ts) _ (word_reads ts h) (λ w r p q. bind (name_at 32 r) _ (name_reads 32 r q) (λ a r1 p1 q1. bind (expr_at 32 r1) _ (expr_reads 32 r1 q1) (λ e r2 p2 q2. bind (name_at 32 r2) _ (name_reads 32 r2 q2) (λ n r3 p3 q3. given tt q3))))
 
+radix_reads : (ts : List Token) → Proper ts → Reads Any (radix_at ts)
+unfolding radix_at
+radix_reads ts h = bind (name_at 32 ts) _ (name_reads 32 ts h) (λ n r p q. bind (expr_at 32 r) _ (expr_reads 32 r q) (λ e r1 p1 q1. given tt q1))
+
 order_reads : (k : Keyword) (ts rest : List Token) → Proper rest → Reads Any (order_at k ts rest)
 unfolding order_at
 order_reads Resolve ts rest h = resolve_reads rest h
@@ -393,6 +397,9 @@ order_reads _ ts rest h = record { it = tt }
 declared_reads : (r : Read Declaration) → Reads GoodDeclaration r → Reads GoodStatement (as_declared r)
 declared_reads r h = bind r _ h (λ d rest p q. given p q)
 
+ordered_reads : (r : Read Order) → Reads Any r → Reads GoodStatement (as_ordered r)
+ordered_reads r h = bind r _ h (λ o rest p q. given tt q)
+
 -- a statement
 keyword_reads : (k : Keyword) (ts rest : List Token) → Proper rest → Reads GoodStatement (keyword_statement_at k ts rest)
 unfolding keyword_statement_at
@@ -404,10 +411,15 @@ keyword_reads Use ts rest h = use_reads rest h
 keyword_reads For ts rest h = loop_reads rest h
 keyword_reads End ts rest h = given tt h
 keyword_reads Begin ts rest h = given tt h
-keyword_reads k ts rest h = bind (order_at k ts rest) _ (order_reads k ts rest h) (λ o r p q. given tt q)
+keyword_reads k ts rest h = ordered_reads (order_at k ts rest) (order_reads k ts rest h)
+
+word_reads_by : (b : Bool) (ts rest : List Token) → Proper ts → Proper rest → Reads GoodStatement (cond b (as_ordered (radix_at rest)) (as_declared (node_at plain_role ts)))
+word_reads_by true ts rest h p = ordered_reads (radix_at rest) (radix_reads rest p)
+word_reads_by false ts rest h p = declared_reads (node_at plain_role ts) (node_reads plain_role ts h)
 
 statement_by_reads : (l : Lexeme) (ts rest : List Token) → Proper ts → Proper rest → Reads GoodStatement (statement_by l ts rest)
-statement_by_reads (word w) ts rest h p = declared_reads (node_at plain_role ts) (node_reads plain_role ts h)
+unfolding word_statement_at
+statement_by_reads (word w) ts rest h p = word_reads_by (begins_order w rest) ts rest h p
 statement_by_reads (keyword k) ts rest h p = keyword_reads k ts rest p
 statement_by_reads (number n) ts rest h p = record { it = tt }
 statement_by_reads (sign s) ts rest h p = record { it = tt }
