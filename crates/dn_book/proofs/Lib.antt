@@ -10,6 +10,7 @@ pub mod Frames
 pub mod Given
 pub mod Going
 pub mod Hops
+pub mod Ids
 pub mod InOrder
 pub mod KeptEmpty
 pub mod KeptSlots
@@ -19,10 +20,10 @@ pub mod Owed
 pub mod Packed
 pub mod Parts
 pub mod Passed
+pub mod Placed
 pub mod Ranges
 pub mod Revoke
 pub mod Rising
-pub mod Serials
 pub mod Sound
 pub mod Through
 pub mod Words

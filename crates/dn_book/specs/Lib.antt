@@ -7,8 +7,8 @@ pub mod Faults
 pub mod Going
 pub mod Kept
 pub mod Laws
+pub mod Placed
 pub mod Puts
-pub mod Serials
 pub mod Sets
 pub mod State
 pub mod Tables

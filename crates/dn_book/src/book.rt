@@ -1,6 +1,6 @@
 //! The live grants, with the tables that hold their records.
 
-ghost use Rattle.std.specs.Prelude.{◌≡◌, ◌≢◌, ◌↔◌, [], ◌∷◌, ◌++◌, Err, true, false, not, IfOk, OnOk, OnErr, is_ok, is_err};
+ghost use Rattle.std.specs.Prelude.{◌≡◌, ◌≢◌, ◌+◌, ◌-◌, ◌≤◌, ◌↔◌, [], ◌∷◌, ◌++◌, Err, true, false, length, max, not, IfOk, OnOk, OnErr, is_ok, is_err};
 ghost use Rattle.dn_net.specs.Terms.{Member};
 ghost use Rattle.dn_base.specs.Terms.{IsCounted, is_device_fault};
 ghost use Rattle.dn_kind.specs.Terms.{IsKinded, kinds_of};
@@ -15,6 +15,7 @@ use crate::grant::Grant;
 use crate::grants::Grants;
 use crate::puts::write_grant;
 use crate::uses::{add_uses, end_uses};
+use dn_base::OutOfMemory;
 use dn_base::device::{DeviceOrMemory, Tables};
 use dn_kind::kinded::KindedNet;
 use dn_tables::set::TableSet;
@@ -50,7 +51,13 @@ impl Model for Book {
 
     ghost Value = { BookState };
 
-    ghost view = { λ b. record { grants = b.grants; set = b.tables; cleared = b.cleared; unfailed = b.unfailed } };
+    ghost view = { λ b. record {
+      grants = b.grants.live;
+      set = b.tables;
+      cleared = b.cleared;
+      unfailed = b.unfailed;
+      spare = b.grants.spare;
+    } };
 }
 
 impl Book {
@@ -92,7 +99,7 @@ impl Book {
 
     /// The live grants, in the order in which they were granted.
     pub fn grants(&self) -> &Grants
-        ensures { result.now ≡ self.now.grants }
+        ensures { result.now.live ≡ self.now.grants }
     {
         &self.grants
     }
@@ -132,6 +139,20 @@ impl Book {
         self.grants.has_id(id)
     }
 
+    /// Makes room for so many more grants: that many of `commit` then take no memory.
+    ///
+    /// # Errors
+    ///
+    /// `OutOfMemory` for want of memory: nothing has changed.
+    pub fn reserve(&mut self, more: u32) -> Result<(), OutOfMemory>
+        requires few { length self.old.grants + more ≤ 4096 }
+        ensures reserved { OnOk result (self.new
+            ≡ record self.old { spare = max self.old.spare more }) }
+        ensures refused { OnErr result (self.new ≡ self.old) }
+    {
+        self.grants.reserve(more as usize)
+    }
+
     /// Commits a grant: a fence where a record was cleared since the last one, then the records of its
     /// free slots from memory's end to the agent's, and in each hop by ascending slot. All memory is
     /// taken before the first call of the device.
@@ -141,7 +162,7 @@ impl Book {
     /// `Device` only where the device's count of faults rose in this call, or stands at the last value
     /// of its counter: the writes before the one that failed are done, and under them each name resolves
     /// as before the grant or as with it. No grant comes in, and the book is only read from then on.
-    /// `OutOfMemory` for want of memory, or after 2^64 - 1 grants: nothing has changed.
+    /// `OutOfMemory` for want of memory, and only where no room is kept: nothing has changed.
     pub fn commit<D: Tables>(
         &mut self,
         alloc: Global,
@@ -156,7 +177,8 @@ impl Book {
             result (is_device_fault result) self.new (D.units device.new) (D.words device.new)
             (D.faults device.old) (D.faults device.new) }
         ensures refused { OnErr result (self.new.grants ≡ self.old.grants) }
-        ensures memory { result ≡ Err no_memory → self.new ≡ self.old }
+        ensures memory { result ≡ Err no_memory → (self.new ≡ self.old) × (self.old.spare ≡ 0) }
+        ensures spare { OnOk result (self.new.spare ≡ self.old.spare - 1) }
         ensures added { result ≢ Err no_memory → AreAdded (grant_events on.entry.net.now
             (kinds_of meaning on.entry.kinds.now) self.old.grants self.old.cleared grant)
             (is_err result) (D.log device.old) (D.log device.new) }
@@ -205,6 +227,7 @@ impl Book {
         ensures faithful { OnOk result (IsFaithful on.entry.net.now self.old.grants
             → IsFaithful on.entry.net.now self.new.grants) }
         ensures refused { OnErr result (self.new.grants ≡ self.old.grants) }
+        ensures spare { self.new.spare ≡ self.old.spare }
         ensures unknown { result ≡ Err no_grant ↔ (has_id id self.old.grants ≡ false) }
         ensures unchanged { result ≡ Err no_grant → (self.new ≡ self.old) ×
             (device.new ≡ device.old) }

@@ -1,117 +1,154 @@
 //! The live grants in the order of granting, each found by its id.
 
-ghost use Rattle.std.specs.Prelude.{◌≡◌, ◌≢◌, ◌==◌, [], ◌∷◌, ◌++◌, false, find, length, option_copied, AllPairs, OnOk, OnErr};
-ghost use Rattle.std.specs.Map.Iter.{ShowsInOrder, deref};
+ghost use Rattle.std.specs.Prelude.{◌≡◌, ◌-◌, ◌<◌, ◌≤◌, ◌==◌, [], ◌∷◌, ◌++◌, false, find, length, option_copied, max, slice_get, IsOk, OnOk, OnErr};
 ghost use Rattle.dn_book.specs.Terms.{has_id, without_id};
 ghost use Rattle.dn_book.specs.declared.grant.Grant.{Grant as GrantPart};
 
 use crate::grant::Grant;
+use slab::Slab;
 use std::alloc::{AllocError, Global};
-use std::collections::BTreeMap;
-use std::collections::btree_map::Values;
+use std::collections::HashMap;
 use std::marker::Model;
 
-/// The live grants in the order in which they were granted. Each has a serial number, which rises from
-/// grant to grant, so that the order of these numbers is that of granting. To look for an id, to take a
-/// grant in and to take one out each take steps by the logarithm of how many live.
+/// The live grants in the order in which they were granted, with room for more.
+///
+/// Each grant is kept at a place of its own, which is used again once the grant is gone. So neither a
+/// grant that comes nor one that goes moves another: what moves is the numbers in `order`.
 #[derive(Drop)]
 pub struct Grants {
-    granted: BTreeMap<u64, Grant>,
-    serials: BTreeMap<u32, u64>,
-    next: u64,
+    /// The grants at their places.
+    kept: Slab<Grant>,
+    /// The id and the place of each grant, in the order of granting.
+    order: Vec<(u32, usize)>,
+    /// The place of the grant of an id.
+    places: HashMap<u32, usize>,
+    /// For how many more grants there is room at least.
+    spare: usize,
 }
 
 impl Model for Grants {
-    ghost use Rattle.std.specs.Prelude.{List};
-    ghost use Rattle.std.specs.BTreeMap.{values};
-    ghost use Rattle.dn_book.specs.declared.grant.Grant.{Grant as GrantPart};
-    ghost use Rattle.dn_book.specs.Serials.{AreFound};
+    ghost use Rattle.std.specs.Prelude.{◌+◌, ◌≤◌};
+    ghost use Rattle.std.specs.Vec.{vec_len, vec_capacity};
+    ghost use Rattle.std.specs.HashMap.{spare as map_spare};
+    ghost use Rattle.slab.specs.Slab.{HasRoomFor};
+    ghost use Rattle.dn_book.specs.Placed.{ArePlaced, grants_at};
+    ghost use Rattle.dn_book.specs.State.{GrantsState};
 
-    ghost Value = { List GrantPart };
+    ghost Value = { GrantsState };
 
-    ghost view = { λ s. values s.granted };
+    ghost view = { λ s. record { live = grants_at s.kept s.order.items; spare = s.spare } };
 
-    ghost invariant = { λ s. AreFound s.granted.entries s.serials.entries s.next };
+    ghost invariant = { λ s. ArePlaced s.kept s.order.items s.places.entries × HasRoomFor s.kept s.spare
+        × (vec_len s.order + s.spare ≤ vec_capacity s.order) × (s.spare ≤ map_spare s.places) };
 }
 
 impl Grants {
     /// No grant.
     pub(crate) fn new(alloc: Global) -> Grants
-        ensures { result ≡ [] }
+        ensures { result ≡ record { live = []; spare = 0 } }
     {
         Grants {
-            granted: BTreeMap::new(alloc),
-            serials: BTreeMap::new(alloc),
-            next: 0,
+            kept: Slab::new(alloc),
+            order: Vec::new(alloc),
+            places: HashMap::new(alloc),
+            spare: 0,
         }
     }
 
     /// How many grants live.
     pub fn len(&self) -> usize
-        ensures { result ≡ length self.now }
+        ensures { result ≡ length self.now.live }
     {
-        self.granted.len()
+        self.order.len()
     }
 
-    /// The grants, in the order in which they were granted.
-    pub fn iter(&self) -> Values<'_, u64, Grant>
-        ensures rest { result ≡ self.now }
-        ensures runs { ShowsInOrder (deref {X = GrantPart}) }
+    /// The grant that was granted after so many others that live. `None` where there are no more.
+    pub fn nth(&self, at: usize) -> Option<&Grant>
+        ensures { option_copied result ≡ slice_get self.now.live at }
     {
-        self.granted.values()
-    }
-
-    /// Whether a live grant has the id.
-    pub fn has_id(&self, id: u32) -> bool
-        ensures { result ≡ has_id id self.now }
-    {
-        self.serials.contains_key(&id)
-    }
-
-    /// The grant of an id. `None` exactly where no live grant has it.
-    pub fn get(&self, id: u32) -> Option<&Grant>
-        ensures { option_copied result ≡ find (λ g. g.id == id) self.now }
-    {
-        match self.serials.get(&id) {
-            Some(serial) => self.granted.get(serial),
+        match self.order.get(at) {
+            Some(entry) => self.kept.get(entry.1),
             None => None,
         }
     }
 
-    /// Appends a grant of a new id.
-    ///
-    /// # Errors
-    ///
-    /// `AllocError` for want of memory, or of a serial number behind 2^64 - 1: nothing has changed.
-    pub(crate) fn push(&mut self, grant: Grant) -> Result<(), AllocError>
-        requires { has_id grant.id self.old ≡ false }
-        ensures pushed { OnOk result (self.new ≡ self.old ++ grant ∷ []) }
-        ensures refused { OnErr result (self.new ≡ self.old) }
+    /// Whether a live grant has the id.
+    pub fn has_id(&self, id: u32) -> bool
+        ensures { result ≡ has_id id self.now.live }
     {
-        let Some(next) = self.next.checked_add(1) else {
-            return Err(AllocError);
-        };
-        let id = grant.id;
-        self.serials.insert(id, self.next)?;
-        match self.granted.insert(self.next, grant) {
-            Ok(_) => {
-                self.next = next;
-                Ok(())
-            }
-            Err(failed) => {
-                self.serials.remove(&id);
-                Err(AllocError::from(failed))
-            }
+        self.places.contains_key(&id)
+    }
+
+    /// The grant of an id. `None` exactly where no live grant has it.
+    pub fn get(&self, id: u32) -> Option<&Grant>
+        ensures { option_copied result ≡ find (λ g. g.id == id) self.now.live }
+    {
+        match self.places.get(&id) {
+            Some(place) => self.kept.get(*place),
+            None => None,
         }
     }
 
-    /// Takes the grant of an id out, where one has it. It takes no memory.
-    pub(crate) fn remove(&mut self, id: u32)
-        requires { AllPairs (λ (g k : GrantPart). g.id ≢ k.id) self.old }
-        ensures { self.new ≡ without_id id self.old }
+    /// Makes room for so many more grants.
+    ///
+    /// # Errors
+    ///
+    /// `AllocError` for want of memory: nothing has changed.
+    pub(crate) fn reserve(&mut self, more: usize) -> Result<(), AllocError>
+        ensures reserved { OnOk result (self.new
+            ≡ record self.old { spare = max self.old.spare more }) }
+        ensures refused { OnErr result (self.new ≡ self.old) }
+        ensures there { more ≤ self.old.spare → IsOk result }
     {
-        if let Some(serial) = self.serials.remove(&id) {
-            drop(self.granted.remove(&serial));
+        if self.spare < more {
+            self.kept.reserve(more)?;
+            self.order.reserve(more)?;
+            self.places.reserve(more)?;
+            self.spare = more;
+        }
+        Ok(())
+    }
+
+    /// Appends a grant of a new id. Where there is room it takes no memory.
+    ///
+    /// # Errors
+    ///
+    /// `AllocError` for want of memory: nothing has changed.
+    pub(crate) fn push(&mut self, grant: Grant) -> Result<(), AllocError>
+        requires { has_id grant.id self.old.live ≡ false }
+        ensures pushed { OnOk result (self.new.live ≡ self.old.live ++ grant ∷ []) }
+        ensures spare { OnOk result (self.new.spare ≡ self.old.spare - 1) }
+        ensures refused { OnErr result (self.new ≡ self.old) }
+        ensures room { OnErr result (self.old.spare ≡ 0) }
+    {
+        self.reserve(1)?;
+        self.push_reserved(grant);
+        Ok(())
+    }
+
+    /// Appends a grant of a new id where there is room.
+    fn push_reserved(&mut self, grant: Grant)
+        requires new { has_id grant.id self.old.live ≡ false }
+        requires room { 0 < self.old.spare }
+        ensures pushed { self.new.live ≡ self.old.live ++ grant ∷ [] }
+        ensures spare { self.new.spare ≡ self.old.spare - 1 }
+    {
+        let id = grant.id;
+        let place = self.kept.insert_reserved(grant);
+        self.order.push_reserved((id, place));
+        let put: Result<_, _> = self.places.insert(id, place);
+        put.unwrap();
+        self.spare -= 1;
+    }
+
+    /// Takes the grant of an id out, where one has it. It takes no memory, and the room stays.
+    pub(crate) fn remove(&mut self, id: u32)
+        ensures left { self.new.live ≡ without_id id self.old.live }
+        ensures spare { self.new.spare ≡ self.old.spare }
+    {
+        if let Some(place) = self.places.remove(&id) {
+            drop(self.kept.remove(place));
+            self.order.retain(|entry| entry.0 != id);
         }
     }
 }

@@ -6,7 +6,7 @@ use Rattle.dn_tables.specs.Set.{IsOnDevice, words_of}
 use Rattle.dn_tables.proofs.Slots.{all_of_map}
 use Rattle.dn_book.specs.declared.grant.Grant.{Grant}
 use Rattle.dn_book.specs.Between.{IsCaught}
-use Rattle.dn_book.specs.Book.{IsSound, has_id}
+use Rattle.dn_book.specs.Book.{has_id}
 use Rattle.dn_book.specs.Events.{AreWritten}
 use Rattle.dn_book.specs.Laws.{IsGrantFor}
 use Rattle.dn_book.specs.Sets.{after_puts, is_used_by, put_log}
@@ -15,8 +15,7 @@ use Rattle.dn_book.specs.Tables.{IsKept, tables_of}
 use Rattle.dn_book.specs.Writes.{AreAdded, fence_events, grant_events, grant_slots, joined_slots}
 use Rattle.dn_book.proofs.Commit.{Coming, coming_caught, coming_fit, coming_open, coming_uses, coming_written, committed}
 use Rattle.dn_book.proofs.Facts.{changed_book, ok_by_err}
-use Rattle.dn_book.proofs.Serials.{AreApart, is_behind, some_behind, taken_back}
-use Rattle.dn_book.proofs.Sound.{granted_sound}
+use Rattle.dn_book.proofs.Ids.{is_behind, some_behind, taken_back}
 use Rattle.dn_book.proofs.Written.{added}
 use Rattle.dn_book.proofs.book.Book.commit.Given.{Over}
 use Rattle.dn_book.proofs.book.Book.commit.Goals.{In-Some, After-write_grant}
@@ -25,16 +24,16 @@ use Rattle.dn_book.proofs.book.Book.commit.Goals as goal
 -- the grant that was found is the one that came in
 same_grant : (g : Over) (c : In-Some g) → c.in-Some.live.now ≡ c.args.grant
 same_grant g c =
-    let new : has_id c.args.grant.id c.self.inside.grants ≡ false = ap (λ (b : BookState). has_id c.args.grant.id b.grants) c.self.view_is ∙ c.requires.placed.new in
-    is_behind c.self.inside.grants c.push.new.self c.args.grant c.in-Some.live.now new c.in-Ok.ensures.pushed (sym (ap option_copied c.in-Some.is) ∙ c.get.ensures)
+    let new : has_id c.args.grant.id c.self.inside.grants.live ≡ false = ap (λ (b : BookState). has_id c.args.grant.id b.grants) c.self.view_is ∙ c.requires.placed.new in
+    is_behind c.self.inside.grants.live c.push.new.self.live c.args.grant c.in-Some.live.now new c.in-Ok.ensures.pushed (sym (ap option_copied c.in-Some.is) ∙ c.get.ensures)
 
 -- what is known of it
-coming : (g : Over) (c : In-Some g) → Coming c.args.on.net.now (kinds_of (λ k. (goal.UnitKind-dyn g k).meaning k.1) c.args.on.kinds.now) c.self.inside.grants c.in-Some.live.now c.self.inside.tables
+coming : (g : Over) (c : In-Some g) → Coming c.args.on.net.now (kinds_of (λ k. (goal.UnitKind-dyn g k).meaning k.1) c.args.on.kinds.now) c.self.inside.grants.live c.in-Some.live.now c.self.inside.tables
 coming g c = record {
   lawful = all_of_map _ c.args.on.kinds.now.list.items c.requires.ready.kinded.lawful;
   legal = c.requires.ready.kinded.legal;
   kept = subst (λ (b : BookState). IsKept c.args.on.net.now (kinds_of (λ k. (goal.UnitKind-dyn g k).meaning k.1) c.args.on.kinds.now) b.grants b.set) (sym c.self.view_is) c.requires.ready.kept;
-  placed = subst (λ (w : Grant). IsGrantFor c.args.on.net.now c.self.inside.grants w) (sym (same_grant g c)) (subst (λ (b : BookState). IsGrantFor c.args.on.net.now b.grants c.args.grant) (sym c.self.view_is) c.requires.placed);
+  placed = subst (λ (w : Grant). IsGrantFor c.args.on.net.now c.self.inside.grants.live w) (sym (same_grant g c)) (subst (λ (b : BookState). IsGrantFor c.args.on.net.now b.grants c.args.grant) (sym c.self.view_is) c.requires.placed);
 }
 
 -- the set once its records were put
@@ -42,18 +41,18 @@ made : (g : Over) (c : After-write_grant g) → is_err c.write_grant.result ≡ 
 made g c was = ok_by_err c.write_grant.result _ c.write_grant.ensures.done was
 
 -- what was written, whether a call of the device failed or none did
-told : (g : Over) (c : After-write_grant g) (failed : Bool) → c.in-Some.live.now ≡ c.args.grant → Coming c.args.on.net.now (kinds_of (λ k. (goal.UnitKind-dyn g k).meaning k.1) c.args.on.kinds.now) c.self.inside.grants c.in-Some.live.now c.self.inside.tables → is_err c.write_grant.result ≡ failed → AreWritten (grant_events c.args.on.net.now (kinds_of (λ k. (goal.UnitKind-dyn g k).meaning k.1) c.args.on.kinds.now) c.self.inside.grants c.self.inside.cleared c.in-Some.live.now) failed (g.D.Tables.log c.args.device.now) (g.D.Tables.log c.write_grant.new.device) (tables_of c.args.on.net.now (kinds_of (λ k. (goal.UnitKind-dyn g k).meaning k.1) c.args.on.kinds.now) c.self.inside.grants) (words_of c.write_grant.new.tables)
+told : (g : Over) (c : After-write_grant g) (failed : Bool) → c.in-Some.live.now ≡ c.args.grant → Coming c.args.on.net.now (kinds_of (λ k. (goal.UnitKind-dyn g k).meaning k.1) c.args.on.kinds.now) c.self.inside.grants.live c.in-Some.live.now c.self.inside.tables → is_err c.write_grant.result ≡ failed → AreWritten (grant_events c.args.on.net.now (kinds_of (λ k. (goal.UnitKind-dyn g k).meaning k.1) c.args.on.kinds.now) c.self.inside.grants.live c.self.inside.cleared c.in-Some.live.now) failed (g.D.Tables.log c.args.device.now) (g.D.Tables.log c.write_grant.new.device) (tables_of c.args.on.net.now (kinds_of (λ k. (goal.UnitKind-dyn g k).meaning k.1) c.args.on.kinds.now) c.self.inside.grants.live) (words_of c.write_grant.new.tables)
 told g c failed same comes was =
     let kinds : List Meaning = kinds_of (λ k. (goal.UnitKind-dyn g k).meaning k.1) c.args.on.kinds.now in
-    coming_written c.args.on.net.now kinds c.self.inside.grants c.in-Some.live.now c.self.inside.tables comes c.self.inside.cleared failed _ _ (words_of c.write_grant.new.tables)
+    coming_written c.args.on.net.now kinds c.self.inside.grants.live c.in-Some.live.now c.self.inside.tables comes c.self.inside.cleared failed _ _ (words_of c.write_grant.new.tables)
     (subst (λ f. AreWritten (fence_events c.self.inside.cleared ++ put_log kinds c.self.inside.tables (filter (is_used_by 0 c.self.inside.tables) (joined_slots (reverse (grant_slots c.args.on.net.now c.in-Some.live.now))))) f (g.D.Tables.log c.args.device.now) (g.D.Tables.log c.write_grant.new.device) (words_of c.self.inside.tables) (words_of c.write_grant.new.tables)) was c.write_grant.ensures.written)
 
 -- what the device was told of it
-logged : (g : Over) (c : After-write_grant g) (failed : Bool) → c.in-Some.live.now ≡ c.args.grant → Coming c.args.on.net.now (kinds_of (λ k. (goal.UnitKind-dyn g k).meaning k.1) c.args.on.kinds.now) c.self.inside.grants c.in-Some.live.now c.self.inside.tables → is_err c.write_grant.result ≡ failed → AreAdded (grant_events c.args.on.net.now (kinds_of (λ k. (goal.UnitKind-dyn g k).meaning k.1) c.args.on.kinds.now) c.args.self.now.grants c.args.self.now.cleared c.args.grant) failed (g.D.Tables.log c.args.device.now) (g.D.Tables.log c.write_grant.new.device)
+logged : (g : Over) (c : After-write_grant g) (failed : Bool) → c.in-Some.live.now ≡ c.args.grant → Coming c.args.on.net.now (kinds_of (λ k. (goal.UnitKind-dyn g k).meaning k.1) c.args.on.kinds.now) c.self.inside.grants.live c.in-Some.live.now c.self.inside.tables → is_err c.write_grant.result ≡ failed → AreAdded (grant_events c.args.on.net.now (kinds_of (λ k. (goal.UnitKind-dyn g k).meaning k.1) c.args.on.kinds.now) c.args.self.now.grants c.args.self.now.cleared c.args.grant) failed (g.D.Tables.log c.args.device.now) (g.D.Tables.log c.write_grant.new.device)
 logged g c failed same comes was =
     let kinds : List Meaning = kinds_of (λ k. (goal.UnitKind-dyn g k).meaning k.1) c.args.on.kinds.now in
     subst (λ (b : BookState). AreAdded (grant_events c.args.on.net.now kinds b.grants b.cleared c.args.grant) failed (g.D.Tables.log c.args.device.now) (g.D.Tables.log c.write_grant.new.device)) c.self.view_is
-    (subst (λ (w : Grant). AreAdded (grant_events c.args.on.net.now kinds c.self.inside.grants c.self.inside.cleared w) failed (g.D.Tables.log c.args.device.now) (g.D.Tables.log c.write_grant.new.device)) same (added _ failed _ _ _ _ (told g c failed same comes was)))
+    (subst (λ (w : Grant). AreAdded (grant_events c.args.on.net.now kinds c.self.inside.grants.live c.self.inside.cleared w) failed (g.D.Tables.log c.args.device.now) (g.D.Tables.log c.write_grant.new.device)) same (added _ failed _ _ _ _ (told g c failed same comes was)))
 
 pub write_grant-requires : goal.write_grant-requires
 write_grant-requires g c =
@@ -80,8 +79,8 @@ returns-then-is_err-clause-caught g c e =
     let same : c.in-Some.live.now ≡ c.args.grant = same_grant g (goal.at.returns-then-is_err-clause-caught g c).In-Some in
     let comes = coming g (goal.at.returns-then-is_err-clause-caught g c).In-Some in
     subst (λ (b : BookState). IsCaught c.args.on.net.now kinds (words_of c.write_grant.new.tables) b.grants (b.grants ++ c.args.grant ∷ [])) c.self.view_is
-    (subst (λ (w : Grant). IsCaught c.args.on.net.now kinds (words_of c.write_grant.new.tables) c.self.inside.grants (c.self.inside.grants ++ w ∷ [])) same
-    (coming_caught c.args.on.net.now kinds c.self.inside.grants c.in-Some.live.now c.self.inside.tables comes c.self.inside.cleared true _ _ _ (told g (goal.at.returns-then-is_err-clause-caught g c).After-write_grant true same comes was)))
+    (subst (λ (w : Grant). IsCaught c.args.on.net.now kinds (words_of c.write_grant.new.tables) c.self.inside.grants.live (c.self.inside.grants.live ++ w ∷ [])) same
+    (coming_caught c.args.on.net.now kinds c.self.inside.grants.live c.in-Some.live.now c.self.inside.tables comes c.self.inside.cleared true _ _ _ (told g (goal.at.returns-then-is_err-clause-caught g c).After-write_grant true same comes was)))
 
 pub add_uses-requires-clause-hops : goal.add_uses-requires-clause-hops
 add_uses-requires-clause-hops g c = coming_fit _ _ _ _ _ (coming g (goal.at.add_uses-requires-clause-hops g c).In-Some)
@@ -97,8 +96,8 @@ returns-clause-changed g c =
     let was : is_err c.write_grant.result ≡ false = search rules in
     let same : c.in-Some.live.now ≡ c.args.grant = same_grant g (goal.at.returns-clause-changed g c).In-Some in
     let comes = coming g (goal.at.returns-clause-changed g c).In-Some in
-    let all : c.push.new.self ≡ c.self.inside.grants ++ c.in-Some.live.now ∷ [] = c.in-Ok.ensures.pushed ∙ ap (λ (w : Grant). c.self.inside.grants ++ w ∷ []) (sym same) in
-    let kept : IsKept c.args.on.net.now kinds c.push.new.self c.add_uses.new.tables = subst (λ (b : List Grant). IsKept c.args.on.net.now kinds b c.add_uses.new.tables) (sym all) (committed c.args.on.net.now kinds c.self.inside.grants c.in-Some.live.now c.self.inside.tables comes c.self.inside.cleared _ _ c.write_grant.new.tables c.add_uses.new.tables (made g (goal.at.returns-clause-changed g c).After-write_grant was) (told g (goal.at.returns-clause-changed g c).After-write_grant false same comes was) c.add_uses.ensures) in
+    let all : c.push.new.self.live ≡ c.self.inside.grants.live ++ c.in-Some.live.now ∷ [] = c.in-Ok.ensures.pushed ∙ ap (λ (w : Grant). c.self.inside.grants.live ++ w ∷ []) (sym same) in
+    let kept : IsKept c.args.on.net.now kinds c.push.new.self.live c.add_uses.new.tables = subst (λ (b : List Grant). IsKept c.args.on.net.now kinds b c.add_uses.new.tables) (sym all) (committed c.args.on.net.now kinds c.self.inside.grants.live c.in-Some.live.now c.self.inside.tables comes c.self.inside.cleared _ _ c.write_grant.new.tables c.add_uses.new.tables (made g (goal.at.returns-clause-changed g c).After-write_grant was) (told g (goal.at.returns-clause-changed g c).After-write_grant false same comes was) c.add_uses.ensures) in
     changed_book _ _ _ _ _ _ _ _ _ kept refl (search rules) (search rules) (search rules)
 
 pub returns-clause-added : goal.returns-clause-added
@@ -106,22 +105,15 @@ returns-clause-added g c other =
     let was : is_err c.write_grant.result ≡ false = search rules in
     logged g (goal.at.returns-clause-added g c).After-write_grant false (same_grant g (goal.at.returns-clause-added g c).In-Some) (coming g (goal.at.returns-clause-added g c).In-Some) was
 
-pub remove-requires : goal.remove-requires
-remove-requires g c =
-    let pushed : c.push.new.self ≡ c.self.inside.grants ++ c.args.grant ∷ [] = c.in-Ok.ensures.pushed in
-    let sound : IsSound c.args.on.net.now c.self.inside.grants = subst (λ (b : BookState). IsSound c.args.on.net.now b.grants) (sym c.self.view_is) c.requires.ready.kept.sound in
-    let placed : IsGrantFor c.args.on.net.now c.self.inside.grants c.args.grant = subst (λ (b : BookState). IsGrantFor c.args.on.net.now b.grants c.args.grant) (sym c.self.view_is) c.requires.placed in
-    subst (λ (gs : List Grant). AreApart gs) (sym pushed) (granted_sound c.args.on.net.now c.requires.ready.kinded.legal.legal c.self.inside.grants c.args.grant sound placed).ids
-
 pub returns-then-is_err-clause-refused : goal.returns-then-is_err-clause-refused
 returns-then-is_err-clause-refused g c =
-    let new : has_id c.args.grant.id c.self.inside.grants ≡ false = ap (λ (b : BookState). has_id c.args.grant.id b.grants) c.self.view_is ∙ c.requires.placed.new in
-    let pushed : c.push.new.self ≡ c.self.inside.grants ++ c.args.grant ∷ [] = c.in-Ok.ensures.pushed in
-    c.remove.ensures ∙ taken_back c.self.inside.grants c.push.new.self c.args.grant new pushed ∙ ap (λ (b : BookState). b.grants) c.self.view_is
+    let new : has_id c.args.grant.id c.self.inside.grants.live ≡ false = ap (λ (b : BookState). has_id c.args.grant.id b.grants) c.self.view_is ∙ c.requires.placed.new in
+    let pushed : c.push.new.self.live ≡ c.self.inside.grants.live ++ c.args.grant ∷ [] = c.in-Ok.ensures.pushed in
+    c.remove.ensures.left ∙ taken_back c.self.inside.grants.live c.push.new.self.live c.args.grant new pushed ∙ ap (λ (b : BookState). b.grants) c.self.view_is
 
 pub unreachable-requires : goal.unreachable-requires
 unreachable-requires g c =
     let none : c.get.result ≡ None = search rules in
-    let new : has_id c.args.grant.id c.self.inside.grants ≡ false = ap (λ (b : BookState). has_id c.args.grant.id b.grants) c.self.view_is ∙ c.requires.placed.new in
-    let pushed : c.push.new.self ≡ c.self.inside.grants ++ c.args.grant ∷ [] = c.in-Ok.ensures.pushed in
-    some_behind c.self.inside.grants c.push.new.self c.args.grant new pushed (sym (ap option_copied none) ∙ c.get.ensures)
+    let new : has_id c.args.grant.id c.self.inside.grants.live ≡ false = ap (λ (b : BookState). has_id c.args.grant.id b.grants) c.self.view_is ∙ c.requires.placed.new in
+    let pushed : c.push.new.self.live ≡ c.self.inside.grants.live ++ c.args.grant ∷ [] = c.in-Ok.ensures.pushed in
+    some_behind c.self.inside.grants.live c.push.new.self.live c.args.grant new pushed (sym (ap option_copied none) ∙ c.get.ensures)

@@ -1,27 +1,33 @@
-use Rattle.std.proofs.Common.{◌≡◌, ◌∙◌, ap, sym, subst, List, Some, None, ℕ}
-use Rattle.std.specs.Map.{values_of}
-use Rattle.dn_book.specs.declared.grant.Grant.{Grant}
+use Rattle.std.proofs.Common.{◌≡◌, ◌∙◌, ◌==◌, not, ap, sym, subst, nat_eq, List, Some, None, ℕ, arith, rules}
+use Rattle.std.specs.Map.{lookup}
+use Rattle.std.proofs.lemmas.Fn.{filter_same}
 use Rattle.dn_book.specs.Book.{without_id}
-use Rattle.dn_book.specs.Serials.{serial_of}
-use Rattle.dn_book.proofs.Serials.{AreApart, found_less, none_goes, one_goes}
+use Rattle.dn_book.specs.Placed.{ArePlaced, grants_at}
+use Rattle.dn_book.specs.State.{GrantsState}
+use Rattle.dn_book.proofs.Placed.{grants_left, is_kept, none_goes, placed_less, without_place}
 use Rattle.dn_book.proofs.grants.Grants.remove.Goals as goal
+
+pub remove-requires-in-Some : goal.remove-requires-in-Some
+remove-requires-in-Some c =
+    let at : lookup (nat_eq c.args.id) c.self.inside.places.entries ≡ Some c.in-Some.place = sym c.remove.ensures.value ∙ c.in-Some.is in
+    is_kept c.self.inside.kept c.self.inside.order.items c.self.inside.places.entries c.args.id c.in-Some.place c.self.invariant.0 at
 
 pub invariant_of-self : goal.invariant_of-self
 invariant_of-self c =
-    let at : serial_of c.args.id c.self.inside.granted.entries ≡ Some c.in-Some.serial = sym (c.self.invariant.found c.args.id) ∙ sym c.remove.ensures.value ∙ c.in-Some.is in
-    let apart : AreApart (values_of c.self.inside.granted.entries) = subst (λ (gs : List Grant). AreApart gs) (sym c.self.view_is) c.requires in
-    found_less c.self.inside.granted.entries c.remove-in-Some.new.self.entries c.self.inside.serials.entries c.remove.new.self.entries c.in-Some.serial c.self.inside.next c.args.id c.self.invariant apart at c.remove-in-Some.ensures.entries c.remove-in-Some.ensures.ordered c.remove.ensures.updates.0
+    let at : lookup (nat_eq c.args.id) c.self.inside.places.entries ≡ Some c.in-Some.place = sym c.remove.ensures.value ∙ c.in-Some.is in
+    let left : c.retain.new.self.items ≡ without_place c.args.id c.self.inside.order.items = filter_same _ (λ (e : ℕ × ℕ). not (e.0 == c.args.id)) _ (λ x b g h. (search rules, search rules)) _ _ c.retain.ensures.filtered in
+    (subst (λ (es : List (ℕ × ℕ)). ArePlaced c.remove-in-Some.new.self es c.remove.new.self.entries) (sym left) (placed_less c.self.inside.kept c.remove-in-Some.new.self c.self.inside.order.items c.self.inside.places.entries c.remove.new.self.entries c.args.id c.in-Some.place c.self.invariant.0 at c.remove-in-Some.ensures.updates c.remove.ensures.updates.0), omega (arith, c.self.invariant.1, c.remove-in-Some.ensures.len, c.remove-in-Some.ensures.capacity), omega (arith, c.self.invariant.2, c.retain.ensures.bound, c.retain.ensures.capacity), omega (arith, c.self.invariant.3, c.remove.ensures.spare))
 
-pub returns-in-Some : goal.returns-in-Some
-returns-in-Some c =
-    let at : serial_of c.args.id c.self.inside.granted.entries ≡ Some c.in-Some.serial = sym (c.self.invariant.found c.args.id) ∙ sym c.remove.ensures.value ∙ c.in-Some.is in
-    let apart : AreApart (values_of c.self.inside.granted.entries) = subst (λ (gs : List Grant). AreApart gs) (sym c.self.view_is) c.requires in
-    ap (λ (es : List (ℕ × Grant)). values_of es) c.remove-in-Some.ensures.entries
-    ∙ one_goes c.args.id c.in-Some.serial c.self.inside.granted.entries c.self.invariant.rising apart at
-    ∙ ap (λ (gs : List Grant). without_id c.args.id gs) c.self.view_is
+pub returns-in-Some-clause-left : goal.returns-in-Some-clause-left
+returns-in-Some-clause-left c =
+    let at : lookup (nat_eq c.args.id) c.self.inside.places.entries ≡ Some c.in-Some.place = sym c.remove.ensures.value ∙ c.in-Some.is in
+    let left : c.retain.new.self.items ≡ without_place c.args.id c.self.inside.order.items = filter_same _ (λ (e : ℕ × ℕ). not (e.0 == c.args.id)) _ (λ x b g h. (search rules, search rules)) _ _ c.retain.ensures.filtered in
+    ap (grants_at c.remove-in-Some.new.self) left
+    ∙ grants_left c.self.inside.kept c.remove-in-Some.new.self c.self.inside.order.items c.self.inside.places.entries c.args.id c.in-Some.place c.self.invariant.0 at c.remove-in-Some.ensures.updates
+    ∙ ap (λ (s : GrantsState). without_id c.args.id s.live) c.self.view_is
 
-pub returns-in_default : goal.returns-in_default
-returns-in_default c =
-    let at : serial_of c.args.id c.self.inside.granted.entries ≡ None = sym (c.self.invariant.found c.args.id) ∙ sym c.remove.ensures.value ∙ c.in_default.is in
-    none_goes c.args.id c.self.inside.granted.entries at
-    ∙ ap (λ (gs : List Grant). without_id c.args.id gs) c.self.view_is
+pub returns-in_default-clause-left : goal.returns-in_default-clause-left
+returns-in_default-clause-left c =
+    let none : c.remove.result ≡ None = search rules in
+    none_goes c.self.inside.kept c.self.inside.order.items c.self.inside.places.entries c.args.id c.self.invariant.0 (sym c.remove.ensures.value ∙ none)
+    ∙ ap (λ (s : GrantsState). without_id c.args.id s.live) c.self.view_is

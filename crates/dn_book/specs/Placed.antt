@@ -1,0 +1,25 @@
+-- How the live grants are kept: each at a place of its own, and the ids with their places in the order
+-- of granting.
+use Rattle.std.specs.Prelude.{◌≡◌, ℕ, nat_eq, List, Option, Some, None, filter_map}
+use Rattle.std.specs.List.{AllByRecursion}
+use Rattle.std.specs.Map.{lookup}
+use Rattle.slab.specs.Slab.{Slab, get}
+use Rattle.dn_book.specs.declared.grant.Grant.{Grant}
+
+-- the grants that are kept at the places, in their order
+abbrev pub grants_at : Slab Grant → List (ℕ × ℕ) → List Grant
+grants_at kept order = filter_map (λ e. get kept e.1) order
+
+-- what is kept at a place is a grant of the id
+abbrev pub IsOfId : ℕ → Option Grant → Type 0
+IsOfId id None = ⊥
+IsOfId id (Some g) = g.id ≡ id
+
+-- at the place of each id a grant of it is kept
+abbrev pub AreHeld : Slab Grant → List (ℕ × ℕ) → Type 0
+AreHeld kept order = AllByRecursion (λ e. IsOfId e.0 (get kept e.1)) order
+
+-- At the place of each id a grant of it is kept, and the map leads from the id to that place.
+pub record ArePlaced (kept : Slab Grant) (order places : List (ℕ × ℕ)) : Type 0 where
+  pub held : AreHeld kept order
+  pub found : (id : ℕ) → lookup (nat_eq id) places ≡ lookup (nat_eq id) order
