@@ -1,4 +1,6 @@
 pub mod Agents
+pub mod BlockRows
+pub mod WholeBlocks
 pub mod Crowds
 pub mod Levels
 pub mod Marked

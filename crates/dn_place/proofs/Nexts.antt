@@ -15,6 +15,7 @@ use Rattle.dn_placement.specs.Placement.{Joins, Leads, Meets, name_on}
 use Rattle.dn_placement.proofs.Hops.{numbers}
 use Rattle.dn_placement.proofs.Keys.{append_none, cancel, one_more}
 use Rattle.dn_flat.specs.Crowds.{IsCrowded}
+use Rattle.dn_place.specs.Blocks.{HasBlocks}
 use Rattle.dn_place.specs.Slots.{AreBarred, AreShut, AreUsable, AreUseless, HasCrowd, IsUseless, slot_of}
 use Rattle.dn_place.specs.Rows.{AreToward, wanted_name}
 use Rattle.dn_place.proofs.Stretches.{GivesOnly}
@@ -28,7 +29,8 @@ use Rattle.dn_place.proofs.Walks.{Stretches}
 use Rattle.dn_place.specs.Marks.{mark_at, AreMarked, IsEntry}
 use Rattle.dn_interval.specs.declared.row.End.{End}
 use Rattle.dn_net.specs.declared.node.NodeDecl.{NodeDecl}
-use Rattle.dn_net.specs.Decode.{top, unit_at, StopsAt}
+use Rattle.dn_net.specs.declared.node.Name.{Name}
+use Rattle.dn_net.specs.Decode.{top, unit_at, Resolves, StopsAt}
 use Rattle.dn_interval.specs.declared.row.Row.{Row}
 use Rattle.dn_place.proofs.Marked.{marked_hop}
 
@@ -196,6 +198,21 @@ not_met s count hops unit port node y u l e p unmet = record { none = λ q v. ab
 
     go : (q : Place) → Output s u hops q unit port y (to_output count hops unit port y) → ⊥
     go q w = let k = w.through.joins in unmet (subst (λ (n : ℕ). Meets s.net s.request n y hops) (some k.node node (sym k.is_port ∙ p)) k.meets)
+
+-- an output in whose blocks an address beside the buffer resolves to something, where no hop follows
+pub not_whole : (s : Sought) (count unit port node y block i a : ℕ) (z : Name) (u : UnitPart) → IsSearchReady s → HasBlocks s.net block → 0 < count → unit_at s.net unit ≡ Some u → slice_get u.ports port ≡ Some node → i < s.request.size → a / 2 ^ block ≡ (y + i) / 2 ^ block → ((j : ℕ) → j < s.request.size → a ≡ y + j → ⊥) → Resolves s.net (record { node = node; addr = a }) z → NoneUnder s (to_output count [] unit port y)
+not_whole s count unit port node y block i a z u ready blocks l e p few at beside r = record { none = never }
+  where
+    heads : (b c d b' c' d' : ℕ) (m n : List ℕ) → (b ∷ c ∷ d ∷ m) ≡ (b' ∷ c' ∷ d' ∷ n) → (b ≡ b') × (c ≡ c') × (d ≡ d')
+    heads b c d b' c' d' m n f = (cc, cc, cc)
+
+    never : (q : Place) → IsUnder s (to_output count [] unit port y) q → ⊥
+    never q v =
+        let front : to_output count [] unit port y ≡ key_of_hops count [] ++ (unit ∷ port ∷ y ∷ []) = one_more (to_unit count [] unit) port (y ∷ []) ∙ one_more (key_of_hops count []) unit (port ∷ y ∷ []) in
+        let w : Next s count [] q (unit ∷ port ∷ y ∷ []) = next_of s count [] q (unit ∷ port ∷ y ∷ []) l (subst (λ f. IsUnder s f q) front v) in
+        let hop : Hop = w.opens.hop in
+        let same = heads hop.unit hop.port hop.y unit port y (hop.x ∷ w.opens.rest) w.rest w.split in
+        ready.whole q block w.opens.before hop u node i a z v.is w.opens.ends blocks (ap (unit_at s.net) same.0 ∙ e) (ap (slice_get u.ports) same.1 ∙ p) few (at ∙ ap (λ n. (n + i) / 2 ^ block) (sym same.2)) (λ j m f. beside j m (f ∙ ap (λ n. n + j) same.2)) r
 
 -- by input
 

@@ -1,5 +1,5 @@
 -- What the search asks holds of a request on a legal net.
-use Rattle.std.proofs.Common.{◌≡◌, ℕ, zero, suc, ◌+◌, ◌<◌, ◌≤◌, ◌⊎◌, inl, inr, Bool, true, false, if◌then◌else◌, ◌&&◌, nat_le, nat_lt, List, [], ◌∷◌, map, length, slice_get, Option, Some, None, is_some, IsTrue, refl, sym, ap, subst, arith, ltb-true, lt-ltb}
+use Rattle.std.proofs.Common.{◌≡◌, ℕ, zero, suc, ◌+◌, ◌/◌, ◌^◌, ◌<◌, ◌≤◌, ◌⊎◌, inl, inr, Bool, true, false, if◌then◌else◌, ◌&&◌, nat_le, nat_lt, List, [], ◌∷◌, map, length, slice_get, Option, Some, None, is_some, IsTrue, refl, sym, ap, ◌∙◌, subst, arith, ltb-true, lt-ltb}
 use Rattle.std.specs.List.{list_all}
 use Rattle.std.proofs.lemmas.Bool.{and_parts}
 use Rattle.dn_base.proofs.Lists.{list_all-at}
@@ -7,7 +7,7 @@ use Rattle.dn_net.specs.declared.node.Name.{Name}
 use Rattle.dn_net.specs.declared.node.NodeDecl.{NodeDecl}
 use Rattle.dn_net.specs.declared.node.Unit.{Unit as UnitPart}
 use Rattle.dn_net.specs.Chain.{Member, IsChain}
-use Rattle.dn_net.specs.Decode.{top, is_agent_at, is_formed, is_stop, is_stop_at, over_within, ports_within, refers_within, sent_names, unit_at, unit_of, Step}
+use Rattle.dn_net.specs.Decode.{top, is_agent_at, is_formed, is_stop, is_stop_at, over_within, ports_within, refers_within, sent_names, unit_at, unit_of, Resolves, Step}
 use Rattle.dn_net.specs.Legal.{IsLegalNet}
 use Rattle.dn_net.proofs.Plain.{plain_at}
 use Rattle.dn_net.proofs.Steps.{node_at, unit_is_bare}
@@ -22,6 +22,8 @@ use Rattle.dn_placement.specs.declared.request.Request.{Request}
 use Rattle.dn_placement.specs.Slots.{Slots}
 use Rattle.dn_book.proofs.Hops.{has_bounds}
 use Rattle.dn_view.proofs.Alone.{reached_alone}
+use Rattle.dn_place.specs.Blocks.{HasBlocks}
+use Rattle.dn_place.proofs.WholeBlocks.{IsBehind, KeepsWhole, behind_at, whole_blocks}
 use Rattle.dn_place.specs.Sought.{HaveUnitBounds, IsSearchReady, ReachOneStop, slot_count}
 
 -- the ports of a unit are nodes that are there
@@ -42,6 +44,14 @@ pub unit_bounds : (net : List NodeDecl) → IsLegalNet net → HaveUnitBounds ne
 unit_bounds net legal = λ node u is.
     let b = has_bounds u (plain_at net node u legal.shapes is) in
     record { page = b.page; few = b.slots; reach = b.reach; ports = b.ports; there = ports_there net node u legal.nodes.closed is }
+
+-- blocks that each node keeps whole are kept whole by an agent and by the nodes of all ports
+kept_whole : (net : List NodeDecl) → IsLegalNet net → (agent block : ℕ) → agent < length net → HasBlocks net block → KeepsWhole net agent block
+kept_whole net legal agent block l b = record {
+  own = b.sends agent l;
+  pages = b.pages;
+  ports = λ node port n u e at. b.sends n ((unit_bounds net legal node u e).there port n at);
+}
 
 -- no slot holds a record
 abbrev empty : Held
@@ -90,6 +100,9 @@ ready net slots rq at legal held empty rights agent some fits = record {
   bounds = unit_bounds net legal;
   one_stop = one_stop net legal;
   alone = λ q i t w is l st there st'. reached_alone net slots rq q legal held rights empty agent is.is_placement is.admissible i l t w st there st';
+  whole = λ q block before hop u node i a z is ends blocks e port few same beside r.
+      let k = behind_at net slots rq q.hops before hop ends is.is_placement.leads rq.agent q.v node u e port in
+      whole_blocks net legal (one_stop net legal) slots rq q held rights empty agent is.is_placement is.admissible block (kept_whole net legal rq.agent block (agent_there net rq.agent agent) blocks) a i z few (same ∙ ap (λ n. (n + i) / 2 ^ block) (sym k.addr_is)) (λ j l f. beside j l (f ∙ ap (λ n. n + j) k.addr_is)) (subst (λ (n : ℕ). Resolves net (record { node = n; addr = a }) z) (sym k.node_is) r);
   few = legal.is_net.few;
   agent = agent_there net rq.agent agent;
   some = some;

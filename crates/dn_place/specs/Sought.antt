@@ -1,15 +1,17 @@
 -- What the search looks for and where, and what it asks of that.
-use Rattle.std.specs.Prelude.{◌≡◌, ℕ, ◌+◌, ◌<◌, ◌≤◌, false, List, [], length, slice_get, Option, Some, None, IsTrue}
+use Rattle.std.specs.Prelude.{◌≡◌, ℕ, ◌+◌, ◌/◌, ◌^◌, ◌<◌, ◌≤◌, false, List, [], ◌∷◌, ◌++◌, length, slice_get, Option, Some, None, IsTrue}
 use Rattle.dn_net.specs.declared.node.Name.{Name}
 use Rattle.dn_net.specs.declared.node.NodeDecl.{NodeDecl}
 use Rattle.dn_net.specs.declared.node.Unit.{Unit as UnitPart}
-use Rattle.dn_net.specs.Decode.{top, is_agent_at, unit_at, StopsAt}
+use Rattle.dn_net.specs.Decode.{top, is_agent_at, unit_at, Resolves, StopsAt}
 use Rattle.dn_kind.specs.Rights.{both_rights}
 use Rattle.dn_placement.specs.declared.request.Request.{Request}
 use Rattle.dn_placement.specs.Order.{IsSuited}
 use Rattle.dn_placement.specs.Placement.{name_on}
 use Rattle.dn_placement.specs.Slots.{Slots}
+use Rattle.dn_tables.specs.declared.placement.Hop.{Hop}
 use Rattle.dn_tables.specs.Placement.{Place}
+use Rattle.dn_place.specs.Blocks.{HasBlocks}
 
 -- a net with the slots of its units, a request, and the address that is asked for, where one is
 pub record Sought : Type 0 where
@@ -42,11 +44,22 @@ ReachAlone s = (q : Place) (i : ℕ) (t w : Name) → IsSuited s.net s.slots s.r
     IsTrue (is_agent_at (slice_get s.net w.node)) → StopsAt s.net w t →
     w ≡ name_on s.request.agent q.v i
 
+-- where blocks are kept whole, no address beside the buffer in the block of one of its addresses resolves to
+-- anything, at the node behind the last hop of a placement that is looked for
+abbrev pub GivesWholeBlocks : Sought → Type 0
+GivesWholeBlocks s = (q : Place) (block : ℕ) (before : List Hop) (hop : Hop) (u : UnitPart) (node i a : ℕ)
+    (z : Name) → IsSuited s.net s.slots s.request s.at q → q.hops ≡ before ++ hop ∷ [] →
+    HasBlocks s.net block → unit_at s.net hop.unit ≡ Some u →
+    slice_get u.ports hop.port ≡ Some node → i < s.request.size →
+    a / 2 ^ block ≡ (hop.y + i) / 2 ^ block → ((j : ℕ) → j < s.request.size → a ≡ hop.y + j → ⊥) →
+    Resolves s.net (record { node = node; addr = a }) z → ⊥
+
 -- what the search asks
 pub record IsSearchReady (s : Sought) : Type 0 where
   pub bounds : HaveUnitBounds s.net
   pub one_stop : ReachOneStop s.net
   pub alone : ReachAlone s
+  pub whole : GivesWholeBlocks s
   pub few : length s.net ≤ 1024
   pub agent : s.request.agent < length s.net
   pub some : 1 ≤ s.request.size

@@ -1,5 +1,6 @@
 -- The words of the crate that clauses cite, from one place.
-pub use Rattle.dn_place.specs.Candidates.{CanOwn, IsAddressed, IsChosen, IsFirstOrNone, PagesBelow, PagesFrom, key_of_hops, to_address, to_output, to_page, to_port, to_unit}
+pub use Rattle.dn_place.specs.Blocks.{HasBeside, HasBlocks, SendsBlocks, ShowsWithin, Tells, end_fits, layers_fit, row_fits, rows_fit}
+pub use Rattle.dn_place.specs.Candidates.{CanOwn, IsAddressed, IsChosen, IsFirstOrNone, NoneUnder, PagesBelow, PagesFrom, key_of_hops, to_address, to_output, to_page, to_port, to_unit}
 pub use Rattle.dn_place.specs.Hops.{hops_view}
 pub use Rattle.dn_place.specs.Marks.{AreMarked, AreUnitsFrom, IsEntry, Keeps, MarkedBelow, Marks, MarksAfter, MarksAll, MarksEnds, MarksGiven, MarksRows, is_marked, mark_at}
 pub use Rattle.dn_place.specs.Reaches.{IsHopReach}

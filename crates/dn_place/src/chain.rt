@@ -3,8 +3,10 @@
 ghost use Rattle.std.specs.Prelude.{◌≡◌, ◌∷◌, ◌%◌, ◌*◌, ◌/◌, ◌^◌, ◌+◌, ◌-◌, ◌<◌, ◌≤◌, ℕ, false, Some, IfOk, IsTrue, length, slice_get};
 ghost use Rattle.dn_net.specs.Terms.{unit_at};
 ghost use Rattle.dn_placement.specs.Terms.{Meets};
-ghost use Rattle.dn_place.specs.Terms.{AreToward, AreUsable, IsDoor, IsFirstOrNone, IsOutput, IsSearchStage, hops_view, key_of_hops, to_output, to_port, to_unit};
+ghost use Rattle.dn_place.specs.Terms.{AreToward, AreUsable, IsDoor, IsFirstOrNone, IsOutput, IsSearchStage, NoneUnder, hops_view, key_of_hops, to_output, to_port, to_unit};
 
+use crate::OutOfMemory;
+use crate::blocks::is_alone;
 use crate::hops::Hops;
 use crate::inputs::next_try;
 use crate::quest::{FoundPlacement, Quest, unit_of};
@@ -28,6 +30,8 @@ pub(crate) struct SearchStage<'a> {
     pub(crate) count: u8,
     /// Those that are chosen.
     pub(crate) chosen: Hops,
+    /// Blocks of 2 to this power addresses are kept whole.
+    pub(crate) block: u8,
 }
 
 /// A port of a unit, through which the next hop is to lead.
@@ -141,9 +145,24 @@ fn by_rows<Q: Quest>(quest: &Q, stage: SearchStage, door: Door, rows: &[Row]) ->
     Ok(None)
 }
 
-/// The same with an output.
+/// The same with an output: with none that cannot give whole blocks.
 #[cycle(hops)]
 fn by_output<Q: Quest>(quest: &Q, stage: SearchStage, door: Door, y: u64) -> FoundPlacement
+    requires consistent { Q.is_consistent quest.now }
+    requires output { IsOutput (Q.sought quest.now) stage door y }
+    ensures { IfOk result (λ found. IsFirstOrNone (Q.sought quest.now)
+        (to_output stage.entry.count (hops_view stage.entry.chosen)
+        door.entry.unit door.entry.port y) found) }
+{
+    if gives_more(quest, stage, door, y)? {
+        return Ok(None);
+    }
+    by_whole(quest, stage, door, y)
+}
+
+/// The same with an output that may give whole blocks.
+#[cycle(hops)]
+fn by_whole<Q: Quest>(quest: &Q, stage: SearchStage, door: Door, y: u64) -> FoundPlacement
     requires consistent { Q.is_consistent quest.now }
     requires output { IsOutput (Q.sought quest.now) stage door y }
     ensures { IfOk result (λ found. IsFirstOrNone (Q.sought quest.now)
@@ -267,4 +286,27 @@ fn can_meet(translator: &Unit, size: u64, x: u64, y: u64) -> bool
     let page = power(translator.page);
     let end = u64::from(translator.slots) * page;
     x % page == y % page && x <= end && size <= end - x
+}
+
+/// Whether it is known that no placement has an output: where no hop follows, an address beside the buffer
+/// resolves to a name, in a block that windows and ports keep whole.
+fn gives_more<Q: Quest>(
+    quest: &Q,
+    stage: SearchStage,
+    door: Door,
+    y: u64,
+) -> Result<bool, OutOfMemory>
+    requires consistent { Q.is_consistent quest.now }
+    requires output { IsOutput (Q.sought quest.now) stage door y }
+    ensures { IfOk result (λ more. IsTrue more → NoneUnder (Q.sought quest.now)
+        (to_output stage.entry.count (hops_view stage.entry.chosen)
+        door.entry.unit door.entry.port y)) }
+{
+    if stage.chosen.count() != 0 {
+        return Ok(false);
+    }
+    let node = door.translator.ports.as_slice()[usize::from(door.port)];
+    let size = quest.request().size;
+    let alone = is_alone(quest, stage.alloc, node, y, size, stage.block)?;
+    Ok(!alone)
 }

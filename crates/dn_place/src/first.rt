@@ -8,6 +8,7 @@ ghost use Rattle.dn_view.specs.Terms.{IsSystem};
 ghost use Rattle.dn_place.specs.Terms.{IsFirstOrNone, IsHopReach, IsRequest, IsSearchReady, hops_view, slot_of};
 
 use crate::OutOfMemory;
+use crate::blocks::block_of;
 use crate::chain::{SearchStage, by_hops};
 use crate::hops::Hops;
 use crate::problem::{Aim, SearchProblem};
@@ -135,12 +136,14 @@ fn first_of<Q: Quest>(alloc: Global, quest: &Q, reach: &ReachMarks) -> FoundPlac
     requires at { reach.now.at ≡ (Q.sought quest.now).at }
     ensures { IfOk result (λ found. IsFirstOrNone (Q.sought quest.now) [] found) }
 {
+    let block = block_of(quest, reach.units.as_slice());
     for count in 1..4 {
         let stage = SearchStage {
             alloc,
             reach,
             count,
             chosen: Hops::Zero,
+            block,
         };
         if let Some(placement) = by_hops(quest, stage)? {
             return Ok(Some(placement));

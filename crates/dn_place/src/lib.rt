@@ -4,6 +4,7 @@
 //! [`reach`] is what the requests of an agent share.
 #![tactic(auto)]
 
+mod blocks;
 pub mod booked;
 mod chain;
 mod entry;

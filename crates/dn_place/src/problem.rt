@@ -1,13 +1,18 @@
 //! What is searched for and in what net, where slots and placements are tested by functions that are
 //! handed in.
 
+ghost use Rattle.std.specs.Prelude.{◌<◌, List, length, IfOk, IsTrue};
+ghost use Rattle.dn_net.specs.declared.node.NodeDecl.{NodeDecl};
+ghost use Rattle.dn_flat.specs.Terms.{AreFlats};
+ghost use Rattle.dn_place.specs.Terms.{ShowsWithin};
+
 use crate::OutOfMemory;
 use crate::hops::Hops;
 use crate::quest::Quest;
 use crate::slot_state::SlotState;
 use dn_flat::flats::Flats;
 use dn_flat::levels::Levels;
-use dn_interval::{End, Rows, Span};
+use dn_interval::{End, Rows, Seg, Span};
 use dn_net::net::Net;
 use dn_net::node::Unit;
 use dn_placement::request::Request;
@@ -79,6 +84,10 @@ impl<
         self.flats.toward(alloc, node, first, size)
     }
 
+    fn shows(&self, alloc: Global, node: u16, span: Span) -> Result<bool, OutOfMemory> {
+        shows(alloc, self.flats, node, span)
+    }
+
     fn crowd(&self, unit: u16, first: u64, size: u64) -> Option<Span> {
         self.flats.crowd_among(unit, first, size)
     }
@@ -90,4 +99,18 @@ impl<
     fn is_exact(&self, v: u64, hops: Hops, own: u8) -> Result<bool, OutOfMemory> {
         (self.exact)(v, hops, own)
     }
+}
+
+/// Whether an address of a span of a node is known to resolve to a name.
+fn shows(alloc: Global, flats: &Flats, node: u16, span: Span) -> Result<bool, OutOfMemory>
+    requires { node < length flats.now.nodes }
+    ensures { IfOk result (λ some. IsTrue some → (net : List NodeDecl) →
+        AreFlats net flats.now → ShowsWithin net node span.lo span.hi) }
+{
+    let mut segs = Vec::new(alloc);
+    let mut mid = Vec::new(alloc);
+    let base = span.lo;
+    let seg = Seg { span, node, base };
+    flats.push_accepted(&mut segs, &mut mid, seg)?;
+    Ok(!segs.is_empty())
 }

@@ -28,6 +28,7 @@ pub(crate) trait Quest {
     ghost use Rattle.dn_interval.specs.Rows.{AreNormal};
     ghost use Rattle.dn_placement.specs.Exposure.{IsAdmissible};
     ghost use Rattle.dn_placement.specs.Placement.{IsPlacement};
+    ghost use Rattle.dn_place.specs.Blocks.{ShowsWithin};
     ghost use Rattle.dn_place.specs.Hops.{hops_view};
     ghost use Rattle.dn_place.specs.Slots.{slot_of};
     ghost use Rattle.dn_place.specs.Sought.{Sought, slot_count};
@@ -73,6 +74,13 @@ pub(crate) trait Quest {
         requires within { first.base + size ≤ TOP + 1 }
         ensures { IfOk result (λ rows. AreNormal
             (ResolvesWhole (sought self.now).net node first size) rows) };
+
+    /// Whether an address of a span of a node is known to resolve to a name.
+    fn shows(&self, alloc: Global, node: u16, span: Span) -> Result<bool, OutOfMemory>
+        requires consistent { is_consistent self.now }
+        requires there { node < length (sought self.now).net }
+        ensures { IfOk result (λ some. IsTrue some →
+            ShowsWithin (sought self.now).net node span.lo span.hi) };
 
     /// Names of a unit, one after another, that two addresses of agents reach, of which some are among so
     /// many names from one on. `None` says nothing.

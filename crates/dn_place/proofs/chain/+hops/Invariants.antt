@@ -8,28 +8,31 @@ use Rattle.dn_place.proofs.Walks.{Walked}
 use Rattle.dn_place.proofs.chain.+hops.Given as goal
 
 abbrev pub decreases-by_hops : goal.decreases-by_hops
-decreases-by_hops g l = 7 * (l.stage.count - length (hops_view l.stage.chosen)) + 6
+decreases-by_hops g l = 8 * (l.stage.count - length (hops_view l.stage.chosen)) + 7
 
 abbrev pub decreases-by_unit : goal.decreases-by_unit
-decreases-by_unit g l = 7 * (l.stage.count - length (hops_view l.stage.chosen)) + 5
+decreases-by_unit g l = 8 * (l.stage.count - length (hops_view l.stage.chosen)) + 6
 
 abbrev pub decreases-by_port : goal.decreases-by_port
-decreases-by_port g l = 7 * (l.stage.count - length (hops_view l.stage.chosen)) + 4
+decreases-by_port g l = 8 * (l.stage.count - length (hops_view l.stage.chosen)) + 5
 
 abbrev pub decreases-by_rows : goal.decreases-by_rows
-decreases-by_rows g l = 7 * (l.stage.count - length (hops_view l.stage.chosen)) + 3
+decreases-by_rows g l = 8 * (l.stage.count - length (hops_view l.stage.chosen)) + 4
 
 abbrev pub decreases-by_output : goal.decreases-by_output
-decreases-by_output g l = 7 * (l.stage.count - length (hops_view l.stage.chosen)) + 2
+decreases-by_output g l = 8 * (l.stage.count - length (hops_view l.stage.chosen)) + 3
+
+abbrev pub decreases-by_whole : goal.decreases-by_whole
+decreases-by_whole g l = 8 * (l.stage.count - length (hops_view l.stage.chosen)) + 2
 
 abbrev pub decreases-by_entry : goal.decreases-by_entry
-decreases-by_entry g l = 7 * (l.stage.count - length (hops_view l.stage.chosen)) + 1
+decreases-by_entry g l = 8 * (l.stage.count - length (hops_view l.stage.chosen)) + 1
 
 abbrev pub decreases-by_inputs : goal.decreases-by_inputs
-decreases-by_inputs g l = 7 * (l.stage.count - length (hops_view l.stage.chosen)) + 1
+decreases-by_inputs g l = 8 * (l.stage.count - length (hops_view l.stage.chosen)) + 1
 
 abbrev pub decreases-by_input : goal.decreases-by_input
-decreases-by_input g l = 7 * (l.stage.count - length (hops_view l.stage.chosen))
+decreases-by_input g l = 8 * (l.stage.count - length (hops_view l.stage.chosen))
 
 abbrev pub invariant-by_hops-loop-unit : goal.invariant-by_hops-loop-unit
 invariant-by_hops-loop-unit g l = Sifted (g.Q.Quest.sought l.quest) l.stage.count (hops_view l.stage.chosen) (drop l.unit-index l.units)

@@ -1,0 +1,7 @@
+-- The nodes so far send whole blocks.
+use Rattle.std.proofs.Common.{◌≡◌, ℕ, ◌%◌, ◌^◌, ◌<◌}
+use Rattle.dn_place.specs.Blocks.{SendsBlocks}
+use Rattle.dn_place.proofs.blocks.nodes_bits.Given as goal
+
+abbrev pub invariant-loop-node : goal.invariant-loop-node
+invariant-loop-node g l = (block : ℕ) → l.bits % 2 ^ block ≡ 0 → (n : ℕ) → n < l.node → SendsBlocks (g.Q.Quest.sought l.quest).net (2 ^ block) n
