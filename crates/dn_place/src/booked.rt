@@ -2,9 +2,10 @@
 
 ghost use Rattle.std.specs.Prelude.{◌≡◌, slice_get, Some, None, IfOk, IfSome, IsTrue};
 ghost use Rattle.dn_net.specs.Terms.{is_agent_at};
-ghost use Rattle.dn_kind.specs.Terms.{kinds_of};
+ghost use Rattle.dn_kind.specs.Terms.{are_rights, kinds_of};
 ghost use Rattle.dn_placement.specs.declared.request.Request.{Request};
 ghost use Rattle.dn_placement.specs.Terms.{IsFirst, NoneSuited};
+ghost use Rattle.dn_placement.specs.Slots.{AreProper, Slots};
 ghost use Rattle.dn_book.specs.Terms.{IsKept, slots_of};
 ghost use Rattle.dn_view.specs.Terms.{IsSystem};
 ghost use Rattle.dn_place.specs.Terms.{IsHopReach, IsRequest};
@@ -84,4 +85,23 @@ pub fn is_shut(book: &Book, system: System, agent: u16, at: u64) -> bool
     let tables = book.tables();
     tables.facts();
     is_barred(system, tables, entry)
+}
+
+/// Whether it is known that another address of an agent leads where an address leads, so that it would see
+/// what a placement gives there. Where it is `true`, no request of the agent for some access has an admissible
+/// placement at the address; `false` says nothing. It takes no memory.
+pub fn is_crowded(system: System, agent: u16, at: u64) -> bool
+    requires system { IsSystem meaning system }
+    requires agent { IsTrue (is_agent_at (slice_get system.on.net.now agent)) }
+    ensures { IsTrue result → (slots : Slots) (rq : Request) → AreProper system.entry.on.net.now slots
+        → rq.agent ≡ agent → IsTrue (are_rights rq.rights)
+        → NoneSuited system.entry.on.net.now slots rq (Some at) }
+{
+    match entry_of(system, agent, Some(at)) {
+        Some(entry) => system
+            .flats
+            .crowd_among(entry.node, entry.base, 1)
+            .is_some(),
+        None => false,
+    }
 }

@@ -1,8 +1,10 @@
--- What a search for a vector goes by, and the least of a span that has an admissible placement at a line.
-use Rattle.std.specs.Prelude.{ℕ, ◌<◌, ◌≤◌, List, Some, slice_get, IsTrue}
+-- What a search for a vector goes by, and the least of some vectors that has an admissible placement at a line.
+use Rattle.std.specs.Prelude.{◌≡◌, ℕ, ◌<◌, ◌≤◌, true, false, List, Some, slice_get, IsTrue}
 use Rattle.dn_interval.specs.declared.span.Span.{Span}
+use Rattle.dn_interval.specs.Spans.{has}
+use Rattle.dn_net.specs.declared.node.Block.{Block}
 use Rattle.dn_net.specs.declared.node.NodeDecl.{NodeDecl}
-use Rattle.dn_net.specs.Decode.{is_agent_at}
+use Rattle.dn_net.specs.Decode.{in_some_block, is_agent_at, top}
 use Rattle.dn_kind.specs.Kind.{Meaning}
 use Rattle.dn_kind.specs.Kinded.{kinds_of}
 use Rattle.dn_tables.specs.Placement.{Place}
@@ -14,7 +16,7 @@ use Rattle.dn_book.specs.Tables.{IsKept}
 use Rattle.dn_view.specs.Systems.{IsSystem}
 use Rattle.dn_vector.specs.declared.search.Asked.{Asked}
 use Rattle.dn_vector.specs.Route.{HasNoPlace}
-use Rattle.dn_vector.specs.Vectors.{vector_request}
+use Rattle.dn_vector.specs.Vectors.{is_taken_vector, vector_request}
 
 -- the system is one, the book is kept, the agent is one, and the node has vectors
 pub record IsRouteAsked {K : Type 0} {V : K → Type 0} (means : (k : K) × V k → Meaning) (asked : Asked K V) : Type 0 where
@@ -24,11 +26,31 @@ pub record IsRouteAsked {K : Type 0} {V : K → Type 0} (means : (k : K) × V k 
   pub agent : IsTrue (is_agent_at (slice_get asked.system.on.net.now asked.agent))
   pub target : IsTrue (is_vectors_at (slice_get asked.system.on.net.now asked.node))
 
--- the vector is the least of a span that has an admissible placement at the line, and this is the first
-pub record IsLeastOfSpan (net : List NodeDecl) (book : List Grant) (agent line node : ℕ) (span : Span)
-    (vector : ℕ) (p : Place) : Type 0 where
-  pub from : span.lo ≤ vector
-  pub to : vector ≤ span.hi
+-- no live grant has the vector, and this is its first admissible placement at the line
+pub record IsVectorPlaced (net : List NodeDecl) (book : List Grant) (agent line node vector : ℕ) (p : Place)
+    : Type 0 where
+  pub untaken : is_taken_vector book node vector ≡ false
   pub first : IsFirst net (slots_of net book) (vector_request agent node vector) (Some line) p
-  pub least : (lesser : ℕ) → span.lo ≤ lesser → lesser < vector →
-      HasNoPlace net book agent line node lesser
+
+-- the vector is one from a first to a last, the least of them that no live grant has and that has an
+-- admissible placement at the line, and this is the first
+pub record IsLeastBetween (net : List NodeDecl) (book : List Grant) (agent line node first last vector : ℕ)
+    (p : Place) : Type 0 where
+  pub from : first ≤ vector
+  pub to : vector ≤ last
+  pub placed : IsVectorPlaced net book agent line node vector p
+  pub least : (lesser : ℕ) → first ≤ lesser → lesser < vector →
+      is_taken_vector book node lesser ≡ false → HasNoPlace net book agent line node lesser
+
+-- so it is of the vectors of blocks
+pub record IsLeastOfBlocks (net : List NodeDecl) (book : List Grant) (agent line node : ℕ) (blocks : List Block)
+    (vector : ℕ) (p : Place) : Type 0 where
+  pub inside : in_some_block vector blocks ≡ true
+  pub low : vector ≤ top
+  pub placed : IsVectorPlaced net book agent line node vector p
+  pub least : (lesser : ℕ) → lesser < vector → in_some_block lesser blocks ≡ true →
+      is_taken_vector book node lesser ≡ false → HasNoPlace net book agent line node lesser
+
+-- the set has just the vectors that live grants have
+abbrev pub AreTaken : List Grant → ℕ → List Span → Type 0
+AreTaken book node set = (a : ℕ) → a ≤ top → has set a ≡ is_taken_vector book node a

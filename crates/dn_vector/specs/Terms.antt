@@ -2,5 +2,5 @@
 pub use Rattle.dn_vector.specs.Faults.{is_route_fault, route_answer_view, route_fault_view}
 pub use Rattle.dn_vector.specs.Refusal.{route_refusal}
 pub use Rattle.dn_vector.specs.Route.{HasNoPlace, IsLeastVector, IsRouteLogged, IsRouteOutcome, IsTold, NoRouteAddition, NoVector, grant_of_route}
-pub use Rattle.dn_vector.specs.Search.{IsLeastOfSpan, IsRouteAsked}
-pub use Rattle.dn_vector.specs.Vectors.{has_vector, in_some_span, is_free_vector, vector_request}
+pub use Rattle.dn_vector.specs.Search.{AreTaken, IsLeastBetween, IsLeastOfBlocks, IsRouteAsked, IsVectorPlaced}
+pub use Rattle.dn_vector.specs.Vectors.{has_vector, in_some_span, is_taken_vector, vector_request}

@@ -20,6 +20,10 @@ has_vector node vector g =
     nat_eq g.request.node node
     && (nat_le g.request.base vector && nat_lt vector (g.request.base + g.request.size))
 
+-- a live grant has the vector of the node
+abbrev pub is_taken_vector : List Grant → ℕ → ℕ → Bool
+is_taken_vector book node vector = list_any (has_vector node vector) book
+
 -- a span is there that has the address
 abbrev pub in_some_span : Option Span → ℕ → Bool
 in_some_span None a = false
@@ -28,4 +32,4 @@ in_some_span (Some s) a = in_span s a
 -- the node accepts the vector, and no live grant has it
 abbrev pub is_free_vector : List NodeDecl → List Grant → ℕ → ℕ → Bool
 is_free_vector net book node vector =
-    is_accepted_at vector (slice_get net node) && not (list_any (has_vector node vector) book)
+    is_accepted_at vector (slice_get net node) && not (is_taken_vector book node vector)

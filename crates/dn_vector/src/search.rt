@@ -1,16 +1,20 @@
 //! The least vector that has an admissible placement at a line.
 
-ghost use Rattle.std.specs.Prelude.{◌≡◌, ◌≤◌, ℕ, Some, None, IfOk, IfSome};
+ghost use Rattle.std.specs.Prelude.{◌≡◌, ◌≤◌, ℕ, true, false, Some, None, All, IfOk, IfSome, IsTrue};
+ghost use Rattle.std.specs.List.Sorted.{IsNonDecreasingBy};
+ghost use Rattle.dn_interval.specs.declared.span.TheConstants.{TOP};
+ghost use Rattle.dn_net.specs.Terms.{block_in_range, in_some_block};
 ghost use Rattle.dn_place.specs.Terms.{IsHopReach};
-ghost use Rattle.dn_vector.specs.Terms.{HasNoPlace, IsLeastOfSpan, IsLeastVector, IsRouteAsked, NoVector, grant_of_route, vector_request};
+ghost use Rattle.dn_vector.specs.Terms.{AreTaken, HasNoPlace, IsLeastBetween, IsLeastOfBlocks, IsLeastVector, IsRouteAsked, IsVectorPlaced, NoVector, grant_of_route, is_taken_vector, vector_request};
 
 use crate::OutOfMemory;
-use crate::vectors::free_vectors;
+use crate::vectors::taken_vectors;
 use dn_book::book::Book;
 use dn_book::grant::Grant;
-use dn_interval::Span;
+use dn_interval::SpanSet;
 use dn_kind::rights::Rights;
-use dn_place::booked::{first_in_book_from, is_shut};
+use dn_net::node::Block;
+use dn_place::booked::{first_in_book_from, is_crowded, is_shut};
 use dn_place::reach::{ReachMarks, reach_of};
 use dn_placement::request::Request;
 use dn_tables::placement::Placement;
@@ -63,42 +67,118 @@ pub fn least_vector(alloc: Global, asked: Asked) -> Result<Option<FoundRoute>, O
     if is_shut(asked.book, asked.system, asked.agent, asked.line) {
         return Ok(None);
     }
-    let reach = reach_of(alloc, asked.system, asked.agent, Some(asked.line))?;
-    let free = free_vectors(alloc, asked.system.on.net, asked.book.grants(), asked.node)?;
-    for span in free.spans() {
-        if let Some(found) = least_of(alloc, asked, &reach, *span)? {
-            return Ok(Some(found));
-        }
+    if is_crowded(asked.system, asked.agent, asked.line) {
+        return Ok(None);
     }
-    Ok(None)
+    let reach = reach_of(alloc, asked.system, asked.agent, Some(asked.line))?;
+    let taken = taken_vectors(alloc, asked.book.grants(), asked.node)?;
+    let blocks = asked.system.on.net.accept_rows(asked.node);
+    least_of_blocks(alloc, asked, &reach, &taken, blocks)
 }
 
-/// The least of the vectors of a span that has an admissible placement at the line, with the first of
-/// these. `None` exactly where none has one. `Err` is want of memory.
-fn least_of(
+/// The same of the vectors of blocks, which stand in order. Blocks past the vector that is found are not
+/// looked at.
+fn least_of_blocks(
     alloc: Global,
     asked: Asked,
     reach: &ReachMarks,
-    span: Span,
+    taken: &SpanSet,
+    blocks: &[Block],
 ) -> Result<Option<FoundRoute>, OutOfMemory>
     requires asked { IsRouteAsked meaning asked }
     requires reach { IsHopReach asked.system.on.net.now asked.agent reach.now }
     requires line { reach.now.at ≡ Some asked.line }
-    ensures found { IfOk result (λ found.
-        IfSome found (λ f. IsLeastOfSpan asked.entry.system.on.net.now asked.entry.book.now.grants
-        asked.entry.agent asked.entry.line asked.entry.node span f.vector f.placement)) }
+    requires taken { AreTaken asked.book.now.grants asked.node taken.now }
+    requires order { IsNonDecreasingBy (λ b. b.lo) blocks.now }
+    requires in_range { All (λ b. IsTrue (block_in_range b)) blocks.now }
+    ensures found { IfOk result (λ found. IfSome found (λ f.
+        IsLeastOfBlocks asked.entry.system.on.net.now asked.entry.book.now.grants
+        asked.entry.agent asked.entry.line asked.entry.node blocks.now f.vector f.placement)) }
     ensures none { IfOk result (λ found. found ≡ None → (vector : ℕ)
-        → span.lo ≤ vector → vector ≤ span.hi → HasNoPlace asked.entry.system.on.net.now
-        asked.entry.book.now.grants asked.entry.agent asked.entry.line asked.entry.node vector) }
+        → in_some_block vector blocks.now ≡ true
+        → is_taken_vector asked.entry.book.now.grants asked.entry.node vector ≡ false
+        → HasNoPlace asked.entry.system.on.net.now asked.entry.book.now.grants
+        asked.entry.agent asked.entry.line asked.entry.node vector) }
 {
-    for vector in span.lo..span.hi + 1 {
-        let request = vector_request(asked.agent, asked.node, vector);
-        let placement = first_in_book_from(alloc, asked.book, asked.system, &request, reach)?;
+    let mut next = 0;
+    for block in blocks {
+        let first = later(next, block.lo);
+        let last = block.hi;
+        if let Some(found) = least_between(alloc, asked, reach, taken, first, last)? {
+            return Ok(Some(found));
+        }
+        next = later(next, last + 1);
+    }
+    Ok(None)
+}
+
+/// The later of two addresses.
+fn later(one: u64, other: u64) -> u64
+    ensures one { one ≤ result }
+    ensures other { other ≤ result }
+    ensures least { (n : ℕ) → one ≤ n → other ≤ n → result ≤ n }
+{
+    if one < other { other } else { one }
+}
+
+/// The same of the vectors from a first to a last.
+fn least_between(
+    alloc: Global,
+    asked: Asked,
+    reach: &ReachMarks,
+    taken: &SpanSet,
+    first: u64,
+    last: u64,
+) -> Result<Option<FoundRoute>, OutOfMemory>
+    requires asked { IsRouteAsked meaning asked }
+    requires reach { IsHopReach asked.system.on.net.now asked.agent reach.now }
+    requires line { reach.now.at ≡ Some asked.line }
+    requires taken { AreTaken asked.book.now.grants asked.node taken.now }
+    requires few { last ≤ TOP }
+    ensures found { IfOk result (λ found. IfSome found (λ f.
+        IsLeastBetween asked.entry.system.on.net.now asked.entry.book.now.grants
+        asked.entry.agent asked.entry.line asked.entry.node first last f.vector f.placement)) }
+    ensures none { IfOk result (λ found. found ≡ None → (vector : ℕ)
+        → first ≤ vector → vector ≤ last
+        → is_taken_vector asked.entry.book.now.grants asked.entry.node vector ≡ false
+        → HasNoPlace asked.entry.system.on.net.now asked.entry.book.now.grants
+        asked.entry.agent asked.entry.line asked.entry.node vector) }
+{
+    for vector in first..last + 1 {
+        let placement = placement_of(alloc, asked, reach, taken, vector)?;
         if let Some(placement) = placement {
             return Ok(Some(FoundRoute { vector, placement }));
         }
     }
     Ok(None)
+}
+
+/// The first admissible placement of a vector at the line, where no live grant has it.
+fn placement_of(
+    alloc: Global,
+    asked: Asked,
+    reach: &ReachMarks,
+    taken: &SpanSet,
+    vector: u64,
+) -> Result<Option<Placement>, OutOfMemory>
+    requires asked { IsRouteAsked meaning asked }
+    requires reach { IsHopReach asked.system.on.net.now asked.agent reach.now }
+    requires line { reach.now.at ≡ Some asked.line }
+    requires taken { AreTaken asked.book.now.grants asked.node taken.now }
+    requires few { vector ≤ TOP }
+    ensures found { IfOk result (λ found. IfSome found (λ p.
+        IsVectorPlaced asked.entry.system.on.net.now asked.entry.book.now.grants
+        asked.entry.agent asked.entry.line asked.entry.node vector p)) }
+    ensures none { IfOk result (λ found. found ≡ None
+        → is_taken_vector asked.entry.book.now.grants asked.entry.node vector ≡ false
+        → HasNoPlace asked.entry.system.on.net.now asked.entry.book.now.grants
+        asked.entry.agent asked.entry.line asked.entry.node vector) }
+{
+    if taken.contains(vector) {
+        return Ok(None);
+    }
+    let request = vector_request(asked.agent, asked.node, vector);
+    first_in_book_from(alloc, asked.book, asked.system, &request, reach)
 }
 
 /// The request for a vector: one address of its node, for reading and writing.

@@ -1,41 +1,59 @@
-use Rattle.std.proofs.Common.{◌≡◌, ◌∙◌, refl, sym, ap, subst, ℕ, true}
-use Rattle.dn_base.proofs.Lists.{take_past}
-use Rattle.dn_interval.specs.Spans.{AreMaximal, has}
-use Rattle.dn_vector.specs.Vectors.{is_free_vector, vector_request}
+-- The blocks have what the node accepts.
+use Rattle.std.proofs.Common.{◌≡◌, ◌∙◌, refl, sym, ap, subst, ℕ, List, None, IfOk, IfSome, false, true}
+use Rattle.std.proofs.lemmas.Result.{IfOk-weaker}
+use Rattle.dn_base.proofs.Lists.{item_there}
+use Rattle.dn_base.proofs.Told.{if_some_then}
+use Rattle.dn_net.specs.Decode.{in_some_block}
+use Rattle.dn_walk.proofs.Nodes.{node_in_range}
+use Rattle.dn_book.specs.declared.grant.Grant.{Grant}
+use Rattle.dn_book.specs.Book.{slots_of}
+use Rattle.dn_book.proofs.Begun.{book_is_proper}
+use Rattle.dn_vector.specs.Route.{HasNoPlace, IsLeastVector, NoVector}
+use Rattle.dn_vector.specs.Search.{AreTaken}
+use Rattle.dn_vector.specs.Vectors.{is_taken_vector, vector_request}
 use Rattle.dn_vector.proofs.Allowed.{vectors_there}
-use Rattle.dn_vector.proofs.Leasts.{one_more, least_here, none_free}
-use Rattle.dn_vector.proofs.search.least_vector.Given.{Over}
-use Rattle.dn_vector.proofs.search.least_vector.Goals.{In_ok-free}
+use Rattle.dn_vector.proofs.Leasts.{least_free, none_free}
 use Rattle.dn_vector.proofs.search.least_vector.Goals as goal
-
--- the set has the free vectors
-free_in : (g : Over) (c : In_ok-free g) → (a : ℕ) → has c.in_ok-free.free a ≡ is_free_vector c.args.asked.system.on.net.now c.args.asked.book.now.grants c.args.asked.node a
-free_in g c =
-    subst (λ gs. (a : ℕ) → has c.in_ok-free.free a ≡ is_free_vector c.args.asked.system.on.net.now gs c.args.asked.node a) c.grants.ensures c.in_ok-free.ensures.free
 
 pub returns-then-is_shut-clause-none : goal.returns-then-is_shut-clause-none
 returns-then-is_shut-clause-none g c =
     λ none vector free. c.is_shut.ensures c.if-is_shut.true (vector_request c.args.asked.agent c.args.asked.node vector) refl
 
-pub free_vectors-requires-clause-there : goal.free_vectors-requires-clause-there
-free_vectors-requires-clause-there g c =
-    vectors_there c.args.asked.system.on.net.now c.args.asked.node c.requires.asked.target
+pub returns-then-is_crowded-clause-none : goal.returns-then-is_crowded-clause-none
+returns-then-is_crowded-clause-none g c =
+    let net = c.args.asked.system.on.net.now in
+    let book = c.args.asked.book.now.grants in
+    λ none vector free. c.is_crowded.ensures c.if-is_crowded.true (slots_of net book) (vector_request c.args.asked.agent c.args.asked.node vector) (book_is_proper net book c.requires.asked.system.kinded.legal.legal c.requires.asked.kept.sound) refl refl
 
-pub loop-span-preserved : goal.loop-span-preserved
-loop-span-preserved g c =
-    one_more c.args.asked.system.on.net.now c.args.asked.book.now.grants c.args.asked.agent c.args.asked.line c.args.asked.node c.spans-span-items.result.now c.loop-span.span-index c.span-item.result
-    c.loop-span-test.true c.span-item.is c.loop-span.invariant (c.in_ok-found.ensures.none c.in_default.is)
+pub accept_rows-blocks-requires : goal.accept_rows-blocks-requires
+accept_rows-blocks-requires g c = vectors_there c.args.asked.system.on.net.now c.args.asked.node c.requires.asked.target
 
-pub returns-in-Some-clause-found : goal.returns-in-Some-clause-found
-returns-in-Some-clause-found g c =
-    let free = free_in g (goal.at.returns-in-Some-clause-found g c).In_ok-free in
-    least_here c.args.asked.system.on.net.now c.args.asked.book.now.grants c.args.asked.agent c.args.asked.line c.args.asked.node c.spans-span-items.result.now c.loop-span.span-index c.span-item.result _ _
-    c.loop-span-test.true c.span-item.is (subst AreMaximal (sym c.spans-span-items.ensures.value) c.spans-span-items.ensures.maximal)
-    (λ a. ap (λ l. has l a) c.spans-span-items.ensures.value ∙ free a) c.loop-span.invariant
-    (rw c.in-Some.is at c.in_ok-found.ensures.found)
+pub least_of_blocks-requires-clause-taken : goal.least_of_blocks-requires-clause-taken
+least_of_blocks-requires-clause-taken g c = subst (λ (gs : List Grant). AreTaken gs c.args.asked.node c.in_ok-taken.taken) c.grants.ensures c.in_ok-taken.ensures
+
+pub least_of_blocks-requires-clause-in_range : goal.least_of_blocks-requires-clause-in_range
+least_of_blocks-requires-clause-in_range g c =
+    let net = c.args.asked.system.on.net.now in
+    let d = item_there net c.args.asked.node (vectors_there net c.args.asked.node c.requires.asked.target) in
+    c.accept_rows-blocks.ensures.in_range d.0 d.1 (node_in_range net c.requires.asked.system.kinded.legal.legal.nodes.each c.args.asked.node d.0 d.1).0
+
+pub returns-clause-found : goal.returns-clause-found
+returns-clause-found g c =
+    let net = c.args.asked.system.on.net.now in
+    let book = c.args.asked.book.now.grants in
+    let blocks = c.accept_rows-blocks.result.now in
+    let d = item_there net c.args.asked.node (vectors_there net c.args.asked.node c.requires.asked.target) in
+    IfOk-weaker c.least_of_blocks.result _ (λ found. IfSome found (λ f. IsLeastVector net book c.args.asked.agent c.args.asked.line c.args.asked.node f.vector f.placement))
+    (λ found h. if_some_then found _ (λ f. IsLeastVector net book c.args.asked.agent c.args.asked.line c.args.asked.node f.vector f.placement)
+    (λ f is. least_free net book c.args.asked.agent c.args.asked.line c.args.asked.node d.0 blocks d.1 (c.accept_rows-blocks.ensures.same d.0 d.1) f.vector f.placement is) h)
+    c.least_of_blocks.ensures.found
 
 pub returns-clause-none : goal.returns-clause-none
 returns-clause-none g c =
-    let free = free_in g (goal.at.returns-clause-none g c).In_ok-free in
-    λ none. none_free c.args.asked.system.on.net.now c.args.asked.book.now.grants c.args.asked.agent c.args.asked.line c.args.asked.node c.in_ok-free.free free
-    (λ a e. c.loop-span.invariant a (ap (λ l. has l a) (take_past c.spans-span-items.result.now c.loop-span.span-index c.loop-span-test.false ∙ c.spans-span-items.ensures.value) ∙ e))
+    let net = c.args.asked.system.on.net.now in
+    let book = c.args.asked.book.now.grants in
+    let blocks = c.accept_rows-blocks.result.now in
+    let d = item_there net c.args.asked.node (vectors_there net c.args.asked.node c.requires.asked.target) in
+    IfOk-weaker c.least_of_blocks.result (λ found. found ≡ None → (vector : ℕ) → in_some_block vector blocks ≡ true → is_taken_vector book c.args.asked.node vector ≡ false → HasNoPlace net book c.args.asked.agent c.args.asked.line c.args.asked.node vector) (λ found. found ≡ None → NoVector net book c.args.asked.agent c.args.asked.line c.args.asked.node)
+    (λ found h none. none_free net book c.args.asked.agent c.args.asked.line c.args.asked.node d.0 blocks d.1 (c.accept_rows-blocks.ensures.same d.0 d.1) (h none))
+    c.least_of_blocks.ensures.none
