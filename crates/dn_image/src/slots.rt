@@ -1,7 +1,8 @@
 //! The record that a slot holds in the bytes of an image.
 
-ghost use Rattle.std.specs.Prelude.{◌≡◌, ◌+◌, ◌*◌, ◌<◌, ◌≤◌, ◌++◌, length, take, slice_get, None, Some, IsTrue};
+ghost use Rattle.std.specs.Prelude.{◌≡◌, ◌+◌, ◌*◌, ◌<◌, ◌≤◌, ◌++◌, length, take, slice_get, None, Some, IsSome, IsTrue};
 ghost use Rattle.std.specs.Option.{option_copied};
+ghost use Rattle.dn_net.specs.Terms.{unit_at};
 ghost use Rattle.dn_kind.specs.Terms.{AreKinds, IsShaped, Meaning, has_shape, is_shaped, kinds_of, record_held, record_of_unit, record_within};
 ghost use Rattle.dn_image.specs.Terms.{broken_image, image_words, node_size, nodes_size, width_of, word_count, words_spelled};
 
@@ -30,8 +31,23 @@ pub fn record_in(on: KindedNet, bytes: &[u8], node: u16, slot: u64) -> Option<Re
     record_of(unit, on.kinds, &bytes[words_at(on, node)..], slot as u32)
 }
 
+/// The bytes of an image of the net from the words of a unit on, eight for each word: those of slot 0
+/// stand first.
+pub fn unit_bytes<'a>(on: KindedNet, bytes: &'a [u8], node: u16) -> &'a [u8]
+    requires on { IsShaped meaning on }
+    requires whole { broken_image on.net.now (kinds_of meaning on.kinds.now) bytes.now ≡ None }
+    requires unit { IsSome (unit_at on.net.now node) }
+    ensures room { 8 * word_count (kinds_of meaning on.entry.kinds.now)
+        (unit_at on.entry.net.now node) ≤ length result.now }
+    ensures words { slice_get (image_words on.entry.net.now
+        (kinds_of meaning on.entry.kinds.now) bytes.now) node ≡ Some (words_spelled (word_count
+        (kinds_of meaning on.entry.kinds.now) (unit_at on.entry.net.now node)) result.now) }
+{
+    &bytes[words_at(on, node)..]
+}
+
 /// The record that a slot of a unit holds, whose words stand first in these bytes.
-fn record_of(unit: &Unit, kinds: &Kinds, bytes: &[u8], slot: u32) -> Option<Record>
+pub fn record_of(unit: &Unit, kinds: &Kinds, bytes: &[u8], slot: u32) -> Option<Record>
     requires kinds { AreKinds meaning kinds.now }
     requires shaped { IsTrue (is_shaped (kinds_of meaning kinds.now) unit.now) }
     requires slot { slot < unit.now.slots }
@@ -109,7 +125,7 @@ pub(crate) fn count_words(unit: &Unit, kinds: &Kinds) -> usize
 }
 
 /// How many words a record of a unit has.
-pub(crate) fn record_width(unit: &Unit, kinds: &Kinds) -> u8
+pub fn record_width(unit: &Unit, kinds: &Kinds) -> u8
     requires kinds { AreKinds meaning kinds.now }
     requires known { unit.now.kind < length kinds.now.list.items }
     ensures width { result ≡ width_of (kinds_of meaning kinds.now) unit.now }
