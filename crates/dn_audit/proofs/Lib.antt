@@ -1,0 +1,13 @@
+pub mod AsRows
+pub mod Checked
+pub mod Counting
+pub mod Filled
+pub mod Gates
+pub mod Joined
+pub mod Nodes
+pub mod One
+pub mod Seeing
+pub mod Seers
+pub mod Several
+pub mod Told
+pub mod Viewers

@@ -1,0 +1,12 @@
+pub mod Audit
+pub mod Claims
+pub mod Input
+pub mod Nodes
+pub mod Records
+pub mod Shared
+pub mod Sizes
+pub mod Taking
+pub mod Terms
+pub mod Text
+pub mod Told
+pub mod Views
