@@ -1,9 +1,10 @@
-//! Tests of tables, of their images and of lookups in these.
+//! Tests of tables, of their images, and of lookups in these and audits of them.
 //!
 //! What needs the kinds of the program is called by one test, since making these kinds is the dearest part of each.
 
 ghost use Rattle.dn_kind.specs.Terms.{AreKinds};
 
+use crate::tables::audits::audit_images;
 use crate::tables::boards::{page_plan, port_plan, two_units};
 use crate::tables::images::read_pages;
 use crate::tables::lookups::{ask_ports, look_up_pages};
@@ -17,6 +18,7 @@ use std::alloc::Global;
 use std::process::Abort;
 use test_plans::{Plan, run_with_kinds};
 
+mod audits;
 pub mod boards;
 mod devices;
 mod images;
@@ -29,7 +31,7 @@ fn makes_puts_clears_reads_and_looks_up(rt: HostRuntime) {
     run_with_kinds!(
         rt;
         make_two_units, stop_at_makes, put_and_clear, watch_the_gate, stop_at_writes, count_uses,
-        read_images
+        read_images, audit_images
     )
 }
 
