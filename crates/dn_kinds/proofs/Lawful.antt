@@ -51,6 +51,13 @@ zero_bits n e = rw e refl
 both_zero : (n m : ℕ) → n ≡ 0 → m ≡ 0 → (n == 0) && (m == 0) ≡ true
 both_zero n m e f = rw (e, f) refl
 
+-- a gate word with the page from bit 8 on is below 2^64
+small_from_8 : (kind : Meaning) (shape : Shape) (r : Record) → IsPackable kind shape r → gate_bits r + 256 * r.page < 2 ^ 64
+small_from_8 kind shape r p =
+    let gate : gate_bits r < 64 = gate_small r (port_small kind shape r p) in
+    let page : r.page < 2 ^ 56 = page_small kind shape r p in
+    omega arith
+
 pages_back : (shape : Shape) (r : Record) → IsPackable pages shape r → spelled_pages (gate_bits r + 256 * r.page) ≡ Some r
 pages_back shape r p =
     let w : ℕ = gate_bits r + 256 * r.page in
@@ -63,14 +70,8 @@ pages_back shape r p =
     let high : bits w 6 2 ≡ 0 = omega arith in
     gated_back pages shape r p _ w (bits w 8 56) (both_zero _ _ low high) (omega arith) (omega arith)
 
-pages_small : (shape : Shape) (r : Record) → IsPackable pages shape r → gate_bits r + 256 * r.page < 2 ^ 64
-pages_small shape r p =
-    let gate : gate_bits r < 64 = gate_small r (port_small pages shape r p) in
-    let page : r.page < 2 ^ 56 = page_small pages shape r p in
-    omega arith
-
 pub pages_are_lawful : IsLawful pages
-pages_are_lawful = word_is_lawful pages.name pages.fits (λ shape r. gate_bits r + 256 * r.page) spelled_pages pages_small pages_back (λ w h. gate_clear ((bits w 1 3 == 0) && (bits w 6 2 == 0)) w (bits w 8 56) h) (λ w r e. read_are_rights ((bits w 1 3 == 0) && (bits w 6 2 == 0)) w (bits w 8 56) r e)
+pages_are_lawful = word_is_lawful pages.name pages.fits (λ shape r. gate_bits r + 256 * r.page) spelled_pages (small_from_8 pages) pages_back (λ w h. gate_clear ((bits w 1 3 == 0) && (bits w 6 2 == 0)) w (bits w 8 56) h) (λ w r e. read_are_rights ((bits w 1 3 == 0) && (bits w 6 2 == 0)) w (bits w 8 56) r e)
 
 remap_back : (shape : Shape) (r : Record) → IsPackable remap shape r → spelled_remap (gate_bits r + 256 * r.page) ≡ Some r
 remap_back shape r p =
@@ -80,14 +81,8 @@ remap_back shape r p =
     let high : bits w 6 2 ≡ 0 = omega arith in
     gated_back remap shape r p _ w (bits w 8 56) (zero_bits _ high) (omega arith) (omega arith)
 
-remap_small : (shape : Shape) (r : Record) → IsPackable remap shape r → gate_bits r + 256 * r.page < 2 ^ 64
-remap_small shape r p =
-    let gate : gate_bits r < 64 = gate_small r (port_small remap shape r p) in
-    let page : r.page < 2 ^ 56 = page_small remap shape r p in
-    omega arith
-
 pub remap_is_lawful : IsLawful remap
-remap_is_lawful = word_is_lawful remap.name remap.fits (λ shape r. gate_bits r + 256 * r.page) spelled_remap remap_small remap_back (λ w h. gate_clear (bits w 6 2 == 0) w (bits w 8 56) h) (λ w r e. read_are_rights (bits w 6 2 == 0) w (bits w 8 56) r e)
+remap_is_lawful = word_is_lawful remap.name remap.fits (λ shape r. gate_bits r + 256 * r.page) spelled_remap (small_from_8 remap) remap_back (λ w h. gate_clear (bits w 6 2 == 0) w (bits w 8 56) h) (λ w r e. read_are_rights (bits w 6 2 == 0) w (bits w 8 56) r e)
 
 -- a page of `radix` has 4,096 bytes
 pub radix_page : (shape : Shape) (r : Record) → IsPackable radix shape r → r.page < 2 ^ 44

@@ -64,6 +64,16 @@ gated zeros w page =
 abbrev pub page_word : ℕ → Shape → Record → List ℕ
 page_word first shape r = (gate_bits r + 2 ^ first * r.page) ∷ []
 
+-- a kind of one word, which has the output page from a bit on
+abbrev pub word_kind : List ℕ → (Shape → Bool) → ℕ → (ℕ → Option Record) → Meaning
+word_kind name fits first spelled = record {
+  name = name;
+  words = 1;
+  fits = fits;
+  pack = page_word first;
+  unpack = unpack_word spelled;
+}
+
 -- a shape has 1 to 8 ports
 abbrev pub has_ports : Shape → Bool
 has_ports shape = nat_le 1 shape.ports && nat_le shape.ports 8
@@ -75,13 +85,7 @@ spelled_pages w = gated ((bits w 1 3 == 0) && (bits w 6 2 == 0)) w (bits w 8 56)
 
 -- the kind `pages`
 abbrev pub pages : Meaning
-pages = record {
-  name = codes "pages";
-  words = 1;
-  fits = λ shape. shape.ports == 1;
-  pack = page_word 8;
-  unpack = unpack_word spelled_pages;
-}
+pages = word_kind (codes "pages") (λ shape. shape.ports == 1) 8 spelled_pages
 
 -- the record that a word spells in `remap`: bits 6 and 7 zero, bits 8 to 63 the output page
 abbrev pub spelled_remap : ℕ → Option Record
@@ -89,13 +93,7 @@ spelled_remap w = gated (bits w 6 2 == 0) w (bits w 8 56)
 
 -- the kind `remap`
 abbrev pub remap : Meaning
-remap = record {
-  name = codes "remap";
-  words = 1;
-  fits = has_ports;
-  pack = page_word 8;
-  unpack = unpack_word spelled_remap;
-}
+remap = word_kind (codes "remap") has_ports 8 spelled_remap
 
 -- the words of a record of `vectors`: word 0 the output address, word 1 the gate word
 abbrev pub pack_vectors : Shape → Record → List ℕ
@@ -125,13 +123,7 @@ spelled_radix w = gated ((bits w 6 6 == 0) && (bits w 56 8 == 0)) w (bits w 12 4
 
 -- the kind `radix`
 abbrev pub radix : Meaning
-radix = record {
-  name = codes "radix";
-  words = 1;
-  fits = λ shape. has_ports shape && (shape.page == 12);
-  pack = page_word 12;
-  unpack = unpack_word spelled_radix;
-}
+radix = word_kind (codes "radix") (λ shape. has_ports shape && (shape.page == 12)) 12 spelled_radix
 
 -- what a shipped kind means
 abbrev pub shipped : ShippedKind → Meaning
