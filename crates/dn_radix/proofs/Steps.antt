@@ -24,9 +24,6 @@ count_begun level ws n =
 pub tree_is : (level at : ℕ) (ws : List ℕ) → (level ≡ 0 → ⊥) → tree level at ws ≡ entries (page_count (level - 1)) (at + 1) (pieces 512 (room (level - 1)) ws) ++ trees (page_count (level - 1)) (tree (level - 1)) (at + 1) (pieces 512 (room (level - 1)) ws)
 tree_is level at ws n = ap (λ m. tree m at ws) (above level n) ∙ tree_next (level - 1) at ws
 
-pub part_is : (size size' k : ℕ) (ws part : List ℕ) → size ≡ size' → part ≡ take size (drop (k * size) ws) → part ≡ take size' (drop (k * size') ws)
-part_is size size' k ws part e h = h ∙ ap (λ s. take s (drop (k * s) ws)) e
-
 -- the pieces from one on are this one and those after it
 here : (n size k : ℕ) (ws part : List ℕ) → k < n → part ≡ take size (drop (k * size) ws) → pieces (n - k) size (drop (k * size) ws) ≡ part ∷ pieces (n - (k + 1)) size (drop ((k + 1) * size) ws)
 here n size k ws part l e = pieces_next n k size ws l ∙ ap (λ (q : List ℕ). q ∷ pieces (n - (k + 1)) size (drop ((k + 1) * size) ws)) (sym e)

@@ -41,9 +41,18 @@ fn is_zero(words: &[u64]) -> bool
     true
 }
 
+/// The piece of a number, of the 512 that are below an entry, where so many levels of entries are below it.
+fn piece(words: &[u64], below: u32, k: usize) -> &[u64]
+    requires level { below ≤ 1 }
+    requires few { k < 512 }
+    ensures { result.now ≡ take (room below) (drop (k * room below) words.now) }
+{
+    cut(words, room(below), k)
+}
+
 /// The piece of a number, of pieces of so many words.
 #[tactic(auto, using(crate::proofs::Cut::cut_is))]
-fn piece(words: &[u64], size: usize, k: usize) -> &[u64]
+fn cut(words: &[u64], size: usize, k: usize) -> &[u64]
     requires size { size ≤ 2 ^ 27 }
     requires few { k < 512 }
     ensures { result.now ≡ take size (drop (k * size) words.now) }
@@ -75,10 +84,9 @@ fn count_pages(level: u32, words: &[u64]) -> u32
         return 1;
     }
     let below = level - 1;
-    let size = room(below);
     let mut count = 1;
     for k in 0..512 {
-        let part = piece(words, size, k);
+        let part = piece(words, below, k);
         if !is_zero(part) {
             count += count_pages(below, part);
         }
@@ -97,10 +105,9 @@ fn push_tree(out: &mut Vec<u64>, level: u32, at: u32, words: &[u64]) -> Result<(
     }
     let below = level - 1;
     push_entries(out, below, at + 1, words)?;
-    let size = room(below);
     let mut next = at + 1;
     for k in 0..512 {
-        let part = piece(words, size, k);
+        let part = piece(words, below, k);
         if !is_zero(part) {
             push_tree(out, below, next, part)?;
             next += count_pages(below, part);
@@ -133,10 +140,9 @@ fn push_entries(
     ensures { OnOk result (out.new.items ≡ out.old.items
         ++ entries (page_count below) first (pieces 512 (room below) words.now)) }
 {
-    let size = room(below);
     let mut next = first;
     for k in 0..512 {
-        let part = piece(words, size, k);
+        let part = piece(words, below, k);
         if is_zero(part) {
             out.push(0)?;
         } else {

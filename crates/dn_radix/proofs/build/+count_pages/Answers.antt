@@ -1,7 +1,7 @@
 use Rattle.std.proofs.Common.{◌≡◌, ◌-◌, ◌*◌, ◌≤◌, false, true, sym, ap, arith, rules, subst, drop}
 use Rattle.dn_radix.specs.Tree.{is_zero, page_count, pages_of, room}
-use Rattle.dn_radix.proofs.Pieces.{room_small, tree_few}
-use Rattle.dn_radix.proofs.Steps.{count_first, count_begun, none_left, pages_pass, pages_take, part_is}
+use Rattle.dn_radix.proofs.Pieces.{tree_few}
+use Rattle.dn_radix.proofs.Steps.{count_first, count_begun, none_left, pages_pass, pages_take}
 use Rattle.dn_radix.proofs.build.+count_pages.Goals as goal
 use Rattle.dn_radix.proofs.build.+count_pages.Goals.{then-not-is_zero, else-not-is_zero}
 
@@ -11,31 +11,26 @@ returns-then-level-eq0 t c = count_first c.args.level c.args.words.now c.if-leve
 pub loop-k-init : goal.loop-k-init
 loop-k-init t c = count_begun c.args.level c.args.words.now c.if-level-eq0.false
 
-pub piece-part-requires-clause-size : goal.piece-part-requires-clause-size
-piece-part-requires-clause-size t c = subst (λ n. n ≤ 134217728) (sym c.room-size.ensures) (room_small (c.args.level - 1) (omega arith))
-
 pub overflow_add-count : goal.overflow_add-count
 overflow_add-count t c =
     let z : is_zero c.piece-part.result.now ≡ false = search rules in
-    let part = part_is c.room-size.result (room (c.args.level - 1)) c.loop-k.k c.args.words.now c.piece-part.result.now c.room-size.ensures c.piece-part.ensures in
-    let on = pages_take (page_count (c.args.level - 1)) 512 (room (c.args.level - 1)) c.loop-k.k c.loop-k.count (page_count c.args.level c.args.words.now) c.args.words.now c.piece-part.result.now c.loop-k-test.true part z c.loop-k.invariant in
+    let on = pages_take (page_count (c.args.level - 1)) 512 (room (c.args.level - 1)) c.loop-k.k c.loop-k.count (page_count c.args.level c.args.words.now) c.args.words.now c.piece-part.result.now c.loop-k-test.true c.piece-part.ensures z c.loop-k.invariant in
     let few = tree_few c.args.level c.args.words.now c.requires in
     let e = c.count_pages-count.ensures in
     omega (arith, on, few, e)
 
 pub loop-k-preserved : goal.loop-k-preserved
 loop-k-preserved t c =
-    let part = part_is c.room-size.result (room (c.args.level - 1)) c.loop-k.k c.args.words.now c.piece-part.result.now c.room-size.ensures c.piece-part.ensures in
     elim c.if-not-is_zero.branch [
       | then-not-is_zero w ↦
           let z : is_zero c.piece-part.result.now ≡ false = search rules in
-          let on = pages_take (page_count (c.args.level - 1)) 512 (room (c.args.level - 1)) c.loop-k.k c.loop-k.count (page_count c.args.level c.args.words.now) c.args.words.now c.piece-part.result.now c.loop-k-test.true part z c.loop-k.invariant in
+          let on = pages_take (page_count (c.args.level - 1)) 512 (room (c.args.level - 1)) c.loop-k.k c.loop-k.count (page_count c.args.level c.args.words.now) c.args.words.now c.piece-part.result.now c.loop-k-test.true c.piece-part.ensures z c.loop-k.invariant in
           let e = w.count_pages-count.ensures in
           let f = w.count-is in
           omega (arith, on, e, f)
       | else-not-is_zero w ↦
           let z : is_zero c.piece-part.result.now ≡ true = search rules in
-          let on = pages_pass (page_count (c.args.level - 1)) 512 (room (c.args.level - 1)) c.loop-k.k c.loop-k.count (page_count c.args.level c.args.words.now) c.args.words.now c.piece-part.result.now c.loop-k-test.true part z c.loop-k.invariant in
+          let on = pages_pass (page_count (c.args.level - 1)) 512 (room (c.args.level - 1)) c.loop-k.k c.loop-k.count (page_count c.args.level c.args.words.now) c.args.words.now c.piece-part.result.now c.loop-k-test.true c.piece-part.ensures z c.loop-k.invariant in
           let f = w.count-is in
           omega (arith, on, f)
     ]

@@ -1,7 +1,7 @@
 use Rattle.std.proofs.Common.{◌≡◌, ◌∙◌, ◌+◌, ◌-◌, ◌*◌, ◌≤◌, ◌++◌, false, true, List, ℕ, sym, ap, arith, rules, subst, drop, append-nil, append_assoc}
 use Rattle.dn_radix.specs.Tree.{entries, is_zero, page_count, pages_of, pieces, room, tree, trees}
-use Rattle.dn_radix.proofs.Pieces.{room_small, pieces_first}
-use Rattle.dn_radix.proofs.Steps.{count_begun, tree_is, none_left, pages_pass, pages_take, trees_pass, trees_take, part_is}
+use Rattle.dn_radix.proofs.Pieces.{pieces_first}
+use Rattle.dn_radix.proofs.Steps.{count_begun, tree_is, none_left, pages_pass, pages_take, trees_pass, trees_take}
 use Rattle.dn_radix.proofs.build.+push_tree.Goals as goal
 use Rattle.dn_radix.proofs.build.+push_tree.Goals.{then-not-is_zero+in_ok-push_tree, else-not-is_zero}
 
@@ -25,29 +25,23 @@ loop-k-init t c =
           ∙ ap (λ (l : List ℕ). c.args.out.now.items ++ l) (sym (tree_is c.args.level c.args.at c.args.words.now c.if-level-eq0.false));
     }
 
-pub piece-part-requires-clause-size : goal.piece-part-requires-clause-size
-piece-part-requires-clause-size t c = subst (λ n. n ≤ 134217728) (sym c.room-size.ensures) (room_small (c.args.level - 1) (omega arith))
-
 pub push_tree-requires : goal.push_tree-requires
 push_tree-requires t c =
     let z : is_zero c.piece-part.result.now ≡ false = search rules in
-    let part = part_is c.room-size.result (room (c.args.level - 1)) c.loop-k.k c.args.words.now c.piece-part.result.now c.room-size.ensures c.piece-part.ensures in
-    let on = pages_take (page_count (c.args.level - 1)) 512 (room (c.args.level - 1)) c.loop-k.k c.loop-k.next (c.args.at + page_count c.args.level c.args.words.now) c.args.words.now c.piece-part.result.now c.loop-k-test.true part z c.loop-k.invariant.pages in
+    let on = pages_take (page_count (c.args.level - 1)) 512 (room (c.args.level - 1)) c.loop-k.k c.loop-k.next (c.args.at + page_count c.args.level c.args.words.now) c.args.words.now c.piece-part.result.now c.loop-k-test.true c.piece-part.ensures z c.loop-k.invariant.pages in
     let few = c.requires.few in
     (omega arith, (omega arith, omega (arith, on, few)))
 
 pub overflow_add-next-then-not-is_zero : goal.overflow_add-next-then-not-is_zero
 overflow_add-next-then-not-is_zero t c =
     let z : is_zero c.piece-part.result.now ≡ false = search rules in
-    let part = part_is c.room-size.result (room (c.args.level - 1)) c.loop-k.k c.args.words.now c.piece-part.result.now c.room-size.ensures c.piece-part.ensures in
-    let on = pages_take (page_count (c.args.level - 1)) 512 (room (c.args.level - 1)) c.loop-k.k c.loop-k.next (c.args.at + page_count c.args.level c.args.words.now) c.args.words.now c.piece-part.result.now c.loop-k-test.true part z c.loop-k.invariant.pages in
+    let on = pages_take (page_count (c.args.level - 1)) 512 (room (c.args.level - 1)) c.loop-k.k c.loop-k.next (c.args.at + page_count c.args.level c.args.words.now) c.args.words.now c.piece-part.result.now c.loop-k-test.true c.piece-part.ensures z c.loop-k.invariant.pages in
     let few = c.requires.few in
     let e = c.count_pages-next.ensures in
     omega (arith, on, few, e)
 
 pub loop-k-preserved : goal.loop-k-preserved
 loop-k-preserved t c =
-    let part = part_is c.room-size.result (room (c.args.level - 1)) c.loop-k.k c.args.words.now c.piece-part.result.now c.room-size.ensures c.piece-part.ensures in
     let f : List ℕ → ℕ = page_count (c.args.level - 1) in
     let made : ℕ → List ℕ → List ℕ = tree (c.args.level - 1) in
     let size : ℕ = room (c.args.level - 1) in
@@ -59,20 +53,20 @@ loop-k-preserved t c =
     elim c.if-not-is_zero.branch [
       | then-not-is_zero+in_ok-push_tree w ↦
           let z : is_zero p ≡ false = search rules in
-          let on = pages_take f 512 size c.loop-k.k c.loop-k.next all ws p c.loop-k-test.true part z c.loop-k.invariant.pages in
+          let on = pages_take f 512 size c.loop-k.k c.loop-k.next all ws p c.loop-k-test.true c.piece-part.ensures z c.loop-k.invariant.pages in
           let e : c.if-not-is_zero.next ≡ c.loop-k.next + f p = w.next-is ∙ ap (λ m. c.loop-k.next + m) w.count_pages-next.ensures in
           let o : c.if-not-is_zero.out.items ≡ c.loop-k.out.items ++ made c.loop-k.next p = ap (λ v. v.items) w.out-is ∙ w.in_ok-push_tree.ensures in
-          let trees' = trees_take f made 512 size c.loop-k.k c.loop-k.next ws p c.loop-k.out.items c.if-not-is_zero.out.items whole c.loop-k-test.true part z o c.loop-k.invariant.made in
+          let trees' = trees_take f made 512 size c.loop-k.k c.loop-k.next ws p c.loop-k.out.items c.if-not-is_zero.out.items whole c.loop-k-test.true c.piece-part.ensures z o c.loop-k.invariant.made in
           record {
             pages = omega (arith, on, e);
             made = ap (λ m. c.if-not-is_zero.out.items ++ trees f made m rest) e ∙ trees';
           }
       | else-not-is_zero w ↦
           let z : is_zero p ≡ true = search rules in
-          let on = pages_pass f 512 size c.loop-k.k c.loop-k.next all ws p c.loop-k-test.true part z c.loop-k.invariant.pages in
+          let on = pages_pass f 512 size c.loop-k.k c.loop-k.next all ws p c.loop-k-test.true c.piece-part.ensures z c.loop-k.invariant.pages in
           let e = w.next-is in
           let o : c.if-not-is_zero.out.items ≡ c.loop-k.out.items = ap (λ v. v.items) w.out-is in
-          let trees' = trees_pass f made 512 size c.loop-k.k c.loop-k.next ws p c.loop-k.out.items whole c.loop-k-test.true part z c.loop-k.invariant.made in
+          let trees' = trees_pass f made 512 size c.loop-k.k c.loop-k.next ws p c.loop-k.out.items whole c.loop-k-test.true c.piece-part.ensures z c.loop-k.invariant.made in
           record {
             pages = omega (arith, on, e);
             made = ap (λ (r : List ℕ). r ++ trees f made c.if-not-is_zero.next rest) o ∙ ap (λ m. c.loop-k.out.items ++ trees f made m rest) e ∙ trees';

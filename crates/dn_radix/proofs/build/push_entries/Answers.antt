@@ -1,26 +1,20 @@
 use Rattle.std.proofs.Common.{◌≡◌, ◌∙◌, ◌+◌, ◌-◌, ◌*◌, ◌≤◌, ◌++◌, [], ◌∷◌, false, true, List, ℕ, sym, ap, arith, rules, subst, drop, append-nil}
 use Rattle.dn_radix.specs.Tree.{entries, is_zero, page_count, pages_of, pieces, room}
-use Rattle.dn_radix.proofs.Pieces.{room_small}
-use Rattle.dn_radix.proofs.Steps.{none_left, pages_pass, pages_take, entries_pass, entries_take, part_is}
+use Rattle.dn_radix.proofs.Steps.{none_left, pages_pass, pages_take, entries_pass, entries_take}
 use Rattle.dn_radix.proofs.build.push_entries.Goals as goal
 use Rattle.dn_radix.proofs.build.push_entries.Goals.{then-is_zero+in_ok-push, else-is_zero+in_ok-push-2}
-
-pub piece-part-requires-clause-size : goal.piece-part-requires-clause-size
-piece-part-requires-clause-size c = subst (λ n. n ≤ 134217728) (sym c.room-size.ensures) (room_small c.args.below c.requires.level)
 
 pub overflow_add-next : goal.overflow_add-next
 overflow_add-next c =
     let z : is_zero c.piece-part.result.now ≡ false = search rules in
-    let part = part_is c.room-size.result (room c.args.below) c.loop-k.k c.args.words.now c.piece-part.result.now c.room-size.ensures c.piece-part.ensures in
     let whole : ℕ = c.args.first + pages_of (page_count c.args.below) (pieces 512 (room c.args.below) c.args.words.now) in
-    let on = pages_take (page_count c.args.below) 512 (room c.args.below) c.loop-k.k c.loop-k.next whole c.args.words.now c.piece-part.result.now c.loop-k-test.true part z c.loop-k.invariant.pages in
+    let on = pages_take (page_count c.args.below) 512 (room c.args.below) c.loop-k.k c.loop-k.next whole c.args.words.now c.piece-part.result.now c.loop-k-test.true c.piece-part.ensures z c.loop-k.invariant.pages in
     let few = c.requires.few in
     let e = c.count_pages-next.ensures in
     omega (arith, on, few, e)
 
 pub loop-k-preserved : goal.loop-k-preserved
 loop-k-preserved c =
-    let part = part_is c.room-size.result (room c.args.below) c.loop-k.k c.args.words.now c.piece-part.result.now c.room-size.ensures c.piece-part.ensures in
     let f : List ℕ → ℕ = page_count c.args.below in
     let size : ℕ = room c.args.below in
     let all : ℕ = c.args.first + pages_of f (pieces 512 size c.args.words.now) in
@@ -31,21 +25,21 @@ loop-k-preserved c =
     elim c.if-is_zero.branch [
       | then-is_zero+in_ok-push w ↦
           let z : is_zero p ≡ true = search rules in
-          let on = pages_pass f 512 size c.loop-k.k c.loop-k.next all ws p c.loop-k-test.true part z c.loop-k.invariant.pages in
+          let on = pages_pass f 512 size c.loop-k.k c.loop-k.next all ws p c.loop-k-test.true c.piece-part.ensures z c.loop-k.invariant.pages in
           let e = w.next-is in
           let o : c.if-is_zero.out.items ≡ c.loop-k.out.items ++ 0 ∷ [] = ap (λ v. v.items) w.out-is ∙ w.in_ok-push.ensures.items in
-          let made = entries_pass f 512 size c.loop-k.k c.loop-k.next ws p c.loop-k.out.items c.if-is_zero.out.items whole c.loop-k-test.true part z o c.loop-k.invariant.made in
+          let made = entries_pass f 512 size c.loop-k.k c.loop-k.next ws p c.loop-k.out.items c.if-is_zero.out.items whole c.loop-k-test.true c.piece-part.ensures z o c.loop-k.invariant.made in
           record {
             pages = omega (arith, on, e);
             made = ap (λ n. c.if-is_zero.out.items ++ entries f n rest) e ∙ made;
           }
       | else-is_zero+in_ok-push-2 w ↦
           let z : is_zero p ≡ false = search rules in
-          let on = pages_take f 512 size c.loop-k.k c.loop-k.next all ws p c.loop-k-test.true part z c.loop-k.invariant.pages in
+          let on = pages_take f 512 size c.loop-k.k c.loop-k.next all ws p c.loop-k-test.true c.piece-part.ensures z c.loop-k.invariant.pages in
           let n = w.count_pages-next.ensures in
           let e : c.if-is_zero.next ≡ c.loop-k.next + f p = w.next-is ∙ ap (λ m. c.loop-k.next + m) n in
           let o : c.if-is_zero.out.items ≡ c.loop-k.out.items ++ (4096 * c.loop-k.next + 1) ∷ [] = ap (λ v. v.items) w.out-is ∙ (w.in_ok-push-2.ensures.items ∙ ap (λ m. c.loop-k.out.items ++ (4096 * m + 1) ∷ []) w.from.ensures) in
-          let made = entries_take f 512 size c.loop-k.k c.loop-k.next ws p c.loop-k.out.items c.if-is_zero.out.items whole c.loop-k-test.true part z o c.loop-k.invariant.made in
+          let made = entries_take f 512 size c.loop-k.k c.loop-k.next ws p c.loop-k.out.items c.if-is_zero.out.items whole c.loop-k-test.true c.piece-part.ensures z o c.loop-k.invariant.made in
           record {
             pages = omega (arith, on, e);
             made = ap (λ m. c.if-is_zero.out.items ++ entries f m rest) e ∙ made;
