@@ -40,7 +40,7 @@ const ONE: &str = "\
 #[test]
 fn writes_the_text_of_one_agent(rt: HostRuntime) -> Result<(), Fail> {
     let made = text::demo_text(rt.alloc(), 1)?;
-    assert_eq!(rt; made.as_slice(), ONE.as_bytes());
+    assert!(rt; made.as_slice() == ONE.as_bytes());
     Ok(())
 }
 
@@ -50,7 +50,7 @@ const MOST: usize = 49_989;
 #[test]
 fn writes_the_text_of_64_agents(rt: HostRuntime) -> Result<(), Fail> {
     let made = text::demo_text(rt.alloc(), 64)?;
-    assert_eq!(rt; made.len(), MOST);
+    assert!(rt; made.len() == MOST);
     let head =
         b"dram is accept [0x0-0xffffffff];\nbus is map [0x100000000-0x1ffffffff to dram at 0x0];\nfor i in 0..63;\n";
     assert!(rt; made.as_slice().starts_with(head));

@@ -1,12 +1,15 @@
 //! The layouts of the kinds, and the shapes that they fit.
 
 ghost use Rattle.std.specs.Prelude.{◌≡◌};
+ghost use Rattle.dn_kinds.specs.Terms.{shipped};
 
 use crate::tests::kinds::shape;
 use dn_kind::rights::Rights;
 use dn_kind::shape::Shape;
 use dn_kind::unit_kind::{Record, UnitKind};
+use dn_kinds::shipped::ShippedKind;
 use dn_kinds::shipped::ShippedKind::{Pages, Radix, Remap, Vectors};
+use std::process::Abort;
 
 /// A record.
 fn to(port: u8, page: u64, rights: Rights) -> Record
@@ -27,6 +30,15 @@ fn wide(page: u8, ports: u8) -> Shape
     shape(page, 16, 56, ports)
 }
 
+/// Compares the records that these words spell, each alone, in a kind of one word.
+fn spells(rt: &impl Abort, kind: ShippedKind, rows: &[(u64, Option<Record>)])
+    requires { (shipped kind).words ≡ 1 }
+{
+    for (word, wanted) in rows {
+        assert!(rt; kind.unpack(&[*word]) == *wanted, "{kind:?} {word:x}");
+    }
+}
+
 #[test]
 fn reads_words_of_pages(rt: HostRuntime) {
     let rows = [
@@ -43,9 +55,7 @@ fn reads_words_of_pages(rt: HostRuntime) {
             spelled(0, 0xff_ffff_ffff_ffff, Rights::both()),
         ),
     ];
-    for (word, wanted) in rows {
-        assert_eq!(rt; Pages.unpack(&[word]), wanted, "{word:x}");
-    }
+    spells(&rt, Pages, &rows);
 }
 
 #[test]
@@ -56,9 +66,7 @@ fn reads_words_of_remap(rt: HostRuntime) {
         (0x4f, None),
         (0x180, None),
     ];
-    for (word, wanted) in rows {
-        assert_eq!(rt; Remap.unpack(&[word]), wanted, "{word:x}");
-    }
+    spells(&rt, Remap, &rows);
 }
 
 #[test]
@@ -73,7 +81,7 @@ fn reads_words_of_vectors(rt: HostRuntime) {
     ];
     for (address, gate, wanted) in rows {
         let given = Vectors.unpack(&[address, gate]);
-        assert_eq!(rt; given, wanted, "{address:x} {gate:x}");
+        assert!(rt; given == wanted, "{address:x} {gate:x}");
     }
 }
 
@@ -92,9 +100,7 @@ fn reads_words_of_radix(rt: HostRuntime) {
         (0x0100_0000_8000_4001, None),
         (0x8000_0000_8000_4001, None),
     ];
-    for (word, wanted) in rows {
-        assert_eq!(rt; Radix.unpack(&[word]), wanted, "{word:x}");
-    }
+    spells(&rt, Radix, &rows);
 }
 
 #[test]
@@ -102,15 +108,15 @@ fn packs_records(rt: HostRuntime) {
     let mut words = [u64::MAX; 4];
     let both = to(0, 0x80004, Rights::both());
     Pages.pack(wide(12, 1), both, &mut words);
-    assert_eq!(rt; words, [0x8000401, 0, 0, 0]);
+    assert!(rt; words == [0x8000401, 0, 0, 0]);
     let writing = to(3, 0x80004, Rights::WRITE);
     Remap.pack(wide(12, 8), writing, &mut words);
-    assert_eq!(rt; words, [0x8000417, 0, 0, 0]);
+    assert!(rt; words == [0x8000417, 0, 0, 0]);
     let reading = to(2, 0x20, Rights::READ);
     Vectors.pack(wide(0, 8), reading, &mut words);
-    assert_eq!(rt; words, [0x20, 0x25, 0, 0]);
+    assert!(rt; words == [0x20, 0x25, 0, 0]);
     Radix.pack(wide(12, 8), writing, &mut words);
-    assert_eq!(rt; words, [0x80004017, 0, 0, 0]);
+    assert!(rt; words == [0x80004017, 0, 0, 0]);
 }
 
 #[test]
@@ -129,9 +135,9 @@ fn fits_shapes(rt: HostRuntime) {
         (13, 1, true, true, false, false),
     ] {
         let shape = wide(page, ports);
-        assert_eq!(rt; Pages.fits(shape), pages, "pages, {page}, {ports}");
-        assert_eq!(rt; Remap.fits(shape), remap, "remap, {page}, {ports}");
-        assert_eq!(rt; Vectors.fits(shape), vectors, "vectors, {page}, {ports}");
-        assert_eq!(rt; Radix.fits(shape), radix, "radix, {page}, {ports}");
+        assert!(rt; Pages.fits(shape) == pages, "pages, {page}, {ports}");
+        assert!(rt; Remap.fits(shape) == remap, "remap, {page}, {ports}");
+        assert!(rt; Vectors.fits(shape) == vectors, "vectors, {page}, {ports}");
+        assert!(rt; Radix.fits(shape) == radix, "radix, {page}, {ports}");
     }
 }

@@ -31,7 +31,7 @@ fn holds_records_within_the_unit(rt: HostRuntime) -> Result<(), Fail> {
     ] {
         let unit = unit_of(rt.alloc(), number, shape(12, 16, 32, 2))?;
         assert!(rt; kind.words() == 1);
-        assert_eq!(rt; held_record(&unit, &kind, &[word]), wanted, "{word:x}");
+        assert!(rt; held_record(&unit, &kind, &[word]) == wanted, "{word:x}");
     }
     Ok(())
 }

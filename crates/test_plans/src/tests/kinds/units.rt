@@ -43,13 +43,13 @@ fn lists_kinds_in_their_order(rt: HostRuntime) -> Result<(), Fail> {
     let alloc = rt.alloc();
     listed_are_lawful();
     let mut kinds = Kinds::none(alloc);
-    assert_eq!(rt; kinds.len(), 0);
+    assert!(rt; kinds.len() == 0);
     kinds.add(Box::new(alloc, Pages)?)?;
-    assert_eq!(rt; kinds.len(), 1);
+    assert!(rt; kinds.len() == 1);
     kinds.add(Box::new(alloc, Remap)?)?;
     kinds.add(Box::new(alloc, Vectors)?)?;
     kinds.add(Box::new(alloc, Radix)?)?;
-    assert_eq!(rt; kinds.len(), 4);
+    assert!(rt; kinds.len() == 4);
     for (number, name, words) in [
         (0, "pages", 1),
         (1, "remap", 1),
@@ -57,8 +57,8 @@ fn lists_kinds_in_their_order(rt: HostRuntime) -> Result<(), Fail> {
         (3, "radix", 1),
     ] {
         assert!(rt; number < kinds.len());
-        assert_eq!(rt; kinds.kind(number).name(), name);
-        assert_eq!(rt; kinds.kind(number).words(), words);
+        assert!(rt; kinds.kind(number).name() == name);
+        assert!(rt; kinds.kind(number).words() == words);
     }
     Ok(())
 }
@@ -89,7 +89,7 @@ fn takes_units_up_to_each_limit(rt: HostRuntime) -> Result<(), Fail> {
         (RADIX, shape(13, 16, 32, 8), refused),
     ] {
         let given = checked(rt.alloc(), right, (kind, shape));
-        assert_eq!(rt; given, wanted, "{kind} {shape:?}");
+        assert!(rt; given == wanted, "{kind} {shape:?}");
     }
     Ok(())
 }
@@ -99,9 +99,9 @@ fn names_the_first_wrong_unit(rt: HostRuntime) -> Result<(), Fail> {
     let right = (REMAP, shape(12, 16, 32, 1));
     let wrong = (REMAP, shape(12, 0, 32, 1));
     let named = Err(Unmade::Units(UnitFault::UnitShape { node: 1 }));
-    assert_eq!(rt; checked(rt.alloc(), wrong, right), named);
-    assert_eq!(rt; checked(rt.alloc(), wrong, wrong), named);
+    assert!(rt; checked(rt.alloc(), wrong, right) == named);
+    assert!(rt; checked(rt.alloc(), wrong, wrong) == named);
     let printed = format!(in rt.alloc(); "{}", UnitFault::UnitShape { node: 1 })?;
-    assert_eq!(rt; printed.as_str(), "UnitShape");
+    assert!(rt; printed.as_str() == "UnitShape");
     Ok(())
 }

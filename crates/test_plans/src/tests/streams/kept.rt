@@ -20,17 +20,14 @@ fn names_each_fault(rt: HostRuntime) -> Result<(), Fail> {
         InputFault::Failed,
         InputFault::OutOfMemory
     )?;
-    assert_eq!(rt;
-        printed.as_str(),
-        "Failed Failed OutOfMemory Failed OutOfMemory"
-    );
+    assert!(rt; printed.as_str() == "Failed Failed OutOfMemory Failed OutOfMemory");
     Ok(())
 }
 
 #[test]
 fn names_each_fault_of_a_device(rt: HostRuntime) -> Result<(), Fail> {
     let printed = format!(in rt.alloc(); "{Device} {OutOfMemory} {DeviceFault}")?;
-    assert_eq!(rt; printed.as_str(), "Device OutOfMemory DeviceFault");
+    assert!(rt; printed.as_str() == "Device OutOfMemory DeviceFault");
     Ok(())
 }
 
@@ -40,12 +37,12 @@ fn keeps_items_and_texts(rt: HostRuntime) -> Result<(), Fail> {
     let mut items = Items::new(alloc);
     items.push(1)?;
     items.push(2)?;
-    assert_eq!(rt; items.as_slice(), [1, 2].as_slice());
+    assert!(rt; items.as_slice() == [1, 2].as_slice());
     let again = Items::from_vec(items.into_vec());
-    assert_eq!(rt; again.as_slice(), [1, 2].as_slice());
+    assert!(rt; again.as_slice() == [1, 2].as_slice());
     let text = Text::of(alloc, "núcleo")?;
-    assert_eq!(rt; text.as_str(), "núcleo");
+    assert!(rt; text.as_str() == "núcleo");
     let again = text.share()?;
-    assert_eq!(rt; again.as_str(), "núcleo");
+    assert!(rt; again.as_str() == "núcleo");
     Ok(())
 }

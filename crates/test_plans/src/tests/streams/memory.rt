@@ -30,7 +30,7 @@ fn reads_three_bytes_by_two(rt: HostRuntime) -> Result<(), Fail> {
     let mut source = source_of(rt.alloc(), &[7, 8, 9], 2, &[])?;
     let mut piece = [0; 4];
     for answer in [Ok(2), Ok(1), Ok(0)] {
-        assert_eq!(rt; source.read(&mut piece), answer);
+        assert!(rt; source.read(&mut piece) == answer);
     }
     Ok(())
 }
@@ -40,7 +40,7 @@ fn fails_at_a_listed_read(rt: HostRuntime) -> Result<(), Fail> {
     let mut source = source_of(rt.alloc(), &[7, 8, 9], 2, &[1])?;
     let mut piece = [0; 4];
     for answer in [Ok(2), Err(ReadFault::Failed), Ok(1)] {
-        assert_eq!(rt; source.read(&mut piece), answer);
+        assert!(rt; source.read(&mut piece) == answer);
     }
     Ok(())
 }
@@ -51,7 +51,7 @@ fn reads_a_whole_text_in_pieces(rt: HostRuntime) -> Result<(), Fail> {
     for most in [1, 2, 4096] {
         let mut source = source_of(alloc, &[7, 8, 9], most, &[])?;
         let text = whole::read_whole(alloc, &mut source)?;
-        assert_eq!(rt; text.as_slice(), [7, 8, 9].as_slice(), "by {most}");
+        assert!(rt; text.as_slice() == [7, 8, 9].as_slice(), "by {most}");
     }
     Ok(())
 }
@@ -71,11 +71,11 @@ fn reads_no_text_where_a_read_fails(rt: HostRuntime) -> Result<(), Fail> {
 fn writes_what_it_is_given(rt: HostRuntime) -> Result<(), Fail> {
     let alloc = rt.alloc();
     let mut sink = MemSink::new(alloc, [1].to_vec(alloc)?);
-    assert_eq!(rt; sink.write(b"ab"), Ok(2));
-    assert_eq!(rt; sink.write(b"cd"), Err(WriteFault::Failed));
-    assert_eq!(rt; sink.write(b""), Ok(0));
-    assert_eq!(rt; whole::write_whole(&mut sink, b"ef"), Ok(()));
-    assert_eq!(rt; sink.written(), b"abef".as_slice());
+    assert!(rt; sink.write(b"ab") == Ok(2));
+    assert!(rt; sink.write(b"cd") == Err(WriteFault::Failed));
+    assert!(rt; sink.write(b"") == Ok(0));
+    assert!(rt; whole::write_whole(&mut sink, b"ef") == Ok(()));
+    assert!(rt; sink.written() == b"abef".as_slice());
     Ok(())
 }
 
@@ -84,7 +84,7 @@ fn writes_nothing_where_the_first_write_fails(rt: HostRuntime) -> Result<(), Fai
     let alloc = rt.alloc();
     let mut broken = MemSink::new(alloc, [0].to_vec(alloc)?);
     let written = whole::write_whole(&mut broken, b"hi");
-    assert_eq!(rt; written, Err(WriteFault::Failed));
+    assert!(rt; written == Err(WriteFault::Failed));
     assert!(rt; broken.written().is_empty());
     Ok(())
 }
@@ -93,9 +93,9 @@ fn writes_nothing_where_the_first_write_fails(rt: HostRuntime) -> Result<(), Fai
 fn makes_no_write_of_no_byte(rt: HostRuntime) -> Result<(), Fail> {
     let alloc = rt.alloc();
     let mut broken = MemSink::new(alloc, [0].to_vec(alloc)?);
-    assert_eq!(rt; whole::write_whole(&mut broken, b""), Ok(()));
+    assert!(rt; whole::write_whole(&mut broken, b"") == Ok(()));
     // The call that fails is still to come.
-    assert_eq!(rt; broken.write(b"a"), Err(WriteFault::Failed));
+    assert!(rt; broken.write(b"a") == Err(WriteFault::Failed));
     Ok(())
 }
 
@@ -127,7 +127,7 @@ fn makes_no_read_once_the_limit_is_taken(rt: HostRuntime) -> Result<(), Fail> {
     ];
     for (size, failing, wanted) in rows {
         let given = taken(rt.alloc(), size, failing)?;
-        assert_eq!(rt; given, wanted, "{size} bytes, call {failing}");
+        assert!(rt; given == wanted, "{size} bytes, call {failing}");
     }
     Ok(())
 }

@@ -70,15 +70,12 @@ fn reads_a_reader_of_the_system(rt: HostRuntime) -> Result<(), Fail> {
     let mut source = StdSource::new(b"abc".as_slice());
     let mut piece = [0; 2];
     for (wanted, front) in [(2, b"ab".as_slice()), (1, b"c"), (0, b"")] {
-        assert_eq!(rt; source.read(&mut piece), Ok(wanted));
+        assert!(rt; source.read(&mut piece) == Ok(wanted));
         assert!(rt; piece.starts_with(front), "{wanted} bytes");
     }
     let text = whole::read_whole(rt.alloc(), &mut StdSource::new(b"abc".as_slice()))?;
-    assert_eq!(rt; text.as_slice(), b"abc".as_slice());
-    assert_eq!(rt;
-        StdSource::new(Broken).read(&mut piece),
-        Err(ReadFault::Failed)
-    );
+    assert!(rt; text.as_slice() == b"abc".as_slice());
+    assert!(rt; StdSource::new(Broken).read(&mut piece) == Err(ReadFault::Failed));
     Ok(())
 }
 
@@ -86,13 +83,13 @@ fn reads_a_reader_of_the_system(rt: HostRuntime) -> Result<(), Fail> {
 fn writes_to_a_writer_of_the_system(rt: HostRuntime) -> Result<(), Fail> {
     let mut kept = Vec::new(rt.alloc());
     whole::write_whole(&mut StdSink::new(&mut kept), b"abc")?;
-    assert_eq!(rt; kept.as_slice(), b"abc".as_slice());
+    assert!(rt; kept.as_slice() == b"abc".as_slice());
     let mut room = [0; 2];
     let mut full = StdSink::new(room.as_mut_slice());
-    assert_eq!(rt; full.write(b"abc"), Ok(2));
-    assert_eq!(rt; full.write(b"c"), Err(WriteFault::Failed));
-    assert_eq!(rt; full.write(b""), Ok(0));
-    assert_eq!(rt; StdSink::new(Broken).write(b"c"), Err(WriteFault::Failed));
+    assert!(rt; full.write(b"abc") == Ok(2));
+    assert!(rt; full.write(b"c") == Err(WriteFault::Failed));
+    assert!(rt; full.write(b"") == Ok(0));
+    assert!(rt; StdSink::new(Broken).write(b"c") == Err(WriteFault::Failed));
     Ok(())
 }
 
@@ -109,13 +106,13 @@ fn answers_each_fault_of_a_reader(rt: HostRuntime) -> Result<(), Fail> {
     for error in ERRORS {
         let mut source = StdSource::new(failing_once(error, b"abc".as_slice()));
         let mut piece = [0; 2];
-        assert_eq!(rt; source.read(&mut piece), Err(ReadFault::Failed));
-        assert_eq!(rt; source.read(&mut piece), Ok(2));
+        assert!(rt; source.read(&mut piece) == Err(ReadFault::Failed));
+        assert!(rt; source.read(&mut piece) == Ok(2));
         let mut source = StdSource::new(failing_once(error, b"abc".as_slice()));
         let read = whole::read_whole(rt.alloc(), &mut source);
         assert!(rt; matches!(&read, Err(InputFault::Failed)));
         let text = whole::read_whole(rt.alloc(), &mut source)?;
-        assert_eq!(rt; text.as_slice(), b"abc".as_slice());
+        assert!(rt; text.as_slice() == b"abc".as_slice());
     }
     Ok(())
 }
@@ -125,14 +122,14 @@ fn answers_each_fault_of_a_writer(rt: HostRuntime) -> Result<(), Fail> {
     for error in ERRORS {
         let mut kept = Vec::new(rt.alloc());
         let mut sink = StdSink::new(failing_once(error, &mut kept));
-        assert_eq!(rt; sink.write(b"ab"), Err(WriteFault::Failed));
-        assert_eq!(rt; sink.write(b"cd"), Ok(2));
-        assert_eq!(rt; kept.as_slice(), b"cd".as_slice());
+        assert!(rt; sink.write(b"ab") == Err(WriteFault::Failed));
+        assert!(rt; sink.write(b"cd") == Ok(2));
+        assert!(rt; kept.as_slice() == b"cd".as_slice());
         // No write is made again.
         let mut kept = Vec::new(rt.alloc());
         let mut sink = StdSink::new(failing_once(error, &mut kept));
         let written = whole::write_whole(&mut sink, b"abc");
-        assert_eq!(rt; written, Err(WriteFault::Failed));
+        assert!(rt; written == Err(WriteFault::Failed));
         assert!(rt; kept.is_empty());
     }
     Ok(())
