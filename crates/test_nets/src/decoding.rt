@@ -47,9 +47,8 @@ fn accepts_stops_and_comes_to_nothing(rt: HostRuntime) -> Result<(), Fail> {
         (2, TOP + 1, "nothing"),
     ];
     for (node, addr, step) in rows {
-        assert_eq!(rt;
-            step_of(&machine, node, addr),
-            (step, None),
+        assert!(rt;
+            step_of(&machine, node, addr) == (step, None),
             "{node}@{addr}"
         );
     }
@@ -65,7 +64,7 @@ fn leads_on(rt: HostRuntime) -> Result<(), Fail> {
         (20, Name { node: 1, addr: 20 }),
     ];
     for (addr, name) in rows {
-        assert_eq!(rt; step_of(&machine, 0, addr), ("to", Some(name)), "{addr}");
+        assert!(rt; step_of(&machine, 0, addr) == ("to", Some(name)), "{addr}");
     }
     Ok(())
 }

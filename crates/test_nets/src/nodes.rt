@@ -9,15 +9,15 @@ use std::test::Fail;
 #[test]
 fn numbers_nodes_in_their_order(rt: HostRuntime) -> Result<(), Fail> {
     let alloc = rt.alloc();
-    assert_eq!(rt; Net::new(alloc).nodes(), 0);
+    assert!(rt; Net::new(alloc).nodes() == 0);
     let text =
         "unit first kind pages page 12 slots 16 reach 32 to third; agent second is map [1-2 to first at 3]; third is;";
     let net = net_of(alloc, text)?;
-    assert_eq!(rt; net.nodes(), 3);
-    assert_eq!(rt; net.find("first"), Some(0));
-    assert_eq!(rt; net.find("second"), Some(1));
-    assert_eq!(rt; net.find("fourth"), None);
-    assert_eq!(rt; net.check_nodes(alloc), Ok(()));
+    assert!(rt; net.nodes() == 3);
+    assert!(rt; net.find("first") == Some(0));
+    assert!(rt; net.find("second") == Some(1));
+    assert!(rt; net.find("fourth") == None);
+    assert!(rt; net.check_nodes(alloc) == Ok(()));
     Ok(())
 }
 
@@ -25,13 +25,13 @@ fn numbers_nodes_in_their_order(rt: HostRuntime) -> Result<(), Fail> {
 fn shows_the_parts_of_a_node(rt: HostRuntime) -> Result<(), Fail> {
     let alloc = rt.alloc();
     let net = net_of(alloc, "agent a is accept [1-2] map [3-4 to a at 5] over a;")?;
-    assert_eq!(rt; net.nodes(), 1);
+    assert!(rt; net.nodes() == 1);
     if net.nodes() == 1 {
-        assert_eq!(rt; net.role(0), Role::Agent);
-        assert_eq!(rt; net.text(0), "a");
-        assert_eq!(rt; net.accepts(0), [Block { lo: 1, hi: 2 }].as_slice());
-        assert_eq!(rt; net.entries(0).len(), 1);
-        assert_eq!(rt; net.over(0), Some(0));
+        assert!(rt; net.role(0) == Role::Agent);
+        assert!(rt; net.text(0) == "a");
+        assert!(rt; net.accepts(0) == [Block { lo: 1, hi: 2 }].as_slice());
+        assert!(rt; net.entries(0).len() == 1);
+        assert!(rt; net.over(0) == Some(0));
         assert!(rt; net.unit(0).is_none());
     }
     Ok(())
@@ -44,6 +44,6 @@ fn keeps_names_in_order(rt: HostRuntime) -> Result<(), Fail> {
     names.insert(Name { node: 0, addr: 5 })?;
     names.insert(Name { node: 1, addr: 0 })?;
     let wanted = [Name { node: 0, addr: 5 }, Name { node: 1, addr: 0 }];
-    assert_eq!(rt; names.list(), wanted.as_slice());
+    assert!(rt; names.list() == wanted.as_slice());
     Ok(())
 }

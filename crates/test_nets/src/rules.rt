@@ -53,7 +53,7 @@ fn names_the_first_rule_that_is_broken(rt: HostRuntime) -> Result<(), Fail> {
     ];
     for (text, fault) in rows {
         let net = net_of(alloc, text)?;
-        assert_eq!(rt; fault_of(alloc, &net), fault, "{text}");
+        assert!(rt; fault_of(alloc, &net) == fault, "{text}");
     }
     Ok(())
 }
@@ -66,7 +66,7 @@ fn names_no_port_twice(rt: HostRuntime) -> Result<(), Fail> {
     for (last, wanted) in [("b;", None), ("a;", Some(fault))] {
         let text = [nodes, last].concat(alloc)?;
         let net = net_of(alloc, text.as_str())?;
-        assert_eq!(rt; fault_of(alloc, &net), wanted, "{last}");
+        assert!(rt; fault_of(alloc, &net) == wanted, "{last}");
     }
     Ok(())
 }
@@ -78,9 +78,6 @@ fn names_each_rule(rt: HostRuntime) -> Result<(), Fail> {
     let (range, overlap) = (Range { node }, Overlap { node, addr: 1 });
     let (repeat, space) = (Repeat { node }, VectorSpace { node });
     let text = format!(in rt.alloc(); "{range} {overlap} {repeat} {space} {OutOfMemory}")?;
-    assert_eq!(rt;
-        text.as_str(),
-        "Range Overlap Repeat VectorSpace OutOfMemory"
-    );
+    assert!(rt; text.as_str() == "Range Overlap Repeat VectorSpace OutOfMemory");
     Ok(())
 }

@@ -79,10 +79,10 @@ fn compare_stage(rt: &impl Abort, alloc: Global, net: &Net)
 
 /// Compares rows with the one that leads the addresses from 0 to `hi` to these ends.
 fn compare_one(rt: &impl Abort, rows: &[Row], hi: u64, ends: &[End]) {
-    assert_eq!(rt; rows.len(), 1);
+    assert!(rt; rows.len() == 1);
     let span = rows[0].span();
-    assert_eq!(rt; (span.lo, span.hi), (0, hi));
-    assert_eq!(rt; rows[0].ends(), ends);
+    assert!(rt; (span.lo, span.hi) == (0, hi));
+    assert!(rt; rows[0].ends() == ends);
 }
 
 /// Whether two lists of rows are one.

@@ -71,7 +71,7 @@ fn push_numbers(text: &mut String, units: &[u16]) -> Result<(), AllocError> {
 fn compare_each<R: Abort + AllocGlobal>(rt: &R, rows: &[(&str, &str)]) -> Result<(), Fail> {
     for (text, wanted) in rows {
         let told = walking_text(rt.alloc(), text)?;
-        assert_eq!(rt; told.as_str(), *wanted, "{text}");
+        assert!(rt; told.as_str() == *wanted, "{text}");
     }
     Ok(())
 }
@@ -219,8 +219,8 @@ fn ends_chains_at_sixty_four_steps(rt: HostRuntime) -> Result<(), Fail> {
 #[test]
 fn names_the_rules_that_no_text_here_breaks(rt: HostRuntime) -> Result<(), Fail> {
     let wide = broken(rt.alloc(), &WalkFault::Wide)?;
-    assert_eq!(rt; wide.as_str(), "Wide");
+    assert!(rt; wide.as_str() == "Wide");
     let none = broken(rt.alloc(), &WalkFault::OutOfMemory)?;
-    assert_eq!(rt; none.as_str(), "OutOfMemory");
+    assert!(rt; none.as_str() == "OutOfMemory");
     Ok(())
 }
