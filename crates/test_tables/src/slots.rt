@@ -23,7 +23,7 @@ use std::process::Abort;
 use test_plans::Plan;
 
 /// A slot of a unit, by the number of the unit's node.
-#[derive(Clone, Copy, Debug, PartialEq, Eq)]
+#[derive(Clone, Copy)]
 pub struct Place {
     pub unit: u16,
     pub slot: u32,

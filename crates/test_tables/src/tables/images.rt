@@ -74,17 +74,11 @@ fn read_versions(rt: &impl Abort, alloc: Global, on: KindedNet)
     let mut words = page_words(0x8000401);
     words[1] = 0x8000501;
     let mut bytes = two_pages();
-    assert_eq!(rt;
-        is_read(alloc, on, &bytes, with_words(2, 5, &words)),
-        Ok(true)
-    );
+    assert!(rt; is_read(alloc, on, &bytes, with_words(2, 5, &words)) == Ok(true));
     bytes[4] = 1;
-    assert_eq!(rt;
-        is_read(alloc, on, &bytes, with_words(1, 5, &words)),
-        Ok(true)
-    );
+    assert!(rt; is_read(alloc, on, &bytes, with_words(1, 5, &words)) == Ok(true));
     // The bus has no words.
-    assert_eq!(rt; is_read(alloc, on, &bytes, with_words(1, 2, &[])), Ok(true));
+    assert!(rt; is_read(alloc, on, &bytes, with_words(1, 2, &[])) == Ok(true));
 }
 
 /// No bytes with a wrong field are read.
@@ -120,5 +114,5 @@ fn compare_fault(rt: &impl Abort, alloc: Global, on: KindedNet, bytes: &[u8], wa
     requires { IsKinded meaning on }
 {
     let given = is_read(alloc, on, bytes, with_words(2, 5, &[]));
-    assert_eq!(rt; given, Err(wanted));
+    assert!(rt; given == Err(wanted));
 }

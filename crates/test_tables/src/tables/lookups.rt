@@ -78,15 +78,15 @@ fn compare(
 {
     let names = lookup(alloc, on, image, from.node, from.addr, access);
     let names = names.expect(rt, "names");
-    assert_eq!(rt; names.list(), wanted.as_slice(), "{from:?} {access:?}");
+    assert!(rt; names.list() == wanted.as_slice(), "{from:?} {access:?}");
 }
 
 /// Compares what is read of an image, whatever its words spell.
 fn compare_words(rt: &impl Abort, alloc: Global, on: KindedNet, image: &[u8], wanted: Held)
     requires { IsKinded meaning on }
 {
-    assert_eq!(rt; check(on, image), Ok(wanted.version));
-    assert_eq!(rt; is_read(alloc, on, image, wanted), Ok(true));
+    assert!(rt; check(on, image) == Ok(wanted.version));
+    assert!(rt; is_read(alloc, on, image, wanted) == Ok(true));
 }
 
 /// What is looked up in images of the board with pages.
@@ -181,12 +181,12 @@ fn ask_without(rt: &impl Abort, alloc: Global, on: KindedNet)
     for (node, length) in [(2, 144), (2, 0), (6, 144), (6, 3)] {
         assert!(rt; length <= 144);
         let given = lookup(alloc, on, &image[..length], node, 0, Access::Read);
-        assert_eq!(rt; given.err(), Some(LookupFault::NoAgent), "{node}");
+        assert!(rt; given.err() == Some(LookupFault::NoAgent), "{node}");
     }
     for length in [143] {
         assert!(rt; length <= 144);
         let given = lookup(alloc, on, &image[..length], 4, 0, Access::Read);
         let short = ImageFault::Short { at: 143 };
-        assert_eq!(rt; given.err(), Some(LookupFault::Image(short)));
+        assert!(rt; given.err() == Some(LookupFault::Image(short)));
     }
 }

@@ -31,11 +31,11 @@ pub fn make_two_units(rt: &impl Abort, alloc: Global, kinds: &Kinds)
         TableEvent::Make { unit: 1, words: 2 },
         TableEvent::Make { unit: 2, words: 2 },
     ];
-    assert_eq!(rt; bench.device.log(), made.as_slice());
+    assert!(rt; bench.device.log() == made.as_slice());
     let first = Place { unit: 1, slot: 1 };
-    assert_eq!(rt; record_of(kinds, &bench, first), None);
-    assert_eq!(rt; use_of(net, set, first), Some((0, None)));
-    assert_eq!(rt; use_of(net, set, Place { unit: 1, slot: 2 }), None);
+    assert!(rt; record_of(kinds, &bench, first) == None);
+    assert!(rt; use_of(net, set, first) == Some((0, None)));
+    assert!(rt; use_of(net, set, Place { unit: 1, slot: 2 }) == None);
 }
 
 /// Makes the two units over a device that fails at a call, and answers the fault, if there is one,
@@ -62,7 +62,7 @@ pub fn stop_at_makes(rt: &impl Abort, alloc: Global, kinds: &Kinds)
 {
     let device = Some(DeviceOrMemory::Device);
     for (failing, wanted) in [(0, (device, 0)), (1, (device, 1)), (2, (None, 2))] {
-        assert_eq!(rt; made_with(rt, alloc, kinds, failing), wanted, "{failing}");
+        assert!(rt; made_with(rt, alloc, kinds, failing) == wanted, "{failing}");
     }
 }
 
@@ -81,7 +81,7 @@ fn compare(
     let (net, set) = (&bench.net, &bench.set);
     assert!(rt; are_words(words(net, set, at.unit), wanted));
     assert!(rt; are_words(device_words(kinds, bench, at.unit), wanted));
-    assert_eq!(rt; record_of(kinds, bench, at), held);
+    assert!(rt; record_of(kinds, bench, at) == held);
 }
 
 /// A record is put and cleared.
@@ -92,11 +92,11 @@ pub fn put_and_clear(rt: &impl Abort, alloc: Global, kinds: &Kinds)
     let at = Place { unit: 5, slot: 3 };
     compare(rt, kinds, &bench, at, &[0; 16], None);
     let wanted = to_page(0x80004);
-    assert_eq!(rt; put(kinds, &mut bench, at, wanted), Some(Ok(())));
+    assert!(rt; put(kinds, &mut bench, at, wanted) == Some(Ok(())));
     let mut words = [0; 16];
     words[3] = 0x8000401;
     compare(rt, kinds, &bench, at, &words, Some(wanted));
-    assert_eq!(rt; clear(kinds, &mut bench, at), Some(Ok(())));
+    assert!(rt; clear(kinds, &mut bench, at) == Some(Ok(())));
     compare(rt, kinds, &bench, at, &[0; 16], None);
     // The device had no room for events.
     assert!(rt; bench.device.log().is_empty());
@@ -108,8 +108,8 @@ pub fn watch_the_gate(rt: &impl Abort, alloc: Global, kinds: &Kinds)
 {
     let mut bench = bench_of(rt, alloc, kinds, vector_plan(rt, alloc), 8, &[]);
     let at = Place { unit: 2, slot: 2 };
-    assert_eq!(rt; put(kinds, &mut bench, at, to_page(0x20)), Some(Ok(())));
-    assert_eq!(rt; clear(kinds, &mut bench, at), Some(Ok(())));
+    assert!(rt; put(kinds, &mut bench, at, to_page(0x20)) == Some(Ok(())));
+    assert!(rt; clear(kinds, &mut bench, at) == Some(Ok(())));
     // Word 5 is the gate word of slot 2.
     let done = [
         TableEvent::Make { unit: 2, words: 8 },
@@ -118,7 +118,7 @@ pub fn watch_the_gate(rt: &impl Abort, alloc: Global, kinds: &Kinds)
         written(5, 0),
         written(4, 0),
     ];
-    assert_eq!(rt; bench.device.log(), done.as_slice());
+    assert!(rt; bench.device.log() == done.as_slice());
 }
 
 /// The event of a write to a word of the unit of vectors.
@@ -149,7 +149,7 @@ fn compare_left(
     requires { IsBench meaning kinds.now bench.now }
 {
     let (answer, left, held) = wanted;
-    assert_eq!(rt; given, Some(answer));
+    assert!(rt; given == Some(answer));
     let words = [0, 0, 0, 0, left[0], left[1], 0, 0];
     let held = held.then_some(to_page(0x20));
     compare(rt, kinds, bench, SLOT, &words, held);
@@ -191,15 +191,15 @@ pub fn count_uses(rt: &impl Abort, alloc: Global, kinds: &Kinds)
     let owned = Place { unit: 5, slot: 0 };
     let shared = Place { unit: 5, slot: 15 };
     assert!(rt; add_use(net, set, owned, Some(7)));
-    assert_eq!(rt; use_of(net, set, owned), Some((1, Some(7))));
+    assert!(rt; use_of(net, set, owned) == Some((1, Some(7))));
     assert!(rt; !add_use(net, set, owned, None));
     assert!(rt; add_use(net, set, shared, None));
     assert!(rt; add_use(net, set, shared, None));
     assert!(rt; !add_use(net, set, shared, Some(8)));
-    assert_eq!(rt; use_of(net, set, shared), Some((2, None)));
+    assert!(rt; use_of(net, set, shared) == Some((2, None)));
     assert!(rt; end_use(net, set, owned));
-    assert_eq!(rt; use_of(net, set, owned), Some((0, None)));
+    assert!(rt; use_of(net, set, owned) == Some((0, None)));
     assert!(rt; end_use(net, set, shared));
-    assert_eq!(rt; use_of(net, set, shared), Some((1, None)));
+    assert!(rt; use_of(net, set, shared) == Some((1, None)));
     assert!(rt; !end_use(net, set, owned));
 }

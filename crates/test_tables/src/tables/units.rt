@@ -20,11 +20,11 @@ type Said = Result<u16, ImageFault>;
 fn compare(rt: &impl Abort, alloc: Global, on: KindedNet, bytes: &[u8], wanted: Said)
     requires { IsKinded meaning on }
 {
-    assert_eq!(rt; check(on, bytes), wanted);
+    assert!(rt; check(on, bytes) == wanted);
     let version = read(alloc, on, bytes).map(|image| image.version());
-    assert_eq!(rt; version, wanted);
+    assert!(rt; version == wanted);
     let fault = lookup(alloc, on, bytes, 3, 0, Access::Read).err();
-    assert_eq!(rt; fault, wanted.err().map(LookupFault::Image));
+    assert!(rt; fault == wanted.err().map(LookupFault::Image));
 }
 
 /// An image of that net: 8 bytes, then 8 and 16 for each unit.
@@ -97,10 +97,10 @@ fn names_each_fault_of_an_image(rt: HostRuntime) -> Result<(), Fail> {
         (ImageFault::OutOfMemory, "OutOfMemory"),
     ] {
         let printed = format!(in alloc; "{fault} {}", LookupFault::Image(fault))?;
-        assert_eq!(rt; printed.as_str().strip_suffix(" Image"), Some(words));
+        assert!(rt; printed.as_str().strip_suffix(" Image") == Some(words));
     }
     let (agent, memory) = (LookupFault::NoAgent, LookupFault::OutOfMemory);
     let printed = format!(in alloc; "{agent} {memory}")?;
-    assert_eq!(rt; printed.as_str(), "NoAgent OutOfMemory");
+    assert!(rt; printed.as_str() == "NoAgent OutOfMemory");
     Ok(())
 }
