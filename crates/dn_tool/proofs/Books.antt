@@ -16,7 +16,7 @@ use Rattle.dn_grant.proofs.Allowed.{allowed_grant}
 use Rattle.dn_vector.specs.Route.{IsPlacedRoute, grant_of_route}
 use Rattle.dn_vector.proofs.Allowed.{allowed_route}
 use Rattle.dn_module.specs.declared.command.Command.{Command}
-use Rattle.dn_module.specs.declared.command.Command.TheVariants.{Resolve, Lookup, View, Grant, Route, Revoke, Dump, Split, Absorb}
+use Rattle.dn_module.specs.declared.command.Command.TheVariants.{Resolve, Lookup, View, Grant, Route, Revoke, Dump, Split, Absorb, Radix}
 use Rattle.dn_tool.specs.Books.{BooksStayFaithful, IsKeptFaithful}
 use Rattle.dn_tool.specs.Ids.{id_number}
 use Rattle.dn_tool.specs.Turn.{AreTurns, IsGrantTurn, IsRevokeTurn, IsRouteTurn, IsTurn, State, Turn, request_of, rights_of, number_or_none, start, state_after}
@@ -74,6 +74,7 @@ turn_keeps kinds net s (View target m) t legal b is = along net t _ is b
 turn_keeps kinds net s Dump t legal b is = along net t _ is b
 turn_keeps kinds net s Split t legal b is = along net t _ is b
 turn_keeps kinds net s (Absorb target) t legal b is = along net t _ is b
+turn_keeps kinds net s (Radix target pool) t legal b is = along net t _ is b
 
 turns_keep : (kinds : List Meaning) (net : List NodeDecl) (s : State) (cs : List Command) (ts : List Turn) → IsLegalNet net → IsKeptFaithful net s.book → AreTurns kinds net s cs ts → (count : ℕ) → IsKeptFaithful net (state_after s (take count ts)).book
 turns_keep kinds net s cs ts legal b h zero = b

@@ -37,7 +37,7 @@ use Rattle.dn_flat.specs.Levels.{AreFlats}
 use Rattle.dn_image.specs.Image.{image}
 use Rattle.dn_tables.specs.Set.{words_of}
 use Rattle.dn_module.specs.declared.command.Command.{Command}
-use Rattle.dn_module.specs.declared.command.Command.TheVariants.{Resolve, Lookup, View, Grant as GrantOf, Route, Revoke, Dump, Split, Absorb}
+use Rattle.dn_module.specs.declared.command.Command.TheVariants.{Resolve, Lookup, View, Grant as GrantOf, Route, Revoke, Dump, Split, Absorb, Radix}
 use Rattle.dn_tool.specs.declared.state.Session.{Session as Kept}
 use Rattle.dn_tool.specs.declared.halt.RunHalt.{RunHalt}
 use Rattle.dn_tool.specs.declared.halt.RunHalt.TheVariants.{WriteFault, DeviceFault, NoMemory}
@@ -316,6 +316,7 @@ still_turn kinds net s (View target m) e = refl
 still_turn kinds net s Dump e = refl
 still_turn kinds net s Split e = refl
 still_turn kinds net s (Absorb target) e = refl
+still_turn kinds net s (Radix target pool) e = refl
 still_turn kinds net s (GrantOf id from target base size m) e = cc
 still_turn kinds net s (Route id from line target) e = cc
 still_turn kinds net s (Revoke id) e = cc

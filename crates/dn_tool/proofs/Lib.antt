@@ -26,3 +26,4 @@ pub mod Moments
 pub mod Flown
 pub mod Scripts
 pub mod Stopped
+pub mod Pages

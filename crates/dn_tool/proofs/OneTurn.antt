@@ -20,7 +20,7 @@ use Rattle.dn_vector.specs.Refusal as route
 use Rattle.dn_vector.specs.Route.{IsLeastVector, IsRouteRefused, IsUnplacedRoute, grant_of_route}
 use Rattle.dn_vector.specs.Vectors.{vector_request}
 use Rattle.dn_module.specs.declared.command.Command.{Command}
-use Rattle.dn_module.specs.declared.command.Command.TheVariants.{Resolve, Lookup, View, Grant, Route, Revoke, Dump, Split, Absorb}
+use Rattle.dn_module.specs.declared.command.Command.TheVariants.{Resolve, Lookup, View, Grant, Route, Revoke, Dump, Split, Absorb, Radix}
 use Rattle.dn_tool.specs.Books.{IsKeptFaithful}
 use Rattle.dn_tool.specs.Changed.{grant_refused_text, granted_text, revoked_text, route_refused_text, routed_text}
 use Rattle.dn_tool.specs.Ids.{id_number, with_id}
@@ -157,6 +157,7 @@ turn_is_one kinds net s (View target m) t u legal sound g h = g ∙ sym h
 turn_is_one kinds net s Dump t u legal sound g h = g ∙ sym h
 turn_is_one kinds net s Split t u legal sound g h = g ∙ sym h
 turn_is_one kinds net s (Absorb target) t u legal sound g h = g ∙ sym h
+turn_is_one kinds net s (Radix target pool) t u legal sound g h = g ∙ sym h
 
 -- turn by turn, in the state that both leave
 

@@ -16,7 +16,7 @@ use Rattle.dn_grant.proofs.Allowed.{allowed_grant}
 use Rattle.dn_vector.specs.Route.{grant_of_route}
 use Rattle.dn_vector.proofs.Allowed.{allowed_route}
 use Rattle.dn_module.specs.declared.command.Command.{Command}
-use Rattle.dn_module.specs.declared.command.Command.TheVariants.{Resolve, Lookup, View, Grant, Route, Revoke, Dump, Split, Absorb}
+use Rattle.dn_module.specs.declared.command.Command.TheVariants.{Resolve, Lookup, View, Grant, Route, Revoke, Dump, Split, Absorb, Radix}
 use Rattle.dn_tool.specs.Books.{IsKeptFaithful}
 use Rattle.dn_tool.specs.Flown.{GivesLookups, LookupsAreGiven}
 use Rattle.dn_tool.specs.Changed.{revoked_text}
@@ -61,6 +61,7 @@ module _ (kinds : List Meaning) (net : List NodeDecl) (lawful : All IsLawful kin
   turn_goes s Dump t k is = along s t _ is (still_goes_on kinds net lawful legal s.book s.cleared k)
   turn_goes s Split t k is = along s t _ is (still_goes_on kinds net lawful legal s.book s.cleared k)
   turn_goes s (Absorb target) t k is = along s t _ is (still_goes_on kinds net lawful legal s.book s.cleared k)
+  turn_goes s (Radix target pool) t k is = along s t _ is (still_goes_on kinds net lawful legal s.book s.cleared k)
 
   turns_go : (s : State) (cs : List Command) (ts : List Turn) → IsKeptFaithful net s.book → AreTurns kinds net s cs ts → TurnsGoOn kinds net s ts
   turns_go s [] ts k h = subst (TurnsGoOn kinds net s) (sym h) tt

@@ -3,6 +3,7 @@ pub mod Compiled
 pub mod Found
 pub mod Terms
 pub mod Viewed
+pub mod Radix
 pub mod Turn
 pub mod Books
 pub mod Played

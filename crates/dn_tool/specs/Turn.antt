@@ -14,7 +14,7 @@ use Rattle.dn_kind.specs.Rights.{both_rights}
 use Rattle.dn_tables.specs.Placement.{Place}
 use Rattle.dn_image.specs.Image.{image}
 use Rattle.dn_module.specs.declared.command.Command.{Command}
-use Rattle.dn_module.specs.declared.command.Command.TheVariants.{Resolve, Lookup, View, Grant, Route, Revoke, Dump, Split, Absorb}
+use Rattle.dn_module.specs.declared.command.Command.TheVariants.{Resolve, Lookup, View, Grant, Route, Revoke, Dump, Split, Absorb, Radix}
 use Rattle.dn_module.specs.declared.command.Target.{Target}
 use Rattle.dn_placement.specs.declared.request.Request.{Request}
 use Rattle.dn_book.specs.declared.grant.Grant.{Grant as GrantPart}
@@ -29,6 +29,7 @@ use Rattle.dn_print.specs.Dump.{dump_text}
 use Rattle.dn_tool.specs.Changed.{grant_refused_text, granted_text, revoke_refused_text, revoked_text, route_refused_text, routed_text}
 use Rattle.dn_tool.specs.Found.{resolve_text, lookup_text}
 use Rattle.dn_tool.specs.Ids.{id_number, with_id}
+use Rattle.dn_tool.specs.Radix.{radix_text}
 use Rattle.dn_tool.specs.Viewed.{view_text}
 use Rattle.dn_tool.specs.Reshape.{split_text, absorb_text}
 
@@ -147,15 +148,12 @@ IsRouteTurn kinds net s id agent line node t =
 abbrev pub IsRevokeTurn : List Meaning → List NodeDecl → State → List ℕ → Turn → Type 0
 IsRevokeTurn kinds net s id t = IsRevoked kinds net s id t ⊎ IsNotRevoked s id t
 
--- the command is `dump`
-abbrev pub is_dump : Command → Bool
-is_dump Dump = true
-is_dump _ = false
-
--- the command is `view`
-abbrev pub is_view : Command → Bool
-is_view (View target m) = true
-is_view _ = false
+-- the reply to the command is written piece by piece
+abbrev pub is_pieced : Command → Bool
+is_pieced Dump = true
+is_pieced (View target m) = true
+is_pieced (Radix target pool) = true
+is_pieced _ = false
 
 -- the command may change the book
 abbrev pub is_change : Command → Bool
@@ -168,6 +166,7 @@ is_change (Revoke id) = true
 is_change Dump = false
 is_change Split = false
 is_change (Absorb target) = false
+is_change (Radix target pool) = false
 
 -- the reply to a command that changes nothing; the others have none here
 abbrev pub reply : List Meaning → List NodeDecl → List GrantPart → Command → List ℕ
@@ -177,6 +176,7 @@ reply kinds net book (View target m) = view_text net book target m
 reply kinds net book Dump = dump_text (image net kinds (tables_of net kinds book))
 reply kinds net book Split = split_text kinds net
 reply kinds net book (Absorb target) = absorb_text kinds net target
+reply kinds net book (Radix target pool) = radix_text kinds net book target pool
 reply kinds net book (Grant id agent node base size m) = []
 reply kinds net book (Route id agent line node) = []
 reply kinds net book (Revoke id) = []
@@ -198,6 +198,7 @@ IsTurn kinds net s (Revoke id) t = IsRevokeTurn kinds net s id t
 IsTurn kinds net s Dump t = IsReplyTurn kinds net s Dump t
 IsTurn kinds net s Split t = IsReplyTurn kinds net s Split t
 IsTurn kinds net s (Absorb target) t = IsReplyTurn kinds net s (Absorb target) t
+IsTurn kinds net s (Radix target pool) t = IsReplyTurn kinds net s (Radix target pool) t
 
 -- the turns of commands in order, each in the state that those before it left
 abbrev pub AreTurns : List Meaning → List NodeDecl → State → List Command → List Turn → Type 0

@@ -16,6 +16,7 @@ pub mod ids;
 pub mod laws;
 pub mod machine;
 mod output;
+mod radix;
 pub mod refusal;
 pub mod reply;
 mod reshape;

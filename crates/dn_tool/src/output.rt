@@ -1,11 +1,11 @@
-//! Writing an output, an image line by line, a net statement by statement, and rows some at once.
+//! Writing an output, bytes line by line, a net statement by statement, and rows some at once.
 
-ghost use Rattle.std.specs.Prelude.{length, map, IsTrue};
+ghost use Rattle.std.specs.Prelude.{◌++◌, length, map, IsTrue};
 ghost use Rattle.std.specs.List.{list_all};
 ghost use Rattle.dn_interval.specs.Terms.{seen_view};
 ghost use Rattle.dn_net.specs.Terms.{is_closed};
 ghost use Rattle.dn_kind.specs.Terms.{AreKinds, has_kind, kinds_of};
-ghost use Rattle.dn_print.specs.Terms.{dump_text, ends_exist, net_text, rows_text};
+ghost use Rattle.dn_print.specs.Terms.{dump_text, ends_exist, lines_text, net_text, rows_text};
 ghost use Rattle.dn_tool.specs.Terms.{HaltsBySink, Writes};
 
 use crate::halt::RunHalt;
@@ -19,7 +19,7 @@ use dn_print::net::statement_text;
 use dn_print::rows::lines_of;
 use std::alloc::Global;
 
-/// How many bytes of an image are written at once, in full lines.
+/// How many bytes are written at once, in full lines.
 const PIECE: usize = 32_768;
 
 /// How many rows are written at once.
@@ -38,16 +38,31 @@ pub(crate) fn write_output<K: Sink>(sink: &mut K, output: &[u8]) -> Result<(), R
     }
 }
 
-/// Writes the text of an image piece by piece, so that no more than a piece of it is in memory.
+/// Writes the text of an image.
 pub(crate) fn write_dump<K: Sink>(alloc: Global, image: &[u8], sink: &mut K) -> Result<(), RunHalt>
     ensures written { Writes result (K.written sink.old) (K.written sink.new)
         (dump_text image.now) }
     ensures halted { HaltsBySink result (K.faults sink.old) (K.faults sink.new) }
 {
     let heading = dump::heading_text(alloc, image.len())?;
+    write_bytes(alloc, heading.as_str(), image, sink)
+}
+
+/// Writes bytes in hexadecimal below a heading, piece by piece, so that no more than a piece of the lines is
+/// in memory.
+pub(crate) fn write_bytes<K: Sink>(
+    alloc: Global,
+    heading: &str,
+    bytes: &[u8],
+    sink: &mut K,
+) -> Result<(), RunHalt>
+    ensures written { Writes result (K.written sink.old) (K.written sink.new)
+        (heading.now ++ lines_text bytes.now) }
+    ensures halted { HaltsBySink result (K.faults sink.old) (K.faults sink.new) }
+{
     write_output(sink, heading.as_bytes())?;
     let mut lines = Vec::new(alloc);
-    for piece in image.chunks(PIECE) {
+    for piece in bytes.chunks(PIECE) {
         lines.clear();
         dump::push_lines(&mut lines, piece)?;
         write_output(sink, lines.as_slice())?;

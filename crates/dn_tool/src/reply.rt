@@ -11,7 +11,7 @@ ghost use Rattle.dn_module.specs.Terms.{names_within};
 ghost use Rattle.dn_interval.specs.Terms.{ends_within, seen_view};
 ghost use Rattle.dn_book.specs.Terms.{owed_names};
 ghost use Rattle.dn_print.specs.Terms.{names_text};
-ghost use Rattle.dn_tool.specs.Terms.{HaltsBySink, IsFirstView, IsMachine, IsReady, IsStill, Writes, access_of, access_text, asked_text, is_change, is_dump, is_view, lookup_text, names_under, no_agent_text, owed_rows, reply, resolve_text, view_heading, view_text, viewed_text};
+ghost use Rattle.dn_tool.specs.Terms.{HaltsBySink, IsFirstView, IsMachine, IsReady, IsStill, Writes, access_of, access_text, asked_text, is_change, is_pieced, lookup_text, names_under, no_agent_text, owed_rows, reply, resolve_text, view_heading, view_text, viewed_text};
 
 use crate::halt::RunHalt;
 use crate::machine::Machine;
@@ -41,7 +41,7 @@ struct Question<'a> {
     mode: Mode,
 }
 
-/// The reply to a command that changes nothing, other than `dump` and `view`: a line, and below that of
+/// The reply to a command that changes nothing, other than `dump`, `view` and `radix`: a line, and below that of
 /// `split` and `absorb` a line for each node of the net that is made. `Err` is want of memory.
 pub fn reply(
     alloc: Global,
@@ -51,8 +51,7 @@ pub fn reply(
 ) -> Result<Vec<u8>, OutOfMemory>
     requires ready { IsReady meaning machine state.old }
     requires known { IsTrue (names_within (length machine.on.net.now) command.now) }
-    requires no_dump { is_dump command.now ≡ false }
-    requires no_view { is_view command.now ≡ false }
+    requires whole { is_pieced command.now ≡ false }
     requires no_change { is_change command.now ≡ false }
     ensures reply { IfOk result (λ v. v.items ≡ reply (kinds_of meaning machine.entry.on.kinds.now)
         machine.entry.on.net.now state.old.book.grants command.now) }

@@ -7,12 +7,13 @@ ghost use Rattle.dn_image.specs.Terms.{image};
 ghost use Rattle.dn_book.specs.Terms.{tables_of};
 ghost use Rattle.dn_print.specs.Terms.{dump_text};
 ghost use Rattle.dn_module.specs.Terms.{names_within};
-ghost use Rattle.dn_tool.specs.Terms.{CameThrough, HaltsByEither, HaltsBySink, IsMachine, IsPlayed, IsPlayedOn, IsReady, IsReadyOn, IsStill, IsStopped, IsTurn, Writes, ending_status, is_change, is_dump, is_view, reply, start, state_view};
+ghost use Rattle.dn_tool.specs.Terms.{CameThrough, HaltsByEither, HaltsBySink, IsMachine, IsPlayed, IsPlayedOn, IsReady, IsReadyOn, IsStill, IsStopped, IsTurn, Writes, ending_status, is_change, is_pieced, reply, start, state_view};
 
 use crate::change::change;
 use crate::halt::RunHalt;
 use crate::machine::Machine;
 use crate::output::{write_dump, write_output};
+use crate::radix::radix_reply;
 use crate::reply;
 use crate::state::{Session, keep_image};
 use dn_base::device::Tables;
@@ -108,6 +109,7 @@ fn answer<K: Sink, D: Tables>(
         Command::View(target, mode) => {
             reply::view_reply(alloc, machine, state, target, *mode, sink)
         }
+        Command::Radix { node, pool } => radix_reply(alloc, machine, state, node, *pool, sink),
         _ => answer_still(alloc, machine, state, command, sink),
     }
 }
@@ -122,8 +124,7 @@ fn answer_still<K: Sink>(
 ) -> Result<(), RunHalt>
     requires known { IsTrue (names_within (length machine.on.net.now) command.now) }
     requires ready { IsReady meaning machine state.old }
-    requires no_dump { is_dump command.now ≡ false }
-    requires no_view { is_view command.now ≡ false }
+    requires whole { is_pieced command.now ≡ false }
     requires no_change { is_change command.now ≡ false }
     ensures written { Writes result (K.written sink.old)
         (K.written sink.new) (reply (kinds_of meaning machine.entry.on.kinds.now)
