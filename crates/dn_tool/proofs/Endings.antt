@@ -1,6 +1,7 @@
 -- The status of an answer that was given whole, or of the halt before that.
-use Rattle.std.proofs.Common.{◌≡◌, ◌<◌, ◌⊎◌, inl, inr, ◌∙◌, ap, sym, subst, refl, ℕ, ◌==◌, Bool, false, not, List, Option, Result, Ok, Err, IfOk, is_ok, arith}
+use Rattle.std.proofs.Common.{◌≡◌, ◌<◌, ◌⊎◌, inl, inr, ◌∙◌, ap, sym, subst, refl, ℕ, ◌==◌, Bool, false, not, List, Option, Some, None, Result, Ok, Err, IfOk, IfSome, is_ok, arith}
 use Rattle.dn_base.specs.Outside.{Faults, IsCounted, IsWritten}
+use Rattle.dn_base.proofs.Told.{written_none}
 use Rattle.dn_tool.specs.declared.halt.RunHalt.{RunHalt}
 use Rattle.dn_tool.specs.declared.halt.RunHalt.TheVariants.{WriteFault, DeviceFault, NoMemory}
 use Rattle.dn_tool.specs.Answer.{IsSaid}
@@ -83,6 +84,16 @@ said_by r n a b output free is w =
       exact = λ e. answered_is r n is e;
       written = subst (λ (d : Bool). IsWritten a b d (ending_status r == 3) output) (free_is r h) (subst (λ (f : Bool). IsWritten a b (is_ok r) f output) (write_is r h) w);
     }
+
+-- what holds of a value that may be there holds of what follows from it
+pub if_some : {A : Type 0} (o : Option A) (P Q : A → Type 0) → ((a : A) → P a → Q a) → IfSome o P → IfSome o Q
+if_some None P Q f h = tt
+if_some (Some a) P Q f h = f a h
+
+-- of an output that may be there nothing was written, for want of memory
+pub unsaid : {A : Type 0} (o : Option A) (own : ℕ) (output : A → List ℕ) (told : Option (List ℕ)) → IfSome o (λ a. IsSaid own (output a) 7 told told)
+unsaid None own output told = tt
+unsaid (Some a) own output told = record { exact = λ e. cc; written = written_none told told (output a) refl }
 
 -- what a run says of its status, by what its answer came to
 

@@ -1,5 +1,5 @@
--- The answer to what was read of a text is the answer to the whole text.
-use Rattle.std.proofs.Common.{arith, ◌≡◌, ◌∙◌, ap, sym, subst, ℕ, ◌<◌, ◌⊎◌, inl, inr, Bool, true, false, List, [], ◌++◌, length, Option, Some, None, Result, Ok, Err, append-nil, length-append, refl}
+-- The answer to what was read of the source is the answer to all its bytes.
+use Rattle.std.proofs.Common.{arith, ◌≡◌, ◌∙◌, ap, sym, subst, cond, ℕ, ◌<◌, ◌⊎◌, inl, inr, Bool, true, false, nat_lt, List, [], ◌++◌, length, Option, Some, None, Result, Ok, Err, append-nil, length-append, refl}
 use Rattle.dn_base.specs.Outside.{Taken, AtEnd, input_limit}
 use Rattle.dn_parse.specs.Whole.{too_long}
 use Rattle.dn_parse.proofs.Judge.{text_too_long}
@@ -8,9 +8,10 @@ use Rattle.dn_module.specs.Expand.{Expansion}
 use Rattle.dn_tool.specs.Compiled.{compilation, reading_compilation, with_refusal}
 use Rattle.dn_tool.specs.Refused.{Refused, of_text, refusal_of}
 use Rattle.dn_words.specs.declared.words.Task.{Task}
-use Rattle.dn_words.specs.declared.words.Task.TheVariants.{Run, Check, Demo}
+use Rattle.dn_words.specs.declared.words.Task.TheVariants.{Run, Check, Audit, Demo}
 use Rattle.dn_words.specs.Words.{task_of}
-use Rattle.dn_tool.specs.Answer.{Answer, IsInput, answer, asked_answer, compiled_answer, demo_answer, is_script, played, reads, said, shown, some_task_reads, task_reads, task_text, text_answer, usage}
+use Rattle.dn_tool.specs.Answer.{Answer, IsInput, answer, asked_answer, bytes_answer, compiled_answer, demo_answer, is_script, played, reads, said, shown, some_task_reads, task_bytes, task_reads, text_answer, too_long_line, usage}
+use Rattle.dn_tool.specs.Input.{is_too_long, limit_for, parts_of}
 
 -- a text that is longer than the limit is refused by that alone
 long_refused : (kinds : List Meaning) (text : List ℕ) → 4194304 < length text → compilation kinds text ≡ Err (of_text too_long)
@@ -32,32 +33,53 @@ same_text kinds text rest end = same_compiled kinds text rest end (grind arith)
 pub task_is_read : (task : Task) → ((agents : ℕ) → task ≡ Demo agents → ⊥) → task_reads task ≡ true
 task_is_read Run other = refl
 task_is_read Check other = refl
+task_is_read Audit other = refl
 task_is_read (Demo agents) other = absurd (other agents refl)
 
 -- words that ask for such a task read the source
 pub asked_reads : (w : List (List ℕ)) (task : Task) → task_of w ≡ Some task → task_reads task ≡ true → reads w ≡ true
 asked_reads w task asked read = ap some_task_reads asked ∙ read
 
--- and it is about the text that is read
-text_read : (task : Task) (text : List ℕ) → task_reads task ≡ true → task_text task text ≡ text
-text_read Run text read = refl
-text_read Check text read = refl
-text_read (Demo agents) text read = cc
+-- and it is about the bytes that are read
+bytes_read : (task : Task) (bytes : List ℕ) → task_reads task ≡ true → task_bytes task bytes ≡ bytes
+bytes_read Run bytes read = refl
+bytes_read Check bytes read = refl
+bytes_read Audit bytes read = refl
+bytes_read (Demo agents) bytes read = cc
 
 -- words of no form do not
 pub unasked_reads : (w : List (List ℕ)) → task_of w ≡ None → reads w ≡ false
 unasked_reads w none = ap some_task_reads none
 
--- what holds of the answer to what was read holds of the answer to the whole text
-pub input_answer : (left after : Option (List ℕ)) (w : List (List ℕ)) (task : Task) (kinds : List Meaning) (text whole : List ℕ) (P : Answer → Type 0) → task_of w ≡ Some task → task_reads task ≡ true → Taken left after text → (length text < input_limit → AtEnd after) → IsInput w left whole → P (text_answer task kinds text) → P (answer w kinds whole)
-input_answer left after w task kinds text whole P asked read taken end input p = go left after taken end (input (asked_reads w task asked read))
+-- an audit of more bytes than it takes is refused by that alone
+long_audit : (kinds : List Meaning) (bytes : List ℕ) → 67108864 < length bytes → bytes_answer Audit kinds bytes ≡ said 4 too_long_line
+long_audit kinds bytes l =
+    let long : nat_lt 67108864 (length bytes) ≡ true = grind arith in
+    ap (λ (b : Bool). cond b (said 4 too_long_line) (text_answer Audit kinds (parts_of Audit bytes))) long
+
+-- bytes that were read as far as the limit have the answer of the whole
+same_audit : (kinds : List Meaning) (bytes rest : List ℕ) → (length bytes < 67108865 → rest ≡ []) → (length bytes < 67108865) ⊎ (67108864 < length bytes) → bytes_answer Audit kinds (bytes ++ rest) ≡ bytes_answer Audit kinds bytes
+same_audit kinds bytes rest end (inl l) = ap (bytes_answer Audit kinds) (ap (λ (r : List ℕ). bytes ++ r) (end l) ∙ append-nil bytes)
+same_audit kinds bytes rest end (inr l) =
+    let m : 67108864 < length (bytes ++ rest) = simp length-append (omega (arith, l)) in
+    long_audit kinds (bytes ++ rest) m ∙ sym (long_audit kinds bytes l)
+
+same_answer : (task : Task) (kinds : List Meaning) (bytes rest : List ℕ) → task_reads task ≡ true → (length bytes < limit_for (Some task) → rest ≡ []) → bytes_answer task kinds (bytes ++ rest) ≡ bytes_answer task kinds bytes
+same_answer Run kinds bytes rest read end = ap (λ c. compiled_answer Run kinds None (with_refusal c)) (same_text kinds bytes rest end)
+same_answer Check kinds bytes rest read end = ap (λ c. compiled_answer Check kinds None (with_refusal c)) (same_text kinds bytes rest end)
+same_answer Audit kinds bytes rest read end = same_audit kinds bytes rest end (grind arith)
+same_answer (Demo agents) kinds bytes rest read end = cc
+
+-- what holds of the answer to what was read holds of the answer to all bytes
+pub input_answer : (left after : Option (List ℕ)) (w : List (List ℕ)) (task : Task) (kinds : List Meaning) (bytes whole : List ℕ) (P : Answer → Type 0) → task_of w ≡ Some task → task_reads task ≡ true → Taken left after bytes → (length bytes < limit_for (Some task) → AtEnd after) → IsInput w left whole → P (bytes_answer task kinds bytes) → P (answer w kinds whole)
+input_answer left after w task kinds bytes whole P asked read taken end input p = go left after taken end (input (asked_reads w task asked read))
   where
-    go : (l a : Option (List ℕ)) → Taken l a text → (length text < input_limit → AtEnd a) → l ≡ Some whole → P (answer w kinds whole)
+    go : (l a : Option (List ℕ)) → Taken l a bytes → (length bytes < limit_for (Some task) → AtEnd a) → l ≡ Some whole → P (answer w kinds whole)
     go l None taken end told = cc
     go l (Some rest) taken end told =
-        let joined : whole ≡ text ++ rest = cc in
-        let same : text_answer task kinds text ≡ text_answer task kinds whole = ap (λ c. compiled_answer task kinds (with_refusal c)) (sym (same_text kinds text rest end) ∙ ap (compilation kinds) (sym joined)) in
-        let all : text_answer task kinds whole ≡ answer w kinds whole = ap (text_answer task kinds) (sym (text_read task whole read)) ∙ ap (λ o. asked_answer o kinds whole) (sym asked) in
+        let joined : whole ≡ bytes ++ rest = cc in
+        let same : bytes_answer task kinds bytes ≡ bytes_answer task kinds whole = sym (same_answer task kinds bytes rest read end) ∙ ap (bytes_answer task kinds) (sym joined) in
+        let all : bytes_answer task kinds whole ≡ answer w kinds whole = ap (bytes_answer task kinds) (sym (bytes_read task whole read)) ∙ ap (λ o. asked_answer o kinds whole) (sym asked) in
         subst P (same ∙ all) p
 
 -- other words have the usage line, whatever the text
@@ -82,14 +104,20 @@ read_is_not_shown w kinds text e = by (task_of w) e
     by None f = refl
     by (Some Run) f = run_by (with_refusal (compilation kinds text))
       where
-        run_by : (r : Result Expansion Refused) → is_shown (compiled_answer Run kinds r) ≡ false
+        run_by : (r : Result Expansion Refused) → is_shown (compiled_answer Run kinds None r) ≡ false
         run_by (Ok o) = refl
         run_by (Err r) = refl
     by (Some Check) f = check_by (with_refusal (compilation kinds text))
       where
-        check_by : (r : Result Expansion Refused) → is_shown (compiled_answer Check kinds r) ≡ false
+        check_by : (r : Result Expansion Refused) → is_shown (compiled_answer Check kinds None r) ≡ false
         check_by (Ok o) = refl
         check_by (Err r) = refl
+    by (Some Audit) f = audit_by (is_too_long Audit text) (with_refusal (compilation kinds (parts_of Audit text).text))
+      where
+        audit_by : (b : Bool) (r : Result Expansion Refused) → is_shown (cond b (said 4 too_long_line) (compiled_answer Audit kinds (parts_of Audit text).image r)) ≡ false
+        audit_by true r = refl
+        audit_by false (Ok o) = refl
+        audit_by false (Err r) = refl
     by (Some (Demo agents)) f = cc
 
 -- a text with a net is no longer than the limit
@@ -100,10 +128,37 @@ legal_short kinds text o e = short (grind arith)
     short (inl l) = l
     short (inr l) = let f : ◌≡◌ {A = Result Expansion Refused} (Err (refusal_of (of_text too_long))) (Ok o) = sym (ap with_refusal (long_refused kinds text l)) ∙ e in absurd (cc)
 
--- what `check` answers is no script
-pub check_is_no_script : (kinds : List Meaning) (text : List ℕ) → is_script (text_answer Check kinds text) ≡ false
-check_is_no_script kinds text = by (with_refusal (compilation kinds text))
+-- bytes that are more than the task takes are refused by that alone
+pub refused_long : (task : Task) (kinds : List Meaning) (bytes : List ℕ) → is_too_long task bytes ≡ true → said 4 too_long_line ≡ bytes_answer task kinds bytes
+refused_long task kinds bytes e = ap (λ (b : Bool). cond b (said 4 too_long_line) (text_answer task kinds (parts_of task bytes))) (sym e)
+
+-- and others are answered by their parts
+pub answered_by_parts : (task : Task) (kinds : List Meaning) (bytes : List ℕ) → is_too_long task bytes ≡ false → text_answer task kinds (parts_of task bytes) ≡ bytes_answer task kinds bytes
+answered_by_parts task kinds bytes e = ap (λ (b : Bool). cond b (said 4 too_long_line) (text_answer task kinds (parts_of task bytes))) (sym e)
+
+-- bytes that a task takes, of which the text is no longer than the limit of texts, are below the task's limit
+pub short_bytes : (task : Task) (bytes : List ℕ) → is_too_long task bytes ≡ false → length (parts_of task bytes).text < input_limit → length bytes < limit_for (Some task)
+short_bytes Run bytes fits short = short
+short_bytes Check bytes fits short = short
+short_bytes Audit bytes fits short = not_past (length bytes) fits
   where
-    by : (r : Result Expansion Refused) → is_script (compiled_answer Check kinds r) ≡ false
+    not_past : (n : ℕ) → nat_lt 67108864 n ≡ false → n < 67108865
+    not_past n e = grind arith
+short_bytes (Demo agents) bytes fits short = short
+
+-- what `check` answers is no script
+pub check_is_no_script : (kinds : List Meaning) (bytes : List ℕ) → is_script (bytes_answer Check kinds bytes) ≡ false
+check_is_no_script kinds bytes = by (with_refusal (compilation kinds bytes))
+  where
+    by : (r : Result Expansion Refused) → is_script (compiled_answer Check kinds None r) ≡ false
     by (Err r) = refl
     by (Ok o) = refl
+
+-- nor is what `audit` answers
+pub audit_is_no_script : (kinds : List Meaning) (bytes : List ℕ) → is_script (bytes_answer Audit kinds bytes) ≡ false
+audit_is_no_script kinds bytes = by (is_too_long Audit bytes) (with_refusal (compilation kinds (parts_of Audit bytes).text))
+  where
+    by : (b : Bool) (r : Result Expansion Refused) → is_script (cond b (said 4 too_long_line) (compiled_answer Audit kinds (parts_of Audit bytes).image r)) ≡ false
+    by true r = refl
+    by false (Err r) = refl
+    by false (Ok o) = refl

@@ -1,5 +1,5 @@
 -- A run that ended before there was an answer.
-use Rattle.std.proofs.Common.{◌≡◌, ◌≢◌, ◌∙◌, ◌==◌, sym, subst, refl, arith, ℕ, Bool, true, false, not, inr, List, [], Option, Some, None, Ok, Err}
+use Rattle.std.proofs.Common.{◌≡◌, ◌≢◌, ◌∙◌, ◌==◌, sym, subst, cond, refl, arith, ℕ, Bool, true, false, not, inr, List, [], Option, Some, None, Ok, Err}
 use Rattle.std.specs.List.{All}
 use Rattle.dn_base.specs.declared.device.TableEvent.{TableEvent}
 use Rattle.dn_base.specs.declared.device.UnitWords.{UnitWords}
@@ -12,11 +12,12 @@ use Rattle.dn_kind.specs.Units.{IsLegalWith}
 use Rattle.dn_module.specs.Expand.{Expansion}
 use Rattle.dn_module.specs.declared.command.Command.{Command}
 use Rattle.dn_words.specs.declared.words.Task.{Task}
-use Rattle.dn_words.specs.declared.words.Task.TheVariants.{Run, Check, Demo}
+use Rattle.dn_words.specs.declared.words.Task.TheVariants.{Run, Check, Audit, Demo}
 use Rattle.dn_words.specs.Words.{task_of}
-use Rattle.dn_tool.specs.Answer.{Answer, IsAnswered, answer, asked_answer, compiled_answer, played, said, shown, task_answer, task_text, text_answer}
+use Rattle.dn_tool.specs.Answer.{Answer, IsAnswered, answer, asked_answer, bytes_answer, compiled_answer, played, said, shown, task_answer, task_bytes, text_answer, too_long_line}
 use Rattle.dn_tool.specs.Compiled.{Compilation, compilation, with_refusal}
 use Rattle.dn_tool.specs.Halt.{is_free_status}
+use Rattle.dn_tool.specs.Input.{Parts, is_too_long, parts_of}
 use Rattle.dn_tool.specs.Played.{IsPlayed}
 use Rattle.dn_tool.proofs.Inputs.{is_shown}
 use Rattle.dn_tool.proofs.Reread.{compiled_is_legal}
@@ -65,24 +66,33 @@ IsLegalScript kinds (played net commands) = IsLegalWith kinds net
 IsLegalScript kinds (shown agents net commands) = IsLegalWith kinds net
 
 -- so it is where a script is the answer to a text
-pub text_legal : (task : Task) (kinds : List Meaning) (text : List ℕ) → IsLegalScript kinds (text_answer task kinds text)
-text_legal task kinds text = by (compilation kinds text) refl
+pub text_legal : (task : Task) (kinds : List Meaning) (parts : Parts) → IsLegalScript kinds (text_answer task kinds parts)
+text_legal task kinds parts = by (compilation kinds parts.text) refl
   where
-    of_task : (task : Task) (o : Expansion) → IsLegalWith kinds o.net → IsLegalScript kinds (task_answer task kinds o.net o.commands)
+    of_task : (task : Task) (o : Expansion) → IsLegalWith kinds o.net → IsLegalScript kinds (task_answer task kinds parts.image o.net o.commands)
     of_task Run o legal = legal
     of_task Check o legal = tt
+    of_task Audit o legal = tt
     of_task (Demo agents) o legal = legal
 
-    by : (r : Compilation) → compilation kinds text ≡ r → IsLegalScript kinds (compiled_answer task kinds (with_refusal r))
-    by (Ok o) e = of_task task o (compiled_is_legal kinds text o e).legal
+    by : (r : Compilation) → compilation kinds parts.text ≡ r → IsLegalScript kinds (compiled_answer task kinds parts.image (with_refusal r))
+    by (Ok o) e = of_task task o (compiled_is_legal kinds parts.text o e).legal
     by (Err broken) e = tt
 
-pub answer_legal : (words : List (List ℕ)) (kinds : List Meaning) (text : List ℕ) → IsLegalScript kinds (answer words kinds text)
-answer_legal words kinds text = by (task_of words)
+-- and to the bytes that a task is about
+pub bytes_legal : (task : Task) (kinds : List Meaning) (bytes : List ℕ) → IsLegalScript kinds (bytes_answer task kinds bytes)
+bytes_legal task kinds bytes = by (is_too_long task bytes)
   where
-    by : (asked : Option Task) → IsLegalScript kinds (asked_answer asked kinds text)
+    by : (b : Bool) → IsLegalScript kinds (cond b (said 4 too_long_line) (text_answer task kinds (parts_of task bytes)))
+    by true = tt
+    by false = text_legal task kinds (parts_of task bytes)
+
+pub answer_legal : (words : List (List ℕ)) (kinds : List Meaning) (bytes : List ℕ) → IsLegalScript kinds (answer words kinds bytes)
+answer_legal words kinds bytes = by (task_of words)
+  where
+    by : (asked : Option Task) → IsLegalScript kinds (asked_answer asked kinds bytes)
     by None = tt
-    by (Some task) = text_legal task kinds (task_text task text)
+    by (Some task) = bytes_legal task kinds (task_bytes task bytes)
 
 -- nothing was done and nothing written; a demonstration ends so only for want of memory
 pub unanswered : (kinds : List Meaning) (a : Answer) (status : ℕ) (b d : Option (List ℕ)) (log log' : Option (List TableEvent)) (told' : Option (List UnitWords)) → All IsLawful kinds → IsLegalScript kinds a → is_free_status status ≡ true → (status == 3) ≡ false → (status == 6) ≡ false → (is_shown a ≡ true → status ≡ 7) → d ≡ b → log' ≡ log → IsAnswered kinds a status b d log log' told'

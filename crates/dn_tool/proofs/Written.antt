@@ -64,6 +64,14 @@ rest_written a b c done failed rest all s w =
       front = prefix_then a b c s.done rest [] all s.added w.front joined;
     }
 
+-- a piece was written, and then the rest, or a part of it
+pub then_written : (a b c : Option (List ℕ)) (done failed : Bool) (x later : List ℕ) → Added a b x → IsWritten b c done failed later → IsWritten a c done failed (x ++ later)
+then_written a b c done failed x later p w = rest_written a b c done failed later (x ++ later) (gone_on a a b x (x ++ later) later (x ++ later) (begun a (x ++ later)) refl p) w
+
+-- a call that stopped where it wrote the first piece
+pub stopped_first : {A B : Type 0} (r : Result A RunHalt) (w : Result B RunHalt) (a b : Option (List ℕ)) (x later : List ℕ) → is_ok r ≡ false → is_write_halt r ≡ is_write_halt w → is_ok w ≡ false → Writes w a b x → Writes r a b (x ++ later)
+stopped_first r w a b x later done failed stop written = rw (done, failed) (stopped_in a a b (is_write_halt w) x (x ++ later) later (x ++ later) (begun a (x ++ later)) refl (rw stop at written))
+
 -- all of it was written
 pub ended : (a b : Option (List ℕ)) (rest all : List ℕ) → IsSoFar a b rest all → rest ≡ [] → IsWritten a b true false all
 ended a b rest all s e =

@@ -1,5 +1,5 @@
 -- The answer of the program: a status and what is written, or a script that is run, or a demonstration.
-use Rattle.std.specs.Prelude.{◌≡◌, ℕ, ◌==◌, Bool, true, false, not, List, ◌++◌, codes, Option, Some, None, Result, Ok, Err}
+use Rattle.std.specs.Prelude.{◌≡◌, ℕ, ◌==◌, Bool, true, false, if◌then◌else◌, not, List, ◌++◌, codes, Option, Some, None, Result, Ok, Err}
 use Rattle.dn_base.specs.declared.device.TableEvent.{TableEvent}
 use Rattle.dn_base.specs.declared.device.UnitWords.{UnitWords}
 use Rattle.dn_base.specs.Outside.{IsWritten}
@@ -8,13 +8,15 @@ use Rattle.dn_kind.specs.Kind.{Meaning}
 use Rattle.dn_print.specs.Statement.{net_text}
 use Rattle.dn_module.specs.declared.command.Command.{Command}
 use Rattle.dn_words.specs.declared.words.Task.{Task}
-use Rattle.dn_words.specs.declared.words.Task.TheVariants.{Run, Check, Demo}
+use Rattle.dn_words.specs.declared.words.Task.TheVariants.{Run, Check, Audit, Demo}
 use Rattle.dn_words.specs.Words.{task_of}
 use Rattle.dn_demo.specs.Text.{demo_text}
 use Rattle.dn_module.specs.Expand.{Expansion}
+use Rattle.dn_tool.specs.Audited.{Outcome, image_answer}
 use Rattle.dn_tool.specs.Compiled.{compilation, with_refusal}
 use Rattle.dn_tool.specs.Demo.{IsShown}
 use Rattle.dn_tool.specs.Halt.{is_free_status}
+use Rattle.dn_tool.specs.Input.{Parts, is_too_long, parts_of}
 use Rattle.dn_tool.specs.Played.{IsPlayed}
 use Rattle.dn_tool.specs.Refused.{Refused}
 
@@ -39,13 +41,15 @@ usage = codes "usage: netconf COMMAND [N]\n"
 abbrev pub task_reads : Task → Bool
 task_reads Run = true
 task_reads Check = true
+task_reads Audit = true
 task_reads (Demo agents) = false
 
--- the text that a task is about: the one that is read, or that of the demonstration
-abbrev pub task_text : Task → List ℕ → List ℕ
-task_text Run text = text
-task_text Check text = text
-task_text (Demo agents) text = demo_text agents
+-- the bytes that a task is about: those that are read, or the text of the demonstration
+abbrev pub task_bytes : Task → List ℕ → List ℕ
+task_bytes Run bytes = bytes
+task_bytes Check bytes = bytes
+task_bytes Audit bytes = bytes
+task_bytes (Demo agents) bytes = demo_text agents
 
 -- whether what is asked for reads the source; where nothing is, nothing is read
 abbrev pub some_task_reads : Option Task → Bool
@@ -56,37 +60,51 @@ some_task_reads (Some task) = task_reads task
 abbrev pub reads : List (List ℕ) → Bool
 reads words = some_task_reads (task_of words)
 
--- the words are answered by this text: by what the source tells where they read it, and else by any text
+-- the words are answered by these bytes: by what the source tells where they read it, and else by any
 abbrev pub IsInput : List (List ℕ) → Option (List ℕ) → List ℕ → Type 0
-IsInput words left text = reads words ≡ true → left ≡ Some text
+IsInput words left bytes = reads words ≡ true → left ≡ Some bytes
 
--- `run` answers the commands, `check` prints the net, and `demo N` goes through the commands
-abbrev pub task_answer : Task → List Meaning → List NodeDecl → List Command → Answer
-task_answer Run kinds net commands = played net commands
-task_answer Check kinds net commands = said 0 (net_text kinds net)
-task_answer (Demo agents) kinds net commands = shown agents net commands
+-- `run` answers the commands, `check` prints the net, `audit` says what agents see under the image, and
+-- `demo N` goes through the commands
+abbrev pub task_answer : Task → List Meaning → Option (List ℕ) → List NodeDecl → List Command → Answer
+task_answer Run kinds image net commands = played net commands
+task_answer Check kinds image net commands = said 0 (net_text kinds net)
+task_answer Audit kinds image net commands =
+    said (image_answer kinds net image).status (image_answer kinds net image).output
+task_answer (Demo agents) kinds image net commands = shown agents net commands
 
 -- the answer to what a text comes to: the line of its refusal, or what the task makes of it
-abbrev pub compiled_answer : Task → List Meaning → Result Expansion Refused → Answer
-compiled_answer task kinds (Err r) = said 4 (r.text ++ codes "\n")
-compiled_answer task kinds (Ok o) = task_answer task kinds o.net o.commands
+abbrev pub compiled_answer : Task → List Meaning → Option (List ℕ) → Result Expansion Refused → Answer
+compiled_answer task kinds image (Err r) = said 4 (r.text ++ codes "\n")
+compiled_answer task kinds image (Ok o) = task_answer task kinds image o.net o.commands
 
--- the answer to a text
-abbrev pub text_answer : Task → List Meaning → List ℕ → Answer
-text_answer task kinds text = compiled_answer task kinds (with_refusal (compilation kinds text))
+-- the answer to a text, and an image after it
+abbrev pub text_answer : Task → List Meaning → Parts → Answer
+text_answer task kinds parts =
+    compiled_answer task kinds parts.image (with_refusal (compilation kinds parts.text))
+
+-- the line that refuses an input that is too long
+abbrev pub too_long_line : List ℕ
+too_long_line = codes "refused: InputLength\n"
+
+-- the answer to the bytes that a task is about
+abbrev pub bytes_answer : Task → List Meaning → List ℕ → Answer
+bytes_answer task kinds bytes =
+    if is_too_long task bytes then said 4 too_long_line
+    else text_answer task kinds (parts_of task bytes)
 
 -- the answer to a demonstration with so many agents
 abbrev pub demo_answer : ℕ → List Meaning → Answer
-demo_answer agents kinds = text_answer (Demo agents) kinds (demo_text agents)
+demo_answer agents kinds = bytes_answer (Demo agents) kinds (demo_text agents)
 
 -- the answer to what is asked for, and the usage line where nothing is
 abbrev pub asked_answer : Option Task → List Meaning → List ℕ → Answer
-asked_answer None kinds text = said 1 usage
-asked_answer (Some task) kinds text = text_answer task kinds (task_text task text)
+asked_answer None kinds bytes = said 1 usage
+asked_answer (Some task) kinds bytes = bytes_answer task kinds (task_bytes task bytes)
 
--- the answer to words and a text, where these kinds of units are known
+-- the answer to words and the bytes of the source, where these kinds of units are known
 abbrev pub answer : List (List ℕ) → List Meaning → List ℕ → Answer
-answer words kinds text = asked_answer (task_of words) kinds text
+answer words kinds bytes = asked_answer (task_of words) kinds bytes
 
 -- A status and an output were the answer of a run: a status that is not free is the answer's, and
 -- exactly the output was written then. At any other a prefix of it was, and at status 3 not all of it.
@@ -94,6 +112,10 @@ pub record IsSaid (own : ℕ) (output : List ℕ) (status : ℕ) (before after :
     : Type 0 where
   pub exact : is_free_status status ≡ false → status ≡ own
   pub written : IsWritten before after (not (is_free_status status)) (status == 3) output
+
+-- the same of an outcome
+abbrev pub IsOutcome : Outcome → ℕ → Option (List ℕ) → Option (List ℕ) → Type 0
+IsOutcome o status before after = IsSaid o.status o.output status before after
 
 -- a run with this status gave an answer, as far as it came
 abbrev pub IsAnswered : List Meaning → Answer → ℕ → Option (List ℕ) → Option (List ℕ) →

@@ -11,6 +11,8 @@ pub mod Changed
 pub mod Ids
 pub mod State
 pub mod Demo
+pub mod Input
+pub mod Audited
 pub mod Answer
 pub mod Halt
 pub mod Machine

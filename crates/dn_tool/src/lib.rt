@@ -8,17 +8,21 @@
 //! [`run::demo`] does so with the text of a demonstration, of which [`demo`] prints what came of it.
 #![tactic(auto)]
 
+mod audit;
 mod change;
 pub mod compile;
 mod demo;
 mod halt;
 pub mod ids;
+mod input;
 pub mod laws;
+mod lines;
 pub mod machine;
 mod output;
 mod radix;
 pub mod refusal;
 pub mod reply;
+mod report;
 mod reshape;
 pub mod run;
 mod script;

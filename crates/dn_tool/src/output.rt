@@ -1,29 +1,22 @@
-//! Writing an output, bytes line by line, a net statement by statement, and rows some at once.
+//! Writing an output, bytes line by line, and a net statement by statement.
 
-ghost use Rattle.std.specs.Prelude.{◌++◌, length, map, IsTrue};
+ghost use Rattle.std.specs.Prelude.{◌≡◌, ◌++◌, false, length, IfOk, IsTrue};
 ghost use Rattle.std.specs.List.{list_all};
-ghost use Rattle.dn_interval.specs.Terms.{seen_view};
 ghost use Rattle.dn_net.specs.Terms.{is_closed};
 ghost use Rattle.dn_kind.specs.Terms.{AreKinds, has_kind, kinds_of};
-ghost use Rattle.dn_print.specs.Terms.{dump_text, ends_exist, lines_text, net_text, rows_text};
-ghost use Rattle.dn_tool.specs.Terms.{HaltsBySink, Writes};
+ghost use Rattle.dn_print.specs.Terms.{dump_text, lines_text, net_text};
+ghost use Rattle.dn_tool.specs.Terms.{HaltsBySink, IsSaid, Writes, ending_status, is_free_status};
 
 use crate::halt::RunHalt;
 use dn_base::sink::{Sink, WriteFault};
 use dn_base::whole;
-use dn_interval::Row;
 use dn_kind::kinded::KindedNet;
-use dn_net::net::Net;
 use dn_print::dump;
 use dn_print::net::statement_text;
-use dn_print::rows::lines_of;
 use std::alloc::Global;
 
 /// How many bytes are written at once, in full lines.
 const PIECE: usize = 32_768;
-
-/// How many rows are written at once.
-const ROWS: usize = 512;
 
 /// Writes the output.
 #[tactic(auto, using(dn_base::proofs::Told::written_stopped))]
@@ -36,6 +29,18 @@ pub(crate) fn write_output<K: Sink>(sink: &mut K, output: &[u8]) -> Result<(), R
         Err(WriteFault::Failed) => Err(RunHalt::WriteFault),
         Err(WriteFault::OutOfMemory) => Err(RunHalt::NoMemory),
     }
+}
+
+/// Writes an output, and gives its status.
+pub(crate) fn say<K: Sink>(sink: &mut K, output: &[u8], status: u8) -> Result<u8, RunHalt>
+    requires { is_free_status status ≡ false }
+    ensures said { IsSaid status output.now
+        (ending_status result) (K.written sink.old) (K.written sink.new) }
+    ensures status { IfOk result (λ s. s ≡ status) }
+    ensures halted { HaltsBySink result (K.faults sink.old) (K.faults sink.new) }
+{
+    write_output(sink, output)?;
+    Ok(status)
 }
 
 /// Writes the text of an image.
@@ -82,25 +87,6 @@ pub(crate) fn write_net<K: Sink>(alloc: Global, on: KindedNet, sink: &mut K) -> 
 {
     for node in 0..on.net.nodes() {
         let text = statement_text(alloc, on, node)?;
-        write_output(sink, text.as_bytes())?;
-    }
-    Ok(())
-}
-
-/// Writes a line for each row, so many rows at once that no more than those are in memory as text.
-pub(crate) fn write_rows<K: Sink>(
-    alloc: Global,
-    net: &Net,
-    rows: &[Row],
-    sink: &mut K,
-) -> Result<(), RunHalt>
-    requires { IsTrue (ends_exist (length net.now) rows.now) }
-    ensures written { Writes result (K.written sink.old) (K.written sink.new)
-        (rows_text net.now (map seen_view rows.now)) }
-    ensures halted { HaltsBySink result (K.faults sink.old) (K.faults sink.new) }
-{
-    for piece in rows.chunks(ROWS) {
-        let text = lines_of(alloc, net, piece)?;
         write_output(sink, text.as_bytes())?;
     }
     Ok(())

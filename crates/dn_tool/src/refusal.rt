@@ -99,6 +99,9 @@ impl Rule {
     }
 }
 
+/// A text breaks a rule, or an input has no image of its net.
+pub const REFUSED: u8 = 4;
+
 /// The refusal of a text. Contracts see the rule and the bytes of the line.
 #[derive(Drop)]
 pub struct Refusal {

@@ -14,8 +14,9 @@ ghost use Rattle.dn_print.specs.Terms.{names_text};
 ghost use Rattle.dn_tool.specs.Terms.{HaltsBySink, IsFirstView, IsMachine, IsReady, IsStill, Writes, access_of, access_text, asked_text, is_change, is_pieced, lookup_text, names_under, no_agent_text, owed_rows, reply, resolve_text, view_heading, view_text, viewed_text};
 
 use crate::halt::RunHalt;
+use crate::lines::write_rows;
 use crate::machine::Machine;
-use crate::output::{write_output, write_rows};
+use crate::output::write_output;
 use crate::state::{FirstView, Session, keep_first, keep_flats, kept_flats};
 use crate::{OutOfMemory, reshape};
 use dn_base::sink::Sink;
@@ -367,8 +368,7 @@ fn write_view<K: Sink>(
 {
     let rows = seen.rows();
     let heading = heading_text(alloc, text, mode, rows.len())?;
-    write_output(sink, heading.as_bytes())?;
-    write_rows(alloc, net, rows, sink)
+    write_rows(alloc, net, heading.as_str(), rows, sink)
 }
 
 /// The heading of a view: this text, the access and the number of rows.

@@ -1,19 +1,22 @@
 //! The top call: from the words and the bytes of a source to those of a sink, the words of a device, and a status.
 
 ghost use Rattle.std.specs.Prelude.{◌≡◌, ◌≢◌, ℕ, List, ◌==◌, ◌-◌, ◌<◌, ◌≤◌, ◌⊎◌, ◌++◌, [], true, false, codes, length, IfOk, None, Some, take};
-ghost use Rattle.std.specs.Option.{IfSome};
+ghost use Rattle.std.specs.Option.{IfSome, option_copied};
 ghost use Rattle.dn_base.specs.Terms.{AtEnd, IsCounted, Taken, TakenAtMost, input_limit};
 ghost use Rattle.dn_kind.specs.Terms.{AreKinds, kinds_of, shape_fault};
 ghost use Rattle.dn_words.specs.Terms.{task_of};
-ghost use Rattle.dn_tool.specs.Terms.{HaltsByEither, HaltsBySink, IsAnswered, IsInput, IsMachine, IsSaid, answer, demo_answer, ending_status, is_free_status, is_script, reads, task_answer, text_answer, usage};
+ghost use Rattle.dn_tool.specs.Terms.{HaltsByEither, HaltsBySink, IsAnswered, IsInput, IsMachine, IsSaid, answer, bytes_answer, demo_answer, ending_status, is_script, limit_for, parts_view, reads, task_answer, text_answer, usage};
 ghost use Rattle.dn_print.specs.Terms.{net_text};
 
+use crate::audit::answer_image;
 use crate::compile::{CompileFault, Platform};
 use crate::demo::run_demo;
 use crate::halt::{RunHalt, status_of};
 pub use crate::halt::{DEVICE_FAULT, NO_MEMORY, WRITE_FAULT};
+use crate::input::{Input, is_too_long, parts_of, read_input};
 use crate::machine::Machine;
-use crate::output::{write_net, write_output};
+use crate::output::{say, write_net};
+pub use crate::refusal::REFUSED;
 use crate::refusal::Refusal;
 pub use crate::script::DONE;
 use crate::script::run_script;
@@ -21,7 +24,6 @@ use crate::{OutOfMemory, compile};
 use dn_base::device::Tables;
 use dn_base::sink::Sink;
 use dn_base::source::Source;
-use dn_base::whole;
 use dn_base::whole::InputFault;
 use dn_demo::text::demo_text;
 use dn_kind::kinded::KindedNet;
@@ -33,14 +35,13 @@ use std::alloc::Global;
 pub const WRONG_WORDS: u8 = 1;
 /// The source failed.
 pub const READ_FAULT: u8 = 2;
-/// The text breaks a rule.
-pub const REFUSED: u8 = 4;
 
 /// Answers the words: reads the source's text, writes what it comes to, and gives the status.
 ///
-/// The forms of words are `run`, `check` and `demo N`, of which the first two read. Nothing is read where the
-/// words are of no form. `run` makes the units of the text on the device, which has none so far, and answers
-/// the commands. The units of the text are of these kinds, at most 255.
+/// The forms of words are `run`, `check`, `audit` and `demo N`, of which the first three read. Nothing is read
+/// where the words are of no form. `run` makes the units of the text on the device, which has none so far, and
+/// answers the commands. `audit` reads a text, a byte 0 and an image, runs no command and leaves the device
+/// alone. The units of the text are of these kinds, at most 255.
 pub fn run<S: Source, K: Sink, D: Tables>(
     alloc: Global,
     words: &Words,
@@ -52,32 +53,34 @@ pub fn run<S: Source, K: Sink, D: Tables>(
     requires few_kinds { length kinds.now.list.items ≤ 255 }
     requires kinds { AreKinds meaning kinds.now }
     requires none { D.units device.old ≡ [] }
-    // What the run gave is the answer to the text that the source tells where the words read it, and
-    // else to any text: a status and an output, or a script as far as the run came over it.
-    ensures answered { (text : List ℕ)
-        → IsInput words.now (S.left source.old) text → IsAnswered (kinds_of meaning kinds.now)
-        (answer words.now (kinds_of meaning kinds.now) text) result (K.written sink.old)
+    // What the run gave is the answer to the bytes that the source tells where the words read it, and
+    // else to any bytes: a status and an output, or a script as far as the run came over it.
+    ensures answered { (bytes : List ℕ)
+        → IsInput words.now (S.left source.old) bytes → IsAnswered (kinds_of meaning kinds.now)
+        (answer words.now (kinds_of meaning kinds.now) bytes) result (K.written sink.old)
         (K.written sink.new) (D.log device.old) (D.log device.new) (D.words device.new) }
-    // Where no script is run the device is as it was, and with `check` whatever the source tells.
-    ensures untouched { (text : List ℕ) → IsInput words.now (S.left source.old) text → is_script
-        (answer words.now (kinds_of meaning kinds.now) text) ≡ false → device.new ≡ device.old }
+    // Where no script is run the device is as it was; with `check` and `audit` whatever is told.
+    ensures untouched { (bytes : List ℕ) → IsInput words.now (S.left source.old) bytes → is_script
+        (answer words.now (kinds_of meaning kinds.now) bytes) ≡ false → device.new ≡ device.old }
     ensures checked { task_of words.now ≡ Some Task.Check → device.new ≡ device.old }
+    ensures audited { task_of words.now ≡ Some Task.Audit → device.new ≡ device.old }
     ensures nothing_done { result ≡ 2 →
         (K.written sink.new ≡ K.written sink.old) × (device.new ≡ device.old) }
     ensures statuses { (result < 5) ⊎ ((result ≡ 6) ⊎ (result ≡ 7)) }
     ensures wrong_words { result ≡ 1 → task_of words.now ≡ None }
     // Where the words do not read the source it is as it was, and so it has no fault.
     ensures unread { reads words.now ≡ false → (result ≢ 2) × (source.new ≡ source.old) }
-    // Where they do, it is at its end at status 0, and was read to its end or to the limit of
-    // 4,194,305 bytes wherever the run came past reading.
+    // Where they do, it is at its end at status 0, and was read to its end or to the limit wherever the
+    // run came past reading: with `audit` 67,108,865 bytes, else 4,194,305.
     ensures end { reads words.now ≡ true → result ≡ 0 → AtEnd (S.left source.new) }
     ensures read_through { reads words.now ≡ true → (result ≢ 2) → (result ≢ 7) →
-        IfSome (S.left source.old) (λ text.
-        Taken (S.left source.old) (S.left source.new) (take input_limit text)) }
-    ensures at_most { TakenAtMost input_limit (S.left source.old) (S.left source.new) }
+        IfSome (S.left source.old) (λ bytes. Taken (S.left source.old) (S.left source.new)
+        (take (limit_for (task_of words.now)) bytes)) }
+    ensures at_most { TakenAtMost (limit_for (task_of words.now))
+        (S.left source.old) (S.left source.new) }
     // A fault of the source comes only before the limit was taken.
-    ensures before_limit { result ≡ 2 →
-        TakenAtMost (input_limit - 1) (S.left source.old) (S.left source.new) }
+    ensures before_limit { result ≡ 2 → TakenAtMost (limit_for (task_of words.now) - 1)
+        (S.left source.old) (S.left source.new) }
     // Status 2, 3 or 6 comes only where the count of the source, of the sink or of the device rose in
     // this call, and never over an object that never fails. At every other status the count is as it
     // was, over one that answers each fault by the call in which it comes.
@@ -93,12 +96,12 @@ pub fn run<S: Source, K: Sink, D: Tables>(
     if let Task::Demo(agents) = task {
         return demo(alloc, agents, kinds, sink, device);
     }
-    let text = match whole::read_whole(alloc, source) {
-        Ok(text) => text,
+    let bytes = match read_input(alloc, task, source) {
+        Ok(bytes) => bytes,
         Err(InputFault::Failed) => return READ_FAULT,
         Err(InputFault::OutOfMemory) => return NO_MEMORY,
     };
-    status_of(answer_text(alloc, task, kinds, &text, sink, device))
+    status_of(answer_bytes(alloc, task, kinds, &bytes, sink, device))
 }
 
 /// Runs the demonstration with so many agents, from 1 to 64: grants and revokes over a text that is
@@ -126,7 +129,7 @@ pub fn demo<K: Sink, D: Tables>(
     ensures device_counted { IsCounted (D.faults device.old) (D.faults device.new) (result == 6) }
 {
     match demo_text(alloc, agents) {
-        Ok(text) => status_of(answer_text(alloc, Task::Demo(agents), kinds, &text, sink, device)),
+        Ok(text) => status_of(answer_bytes(alloc, Task::Demo(agents), kinds, &text, sink, device)),
         Err(_) => NO_MEMORY,
     }
 }
@@ -140,12 +143,40 @@ fn refuse_words<K: Sink>(sink: &mut K) -> Result<u8, RunHalt>
     say(sink, "usage: netconf COMMAND [N]\n".as_bytes(), WRONG_WORDS)
 }
 
+/// Answers the bytes that a task is about, and gives the status.
+fn answer_bytes<K: Sink, D: Tables>(
+    alloc: Global,
+    task: Task,
+    kinds: &Kinds,
+    bytes: &[u8],
+    sink: &mut K,
+    device: &mut D,
+) -> Result<u8, RunHalt>
+    requires few_kinds { length kinds.now.list.items ≤ 255 }
+    requires kinds { AreKinds meaning kinds.now }
+    requires none { D.units device.old ≡ [] }
+    ensures answered { IsAnswered (kinds_of meaning kinds.now) (bytes_answer task
+        (kinds_of meaning kinds.now) bytes.now) (ending_status result) (K.written sink.old)
+        (K.written sink.new) (D.log device.old) (D.log device.new) (D.words device.new) }
+    ensures untouched { is_script (bytes_answer task (kinds_of meaning kinds.now) bytes.now)
+        ≡ false → device.new ≡ device.old }
+    ensures which { IfOk result (λ s. (s ≡ 0) ⊎ (s ≡ 4)) }
+    ensures halted { HaltsByEither result (K.faults sink.old) (K.faults sink.new)
+        (D.faults device.old) (D.faults device.new) }
+    ensures short { IfOk result (λ s. s ≡ 0 → length bytes.now < limit_for (Some task)) }
+{
+    if is_too_long(task, bytes) {
+        return say(sink, "refused: InputLength\n".as_bytes(), REFUSED);
+    }
+    answer_text(alloc, task, kinds, parts_of(task, bytes), sink, device)
+}
+
 /// Compiles a text, gives its answer, and the status of that.
 fn answer_text<K: Sink, D: Tables>(
     alloc: Global,
     task: Task,
     kinds: &Kinds,
-    text: &[u8],
+    input: Input,
     sink: &mut K,
     device: &mut D,
 ) -> Result<u8, RunHalt>
@@ -153,29 +184,30 @@ fn answer_text<K: Sink, D: Tables>(
     requires kinds { AreKinds meaning kinds.now }
     requires none { D.units device.old ≡ [] }
     ensures answered { IsAnswered (kinds_of meaning kinds.now) (text_answer task
-        (kinds_of meaning kinds.now) text.now) (ending_status result) (K.written sink.old)
-        (K.written sink.new) (D.log device.old) (D.log device.new) (D.words device.new) }
-    ensures untouched { is_script (text_answer task (kinds_of meaning kinds.now) text.now)
-        ≡ false → device.new ≡ device.old }
+        (kinds_of meaning kinds.now) (parts_view input.entry)) (ending_status result) (K.written
+        sink.old) (K.written sink.new) (D.log device.old) (D.log device.new) (D.words device.new) }
+    ensures untouched { is_script (text_answer task (kinds_of meaning kinds.now)
+        (parts_view input.entry)) ≡ false → device.new ≡ device.old }
     ensures which { IfOk result (λ s. (s ≡ 0) ⊎ (s ≡ 4)) }
     ensures halted { HaltsByEither result (K.faults sink.old) (K.faults sink.new)
         (D.faults device.old) (D.faults device.new) }
-    ensures short { IfOk result (λ s. s ≡ 0 → length text.now < input_limit) }
+    ensures short { IfOk result (λ s. s ≡ 0 → length input.entry.text.now < input_limit) }
 {
-    match compile::compile(alloc, text, kinds) {
-        Ok(platform) => answer_task(alloc, task, kinds, &platform, sink, device),
+    match compile::compile(alloc, input.text, kinds) {
+        Ok(platform) => answer_task(alloc, task, kinds, &platform, input.image, sink, device),
         Err(CompileFault::Refused(refusal)) => refuse(alloc, &refusal, sink),
         Err(CompileFault::OutOfMemory) => Err(RunHalt::NoMemory),
     }
 }
 
-/// Does what the words ask for with a platform: runs its script, or prints its net. The status is
-/// `DONE`.
+/// Does what the words ask for with a platform, and gives the status: runs its script, prints its net, or
+/// says what its agents see under the image.
 fn answer_task<K: Sink, D: Tables>(
     alloc: Global,
     task: Task,
     kinds: &Kinds,
     platform: &Platform,
+    image: Option<&[u8]>,
     sink: &mut K,
     device: &mut D,
 ) -> Result<u8, RunHalt>
@@ -183,11 +215,12 @@ fn answer_task<K: Sink, D: Tables>(
     requires shaped { shape_fault (kinds_of meaning kinds.now) platform.now.net ≡ None }
     requires none { D.units device.old ≡ [] }
     ensures answered { IsAnswered (kinds_of meaning kinds.now) (task_answer task (kinds_of
-        meaning kinds.now) platform.now.net platform.now.commands) (ending_status result) (K.written
-        sink.old) (K.written sink.new) (D.log device.old) (D.log device.new) (D.words device.new) }
-    ensures untouched { is_script (task_answer task (kinds_of meaning kinds.now)
-        platform.now.net platform.now.commands) ≡ false → device.new ≡ device.old }
-    ensures done { IfOk result (λ s. s ≡ 0) }
+        meaning kinds.now) (option_copied image.entry) platform.now.net platform.now.commands)
+        (ending_status result) (K.written sink.old) (K.written sink.new) (D.log device.old)
+        (D.log device.new) (D.words device.new) }
+    ensures untouched { is_script (task_answer task (kinds_of meaning kinds.now) (option_copied
+        image.entry) platform.now.net platform.now.commands) ≡ false → device.new ≡ device.old }
+    ensures which { IfOk result (λ s. (s ≡ 0) ⊎ (s ≡ 4)) }
     ensures halted { HaltsByEither result (K.faults sink.old) (K.faults sink.new)
         (D.faults device.old) (D.faults device.new) }
 {
@@ -202,6 +235,7 @@ fn answer_task<K: Sink, D: Tables>(
     match task {
         Task::Run => run_script(alloc, machine, commands, sink, device),
         Task::Check => print_net(alloc, machine, sink),
+        Task::Audit => answer_image(alloc, machine, image, sink),
         Task::Demo(agents) => run_demo(alloc, machine, agents, commands, sink, device),
     }
 }
@@ -228,16 +262,4 @@ fn refuse<K: Sink>(alloc: Global, refusal: &Refusal, sink: &mut K) -> Result<u8,
     let text = refusal.text();
     let line = format!(in alloc; "{text}\n")?;
     say(sink, line.as_bytes(), REFUSED)
-}
-
-/// Writes an output, and gives its status.
-fn say<K: Sink>(sink: &mut K, output: &[u8], status: u8) -> Result<u8, RunHalt>
-    requires { is_free_status status ≡ false }
-    ensures said { IsSaid status output.now
-        (ending_status result) (K.written sink.old) (K.written sink.new) }
-    ensures status { IfOk result (λ s. s ≡ status) }
-    ensures halted { HaltsBySink result (K.faults sink.old) (K.faults sink.new) }
-{
-    write_output(sink, output)?;
-    Ok(status)
 }

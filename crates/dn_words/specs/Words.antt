@@ -4,7 +4,7 @@ use Rattle.std.specs.List.{range_with_len}
 use Rattle.std.specs.Fmt.{decimal}
 use Rattle.std.specs.Str.{bytes_eq}
 use Rattle.dn_words.specs.declared.words.Task.{Task}
-use Rattle.dn_words.specs.declared.words.Task.TheVariants.{Run, Check, Demo}
+use Rattle.dn_words.specs.declared.words.Task.TheVariants.{Run, Check, Audit, Demo}
 
 -- a word that does not begin with `-`
 abbrev pub is_plain_word : List ℕ → Bool
@@ -19,7 +19,8 @@ agents_of word = find (λ n. bytes_eq word (decimal n)) (range_with_len 1 64)
 abbrev pub task_of_word : List ℕ → Option Task
 task_of_word word =
     if bytes_eq word (codes "run") then Some Run
-    else (if bytes_eq word (codes "check") then Some Check else None)
+    else (if bytes_eq word (codes "check") then Some Check
+    else (if bytes_eq word (codes "audit") then Some Audit else None))
 
 -- what a word and a number behind it ask for
 abbrev pub task_of_two : List ℕ → List ℕ → Option Task
@@ -31,7 +32,7 @@ abbrev pub task_of_parts : List ℕ → Option (List ℕ) → Option Task
 task_of_parts word None = task_of_word word
 task_of_parts word (Some number) = task_of_two word number
 
--- what the words ask for: they are `run` alone, `check` alone, or `demo` and a number from 1 to 64 behind it
+-- what the words ask for: they are `run`, `check` or `audit` alone, or `demo` and a number from 1 to 64 after it
 abbrev pub task_of : List (List ℕ) → Option Task
 task_of (word ∷ []) = task_of_word word
 task_of (word ∷ number ∷ []) = task_of_two word number

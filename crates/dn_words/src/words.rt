@@ -17,6 +17,8 @@ pub enum Task {
     Run,
     /// To print the net of the text: `check`.
     Check,
+    /// To say what each agent sees under an image: `audit`.
+    Audit,
     /// To run the demonstration with so many agents, from 1 to 64: `demo N`.
     Demo(u8),
 }
@@ -111,6 +113,8 @@ fn task_of_word(word: &str) -> Option<Task>
         Some(Task::Run)
     } else if word == "check" {
         Some(Task::Check)
+    } else if word == "audit" {
+        Some(Task::Audit)
     } else {
         None
     }

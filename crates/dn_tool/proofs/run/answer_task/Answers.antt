@@ -7,5 +7,8 @@ run_script-requires-clause-machine g c = platform_machine _ _ c.requires.kinds.l
 pub print_net-requires : goal.print_net-requires
 print_net-requires g c = record { machine = platform_machine _ _ c.requires.kinds.lawful (rw (← c.platform.view_is) at c.requires.shaped) c.platform.invariant.walked }
 
+pub answer_image-requires : goal.answer_image-requires
+answer_image-requires g c = record { machine = platform_machine _ _ c.requires.kinds.lawful (rw (← c.platform.view_is) at c.requires.shaped) c.platform.invariant.walked }
+
 pub run_demo-requires-clause-machine : goal.run_demo-requires-clause-machine
 run_demo-requires-clause-machine g c = platform_machine _ _ c.requires.kinds.lawful (rw (← c.platform.view_is) at c.requires.shaped) c.platform.invariant.walked
