@@ -7,7 +7,8 @@
 //! ends the run with its status, no call is made again or beside those that are needed, and words of
 //! no form read nothing (`faults`). Each call of the device fails in turn: where the units of a net
 //! are made (`devices`), in grants, routes and revokes (`stops`, and with rights of each access
-//! `rights`), and in a demonstration (`demos`). `failing` says which calls fail, `outcome` runs the
+//! `rights`), and in a demonstration (`demos`). How much an audit reads, and what it writes before
+//! a fault, is in `audits`. `failing` says which calls fail, `outcome` runs the
 //! words over a text, `rows` compares what comes of it, and `words` has the words of the faults of a
 //! text.
 //!

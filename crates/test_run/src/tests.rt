@@ -1,5 +1,6 @@
 //! The tests, and the functions that they share.
 
+mod audits;
 mod demos;
 mod devices;
 mod faults;

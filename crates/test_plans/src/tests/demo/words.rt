@@ -18,6 +18,7 @@ fn takes_each_form_of_words(rt: HostRuntime) -> Result<(), Fail> {
     let alloc = rt.alloc();
     assert!(rt; asked(alloc, &["run"])? == Some(Task::Run));
     assert!(rt; asked(alloc, &["check"])? == Some(Task::Check));
+    assert!(rt; asked(alloc, &["audit"])? == Some(Task::Audit));
     assert!(rt; asked(alloc, &["demo", "1"])? == Some(Task::Demo(1)));
     assert!(rt; asked(alloc, &["demo", "10"])? == Some(Task::Demo(10)));
     assert!(rt; asked(alloc, &["demo", "64"])? == Some(Task::Demo(64)));
@@ -43,6 +44,7 @@ fn takes_no_other_words(rt: HostRuntime) -> Result<(), Fail> {
     assert!(rt; asked(alloc, &[])? == None);
     assert!(rt; asked(alloc, &["demo"])? == None);
     assert!(rt; asked(alloc, &["run", "4"])? == None);
+    assert!(rt; asked(alloc, &["audit", "4"])? == None);
     assert!(rt; asked(alloc, &["demo", "4", "4"])? == None);
     assert!(rt; asked(alloc, &["--help"])? == None);
     assert!(rt; asked(alloc, &["--", "run"])? == None);

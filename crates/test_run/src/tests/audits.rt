@@ -1,0 +1,123 @@
+//! Tests of audits: how much is read, what comes of a read, a write or a call of the device that fails, and that no unit
+//! is made.
+
+use crate::failing::{failing_calls, failing_reads, failing_writes};
+use crate::outcome::answer;
+use crate::tests::rows::comes_to;
+use dn_tool::run::{DONE, READ_FAULT, REFUSED, WRITE_FAULT};
+
+/// A unit with a record for page 4, by which an engine sees a page of the memory that a core sees whole. Its command is
+/// read, and not run.
+const TEXT: &str = "dram is accept [0x0-0xffff];
+agent core is over dram;
+agent dma is map [0x0-0xfff to mmu at 0x0];
+unit mmu kind pages page 12 slots 1 reach 16 to dram;
+begin; dump;
+\0DNIM\x02\0\x01\0\x03\0\x01\0\x01\0\0\0\x01\x04\0\0\0\0\0\0";
+
+/// What is said of it: the heading, and then a view at a time.
+const REPORT: &str = "audit bytes 24 records 1 shut 0 shared 1
+view core for read rows 1
+0x0-0xffff dram@0x0
+view core for write rows 1
+0x0-0xffff dram@0x0
+view dma for read rows 1
+0x0-0xfff dram@0x4000
+view dma for write rows 1
+0x0-0xfff dram@0x4000
+shared dram 0x4000-0x4fff core dma
+";
+
+#[test]
+fn makes_no_unit_for_an_audit(rt: HostRuntime) {
+    let first = [0];
+    let outcome = answer(
+        &rt,
+        rt.alloc(),
+        &["audit"],
+        TEXT.as_bytes(),
+        4096,
+        failing_calls(&first),
+    );
+    assert_eq!(rt; outcome.status, DONE);
+    assert_eq!(rt; outcome.sink.written(), REPORT.as_bytes());
+    assert_eq!(rt; outcome.device.log().len(), 0);
+}
+
+#[test]
+fn writes_nothing_where_a_read_of_an_audit_fails(rt: HostRuntime) {
+    // The input is read in three reads of 64 bytes, the last of which gives fewer, and one that gives none.
+    for call in 0..4u32 {
+        let calls = [call];
+        comes_to(
+            &rt,
+            &["audit"],
+            TEXT,
+            64,
+            failing_reads(&calls),
+            READ_FAULT,
+            "",
+        );
+    }
+    comes_to(&rt, &["audit"], TEXT, 64, failing_reads(&[4]), DONE, REPORT);
+}
+
+#[test]
+fn stops_where_a_write_of_an_audit_fails(rt: HostRuntime) {
+    // The heading is one write, that of a view another, then its rows, and the shared rows are one.
+    let fronts = [
+        (0, 0),
+        (1, 41),
+        (2, 67),
+        (3, 87),
+        (4, 114),
+        (5, 134),
+        (6, 159),
+        (7, 181),
+        (8, 207),
+        (9, 229),
+    ];
+    for (call, bytes) in fronts {
+        let calls = [call];
+        let outcome = answer(
+            &rt,
+            rt.alloc(),
+            &["audit"],
+            TEXT.as_bytes(),
+            4096,
+            failing_writes(&calls),
+        );
+        assert_eq!(rt; outcome.status, WRITE_FAULT, "{call}");
+        assert_eq!(rt; outcome.sink.written().len(), bytes, "{call}");
+    }
+    comes_to(
+        &rt,
+        &["audit"],
+        TEXT,
+        4096,
+        failing_writes(&[10]),
+        DONE,
+        REPORT,
+    );
+}
+
+#[test]
+fn reads_an_audit_to_its_own_limit(rt: HostRuntime) {
+    // 67,108,865 bytes are taken by 1,024 reads of 65,536 bytes and one of a byte.
+    let text = " ".repeat(rt.alloc(), 67_108_874).expect(&rt, "memory");
+    let text = text.as_str();
+    let last = failing_reads(&[1024]);
+    comes_to(&rt, &["audit"], text, 65_536, last, READ_FAULT, "");
+    let after = failing_reads(&[1025]);
+    let line = "refused: InputLength\n";
+    comes_to(&rt, &["audit"], text, 65_536, after, REFUSED, line);
+}
+
+#[test]
+fn takes_the_longest_input_of_an_audit(rt: HostRuntime) {
+    // Of a text that is too long by itself its own rule is told, and the input is within its limit.
+    let text = " ".repeat(rt.alloc(), 67_108_864).expect(&rt, "memory");
+    let none = failing_reads(&[]);
+    let line = "refused: Length\n";
+    comes_to(&rt, &["audit"], text.as_str(), 65_536, none, REFUSED, line);
+}
