@@ -1,2 +1,3 @@
 pub mod Allowed
 pub mod Leasts
+pub mod Taken
