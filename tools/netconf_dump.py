@@ -1,14 +1,22 @@
-"""Reads images of tables, as bytes or as `dump` prints them, and says by which writes one becomes the next."""
+"""Reads images of tables, as bytes or as `dump` prints them, and trees of pages as `radix` prints them; and says by which writes
+one image becomes the next."""
 
 import re
 from dataclasses import dataclass
 
-from netconf_text import Trouble
+from netconf_text import Trouble, shortened
 
-DUMP = re.compile(rb"^dump bytes (\d+)(\r?\n)", re.M)
+DUMP = re.compile(rb"^dump bytes (?P<count>\d+)(?P<end>\r?\n)", re.M)
+TREE = re.compile(rb"^radix (?P<node>\S+) pages (?P<count>\d+)(?P<end>\r?\n)", re.M)
 MARK = b"DNIM"
+PAGE = 4096
+"""How many bytes a page of a tree has."""
+
 MOST_WORDS = 4
 """How many words a record has at most."""
+
+NO_DIGITS = re.compile(rb"dump|radix")
+"""The words that begin the next dump or tree."""
 
 STEP = 65536
 """How many lines of a dump are read at once."""
@@ -43,29 +51,42 @@ def image_in(data, number=0):
         raise Trouble("there is no image here, and no dump")
     if number > len(headings):
         raise Trouble(f"there is no dump {number}: the last is {len(headings)}")
-    heading = headings[number - 1 if number else -1]
-    return dumped(data, heading, data.count(b"\n", 0, heading.start()) + 1)
+    return dumped(data, headings[number - 1 if number else -1], "dump", 1)
 
 
-def dumped(data, heading, line):
-    """The bytes of the dump that a heading in a line begins: 32 in each line of hexadecimal, and fewer in the last."""
-    if len(heading[1]) > MOST_DIGITS:
-        raise Trouble(f"the dump of line {line} says a number of bytes of {len(heading[1]):,} digits")
-    size, image = int(heading[1]), bytearray()
-    at, width = heading.end(), 64 + len(heading[2])
-    while len(image) < size:
-        rows = min(-(-(size - len(image)) // 32), STEP)
-        part = data[at:at + rows * width].split(b"dump")[0]
+def tree_in(data, node, number=0):
+    """The bytes of the tree of a unit of this number, counted from 1 among the trees of the unit; 0 is the last."""
+    if len(data) > MOST_BYTES:
+        raise Trouble(f"more than {MOST_BYTES:,} bytes, and no more are read")
+    headings = [heading for heading in TREE.finditer(data) if heading["node"] == node.encode("utf-8", "surrogateescape")]
+    if not headings:
+        raise Trouble(f"there is no tree of {shortened(node, 60)} here")
+    if number > len(headings):
+        raise Trouble(f"there is no tree {number} of {shortened(node, 60)}: the last is {len(headings)}")
+    return dumped(data, headings[number - 1 if number else -1], "tree", PAGE)
+
+
+def dumped(data, heading, what, unit):
+    """The bytes that the heading of a dump or a tree begins, of which it says the number in so many bytes: 32 in each line of
+    hexadecimal, and fewer in the last."""
+    line = data.count(b"\n", 0, heading.start()) + 1
+    if len(heading["count"]) > MOST_DIGITS:
+        raise Trouble(f"the {what} of line {line} says a number of {'bytes' if unit == 1 else 'pages'} of {len(heading['count']):,} digits")
+    size, found = unit * int(heading["count"]), bytearray()
+    at, width = heading.end(), 64 + len(heading["end"])
+    while len(found) < size:
+        rows = min(-(-(size - len(found)) // 32), STEP)
+        part = NO_DIGITS.split(data[at:at + rows * width])[0]
         try:
-            image += bytes.fromhex(part[:2 * (size - len(image)) + rows * len(heading[2])].decode("ascii"))
+            found += bytes.fromhex(part[:2 * (size - len(found)) + rows * len(heading["end"])].decode("ascii"))
         except ValueError as error:
-            raise Trouble(f"the dump of line {line} has a line that is no hexadecimal") from error
+            raise Trouble(f"the {what} of line {line} has a line that is no hexadecimal") from error
         at += rows * width
         if not part:
             break
-    if len(image) != size:
-        raise Trouble(f"the dump of line {line} says {size} bytes and has {len(image)}")
-    return bytes(image)
+    if len(found) != size:
+        raise Trouble(f"the {what} of line {line} says {size} bytes and has {len(found)}")
+    return bytes(found)
 
 
 def tables_of(image):

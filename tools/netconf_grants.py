@@ -1,13 +1,26 @@
-"""What the grants, routes and revokes of a description are answered, and what may be behind a refusal.
+"""What the grants, routes, revokes and trees of a description are answered, and what may be behind a refusal.
 
 The program answers them; the notes on a refusal are read off the description, and say where to look."""
 
+import re
+
 from netconf_graph import covered, reached
+from netconf_layout import WORDS
 from netconf_source import CommandRows, commands_of, nodes_of, script_of
 from netconf_text import Trouble, run
 
 CHANGES = ("grant", "route", "revoke")
 """The commands that change tables. The reply to each is one line, which begins with its id."""
+
+ASKED = (*CHANGES, "radix")
+"""The commands whose refusals are looked for. A tree of pages is asked for with a pool of none, since then its reply is one line:
+how many pages it has, or that its node is no unit."""
+
+TREE = re.compile(r"radix\s+(?P<name>\w+(?:\s*\[[^]]*\])?(?:\s*\.\s*\w+(?:\s*\[[^]]*\])?)*)", re.A)
+"""The command for a tree, up to its pool."""
+
+PAGE_WORDS = 512
+"""How many words, or entries, a page of a tree has."""
 
 SHOWN = 8
 """How many ids a note shows at most."""
@@ -20,6 +33,8 @@ FAULTS = {
     "BookFull": "4,096 grants and routes are live",
     "NoPlacement": "nothing gives the agent exactly this, and nobody anything else",
     "NoGrant": "no grant and no route with this id is live",
+    "NoUnit": "the node is none, or no unit",
+    "Pool": "the tree has so many pages, and the pool has fewer",
 }
 """What each refusal says, in a few words."""
 
@@ -48,6 +63,27 @@ def replied(text, rows):
     return [reply[len(title):] for reply, title in zip(replies, titles)]
 
 
+def question(row):
+    """The row of a command as it is asked: one for a tree with a pool of none. It is no longer than the command."""
+    source, word, title = row
+    if word != "radix":
+        return row
+    name = TREE.match(source)["name"]
+    return f"radix {name}{'' if name.endswith(']') else ' '}0;", word, word
+
+
+def fault_in(row, reply, command):
+    """The fault that a reply says, or nothing; `command` gives the command of the row, of which the pool of a tree is asked."""
+    source, word, _ = row
+    if word != "radix":
+        return reply.removeprefix("refused: ") if reply.startswith("refused: ") else None
+    fault = reply.rsplit(" refused: ", 1)[1]
+    if not fault.startswith("Pool "):
+        return fault
+    pool = source[TREE.match(source).end():-1].strip()
+    return None if (int(pool) if pool.isdecimal() else command().numbers[0]) >= int(fault.removeprefix("Pool ")) else fault
+
+
 class Net:
     """The nodes of a description by their names, and for each agent that was asked for the units to which it can come."""
 
@@ -67,18 +103,18 @@ def refused_in(data, most):
 
     Behind the first `most` commands that are refused comes how many more there are."""
     text = data.decode("latin-1")
-    commands, live, found, net = CommandRows(text, CHANGES), {}, 0, None
-    for index, reply in enumerate(replied(text, commands.rows)):
+    commands, live, found, net = CommandRows(text, ASKED), {}, 0, None
+    for index, reply in enumerate(replied(text, list(map(question, commands.rows)))):
         _, word, title = commands.rows[index]
-        if reply.startswith("refused: "):
+        fault = fault_in(commands.rows[index], reply, lambda at=index: commands.command(at))
+        if fault:
             found += 1
             if found <= most:
-                command, fault = commands.command(index), reply.removeprefix("refused: ")
-                net = net or Net(nodes_of(text))
+                command, net = commands.command(index), net or Net(nodes_of(text))
                 yield command, fault, list(notes_of(command, fault.split(" ")[0], net, live))
         elif word == "revoke":
             live.pop(title)
-        else:
+        elif word in CHANGES:
             live[title] = commands.command(index)
     if found > most:
         yield found - most
@@ -93,6 +129,10 @@ def notes_of(command, fault, net, live):
     elif fault == "NoTarget":
         other = "has interrupt vectors: use `route`" if command.word == "grant" else "has no interrupt vectors"
         yield notes_on_node(command, net.nodes, command.names[1], other)
+    elif fault == "NoUnit":
+        yield notes_on_node(command, net.nodes, command.names[0], "is no unit")
+    elif fault == "Pool":
+        yield notes_on_tree(net.nodes[command.names[0]])
     elif fault == "NotAccepted":
         yield from notes_on_accepts(command, net.nodes[command.names[1]])
     elif fault == "NoPlacement":
@@ -109,6 +149,17 @@ def notes_on_node(command, nodes, name, what):
     if name not in nodes:
         return command.line, f"there is no node {name}"
     return nodes[name].line, f"{name} {what}"
+
+
+def notes_on_tree(unit):
+    """How many pages the tree of a unit has at most."""
+    slots = unit.shape[2]
+    below = -(-slots * WORDS[unit.shape[0]] // PAGE_WORDS)
+    pages = below
+    while below > 1:
+        below = -(-below // PAGE_WORDS)
+        pages += below
+    return unit.line, f"{unit.name} has {slots} slots: where all hold records its tree has {pages} page{'s' * (pages > 1)}"
 
 
 def notes_on_accepts(command, node):

@@ -49,8 +49,8 @@ LARGE = 1 << 80
 """A value past all that is allowed: products are not followed further."""
 
 COMMANDS = {"resolve": (False, 1, 1, 0), "lookup": (False, 1, 1, 0), "view": (False, 1, 0, 0), "grant": (True, 2, 2, 0),
-            "route": (True, 1, 1, 1), "revoke": (True, 0, 0, 0), "dump": (False, 0, 0, 0), "split": (False, 0, 0, 0),
-            "absorb": (False, 1, 0, 0)}
+            "route": (True, 1, 1, 1), "revoke": (True, 0, 0, 0), "dump": (False, 0, 0, 0), "radix": (False, 1, 1, 0),
+            "split": (False, 0, 0, 0), "absorb": (False, 1, 0, 0)}
 """For each command whether an id follows it, and how many names, expressions, and names again."""
 
 

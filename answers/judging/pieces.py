@@ -42,7 +42,7 @@ unit u kind remap page 12 slots 4 reach 40 to dram, bus;
 agent core is over bus;
 begin;
 resolve core 1+2; lookup core 0; view core; grant g core dram 0x0 0x10;
-route r core 3 v; revoke g; dump; split; absorb bus;
+route r core 3 v; revoke g; dump; radix u (2-1); split; absorb bus;
 """
 
 

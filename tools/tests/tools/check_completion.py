@@ -38,6 +38,7 @@ CASES = [
     (["netconf-dump2bin", "--changes", "o"], ["old.txt"]),
     (["netconf-dump2bin", "--output", "o"], ["old.txt"]),
     (["netconf-dump2bin", "--dump", ""], []),
+    (["netconf-dump2bin", "--tree", ""], []),
     (["netconf-import", "-"], IMPORT),
     (["netconf-import", "--only", "/soc"], []),
     (["netconf-import", "--views", "b"], ["board.dtb", "board.dts", "boards"]),

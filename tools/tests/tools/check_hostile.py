@@ -90,6 +90,11 @@ def check_limit(checks, folder):
     pathlib.Path(folder, "limit.net").write_text(text)
     status, output, errors = outcome(TOOLS / "netconf-lint", "limit.net", folder=folder)
     checks.equal((status, output.count("warning: "), errors), (0, 501, ""), "hostile: lint of a text at the limit")
+    head = "agent a is over u;unit u kind pages page 0 slots 1 reach 8 to m;m is accept [0x0-0xff];begin;"
+    for source, count in (("radix u 1;", 0), ("radix u 0;", 501), ("radix u(1);", 0)):
+        pathlib.Path(folder, "trees.net").write_text(head + source * ((MOST_BYTES - len(head)) // len(source)))
+        status, output, errors = outcome(TOOLS / "netconf-lint", "trees.net", folder=folder)
+        checks.equal((status, output.count("warning: "), errors), (0, count, ""), f"hostile: lint of very many {source}")
     cause = "limit.net: with the questions for views it is longer than a text may be, 4,194,304 bytes\n"
     for words in (["netconf-draw", "--views", "limit.net"], ["netconf-query", "who", "limit.net", "m", "0"]):
         seen = outcome(TOOLS / words[0], *words[1:], folder=folder)

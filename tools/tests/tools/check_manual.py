@@ -10,12 +10,12 @@ from checks import TOOLS, TOP, outcome
 
 NAMED = {
     "netconf.1": ["run", "check", "demo", "accept", "map", "over", "agent", "vectors", "unit", "module", "use", "for", "begin", "resolve", "lookup",
-                  "view", "dump", "split", "absorb", "grant", "route", "revoke", "IdUsed", "NoAgent", "NoTarget", "NotAccepted", "BookFull",
-                  "NoPlacement", "NoGrant"],
+                  "view", "dump", "radix", "split", "absorb", "grant", "route", "revoke", "IdUsed", "NoAgent", "NoTarget", "NotAccepted", "BookFull",
+                  "NoPlacement", "NoGrant", "NoUnit", "Pool"],
     "netconf-lint.1": ["--help", "--version", "NETCONF", "Overlap", "Range", "Repeat", "VectorSpace", "Loop", "Deep", "Duplicate", "warning", "IdUsed",
-                       "NoAgent", "NoTarget", "NotAccepted", "NoPlacement"],
+                       "NoAgent", "NoTarget", "NotAccepted", "NoPlacement", "NoUnit", "Pool"],
     "netconf-layout.1": ["--json", "--c", "--prefix", "--help", "--version", "NETCONF", "//@"],
-    "netconf-dump2bin.1": ["--changes", "--dump", "--output", "--help", "--version", "fence"],
+    "netconf-dump2bin.1": ["--changes", "--dump", "--tree", "--output", "--help", "--version", "fence"],
     "netconf-import.1": ["--agent", "--explain", "--help", "--interrupts", "--mtree", "--only", "--strict", "--version", "--views"],
     "netconf-draw.1": ["--svg", "--views", "--write", "--agent", "--compare", "--help", "--version", "NETCONF"],
     "netconf-query.1": ["who", "where", "diff", "test", "--json", "--help", "--version", "NETCONF", "never", "only", "all", "alone", "same", "//!"],

@@ -1,0 +1,229 @@
+"""Trees of pages that `radix` prints: byte for byte those of second_tree.py, and a walker in C finds in them each word of the
+tables, and by these words each page that was granted, at the address of which the program's `lookup` says the same."""
+
+import re
+import subprocess
+
+from builds import HERE, PACKAGES, SANITIZERS, WARNINGS, built, can
+from checks import TOOLS, TOP, descriptions, outcome
+from netconf_dump import image_in
+from netconf_grants import changes_of, replies_to
+from netconf_layout import layout_of
+from netconf_source import declarations_of
+from netconf_text import run
+from nets import Net
+from second_reader import look, names, words_of
+from second_tree import PAGE, WORDS, depth_of, reply, tree
+
+POOL = 1 << 20
+"""A pool in which each tree has room."""
+
+MOST_PAGES = 16
+"""How many pages of a buffer are looked up at most: the first ones, and the last."""
+
+
+class State:
+    """The tables after a command: their image, and for each unit what `radix` prints; and lookups, each with its reply."""
+
+    def __init__(self, layout, lines, lookups):
+        self.image = image_in(taken(lines, 1 + -(-int(lines[0].split()[2]) // 32)).encode())
+        self.replies = []
+        for unit in layout.units:
+            pages = re.fullmatch(rf"radix {re.escape(unit.name)} pages (\d+)", lines[0])
+            self.replies.append(taken(lines, 1 + int(pages[1]) * PAGE // 32 if pages else 1))
+        self.lookups = [(number, address, is_write, lines.pop(0).split(": ", 1)[1]) for number, address in lookups for is_write in (False, True)]
+
+    def trees(self):
+        """The bytes of the trees."""
+        return [bytes.fromhex(text.split("\n", 1)[1]) for text in self.replies]
+
+
+def taken(lines, count):
+    """The first so many lines, which are taken, as one text."""
+    text = "".join(line + "\n" for line in lines[:count])
+    del lines[:count]
+    return text
+
+
+def edges():
+    """A description of units at the edges of one page and of two levels, of each kind, and a grant or a route in the last slot."""
+    lines, commands = ["m is accept [0x0-0xfffff];", "vectors v is accept [0x20-0x2f];"], []
+    for number, (kind, slots) in enumerate([("pages", 1), ("remap", 511), ("radix", 512), ("pages", 513), ("vectors", 255), ("vectors", 256), ("vectors", 257)]):
+        page = 0 if kind == "vectors" else 12
+        lines.append(f"agent a{number} is map [0x0-{(1 << page) - 1:#x} to u{number} at {slots - 1 << page:#x}];")
+        lines.append(f"unit u{number} kind {kind} page {page} slots {slots} reach 20 to {'m' if page else 'v'};")
+        commands.append(f"grant g{number} a{number} m {number + 1 << 12:#x} 0x1000;" if page else f"route g{number} a{number} 0x0 v;")
+    return "\n".join(lines + ["begin;", *commands]) + "\n"
+
+
+def pages_of(first, size):
+    """The first and the last address of each page of 4,096 addresses of a buffer; of very many the first ones and the last."""
+    starts = list(range(first, first + size, 4096))
+    starts = starts if len(starts) <= MOST_PAGES else starts[:MOST_PAGES - 1] + starts[-1:]
+    return [address for start in starts for address in {start, min(start + 4095, first + size - 1)}]
+
+
+def states_of(text, commands):
+    """The layout of a description, and the tables at first and after each command that changes them."""
+    layout, live, script, wanted = layout_of(text.encode("latin-1")), {}, [], []
+    agents = {agent.name: number for number, agent in enumerate(layout.agents)}
+    trees = ["dump;", *(f"radix {unit.name} {POOL};" for unit in layout.units)]
+    for command, answer in zip([None, *commands], [None, *replies_to(text, commands)]):
+        if answer == "revoked":
+            del live[command.id]
+        elif command and not answer.startswith("refused: "):
+            where, size = (int(answer.split()[1], 16), command.numbers[1]) if command.word == "grant" else (command.numbers[0], 1)
+            live[command.id] = [(agents[command.names[0]], address) for address in pages_of(where, size)]
+        lookups = [lookup for some in live.values() for lookup in some]
+        script += [command.source] if command else []
+        script += trees + [f"lookup {layout.agents[agent].name} {address:#x} for {access};" for agent, address in lookups for access in ("read", "write")]
+        wanted.append((command is not None, lookups))
+    lines = run("run", (declarations_of(text) + "begin;" + "".join(script)).encode("latin-1"))[1].splitlines()
+    states = []
+    for has_reply, lookups in wanted:
+        taken(lines, int(has_reply))
+        states.append(State(layout, lines, lookups))
+    return layout, states
+
+
+def words_in(layout, image):
+    """The words of each unit of an image."""
+    found, at = [], 8
+    for unit in layout.units:
+        begin, at = at + 8, at + 8 + 8 * words_of(unit) * unit.slots
+        found.append([int.from_bytes(image[place:place + 8], "little") for place in range(begin, at, 8)])
+    return found
+
+
+def walked(walker, folder, data, count, numbers):
+    """What the walker finds in a tree of so many words at each number."""
+    (folder / "tree").write_bytes(data)
+    done = subprocess.run([str(walker), str(folder / "tree"), str(count)], input=" ".join(map(str, numbers)), capture_output=True, text=True, check=False)
+    return done.stdout.split("\n")[:-1] if done.returncode == 0 else [f"status {done.returncode}", done.stderr]
+
+
+def check_states(checks, walkers, folder, text, commands, what):
+    """The trees of a description, at first and after each command; returns how many lookups were compared."""
+    layout, states = states_of(text, commands)
+    seen = 0
+    for state in states:
+        tables = words_in(layout, state.image)
+        for unit, words, shown in zip(layout.units, tables, state.replies):
+            checks.equal(shown, reply(unit.name, words, POOL), f"tree: {what}: what radix prints of {unit.name}")
+        for walker in walkers:
+            data, at = bytearray(state.image), 8
+            for unit, words, pages in zip(layout.units, tables, state.trees()):
+                found = walked(walker, folder, pages, len(words), range(len(words)))
+                checks.equal(found, [f"{word:#x}" if word else "0" for word in words], f"tree: {what}: the words that {walker.name} finds of {unit.name}")
+                data[at + 8:at + 8 + 8 * len(words)] = b"".join(int(word, 16).to_bytes(8, "little") for word in found if word[:1] in "0123456789")
+                at += 8 + 8 * len(words)
+            wrong = [(agent, f"{address:#x}", due) for agent, address, is_write, due in state.lookups
+                     if names(layout, agent, address, look(layout, bytes(data), agent, address, is_write)) != due]
+            checks.that(not wrong, f"tree: {what}: the granted pages as {walker.name} finds them", wrong[:10])
+        seen += len(state.lookups)
+    return seen
+
+
+def check_bad(checks, walkers, folder):
+    """A walker over bytes that are no tree: entries that lead to no page, and bytes that end before the page to which one leads."""
+    words = [0] * 1024
+    words[0], words[1023] = 0x5, 0x7
+    whole = tree(words)
+    cases = (("an entry to no page", whole[:8] + (0x1002).to_bytes(8, "little") + whole[16:], "bad 8"),
+             ("an entry without its bit 0", whole[:8] + (0x2000).to_bytes(8, "little") + whole[16:], "bad 8"),
+             ("an entry past the end", whole[:8] + (0x3001).to_bytes(8, "little") + whole[16:], "bad 8"),
+             ("a page that is cut", whole[:-1], "bad 8"), ("a tree", whole, "0x7"), ("an empty entry", whole[:8] + bytes(8) + whole[16:], "0"))
+    for walker in walkers:
+        for what, data, due in cases:
+            checks.equal(walked(walker, folder, data, 1024, [1023]), [due], f"tree: {walker.name} over {what}")
+        for count in (1, 2, 512, 513, 262144, 262145):
+            data = tree([0] * (count - 1) + [0x9])
+            checks.equal(walked(walker, folder, data, count, [count - 1]), ["0x9"], f"tree: {walker.name} over a tree of {count} words")
+
+
+def check_model(checks):
+    """The second maker of trees, by worked rows: levels, pages, entries and a pool that is too small."""
+    words = [0] * 1024
+    words[0], words[1023] = 0x5, 0x7
+    data = tree(words)
+    found = {at // 8: int.from_bytes(data[at:at + 8], "little") for at in range(0, len(data), 8) if any(data[at:at + 8])}
+    checks.equal((len(data), found), (3 * PAGE, {0: 0x1001, 1: 0x2001, 512: 0x5, 1535: 0x7}), "tree: the pages of 1,024 words")
+    checks.equal(reply("u", words, 2), "radix u refused: Pool 3\n", "tree: a pool that is one page short")
+    full = [(count, len(tree([1] * count)) // PAGE) for count in (1, 512, 513, 262144, 262145)]
+    checks.equal(full, [(1, 1), (512, 1), (513, 3), (262144, 513), (262145, 516)], "tree: the pages of full trees")
+    checks.equal([depth_of(count) for count in (1, WORDS, WORDS + 1, WORDS ** 2, WORDS ** 2 + 1)], [1, 1, 2, 2, 3], "tree: its levels")
+
+
+def check_page(checks):
+    """What docs/image.md shows of a tree is what the program prints of its example, without the lines that are 0."""
+    page = (TOP / "docs/image.md").read_text()
+    statements, path, shown = re.search(r"^```\n([^`]*)^```\n\nis `examples/[^`]*`[^`]*^```\n\$ netconf run < (examples/\S+) \| grep -v '\^0\*\$'\n(.*?)^```",
+                                        page, re.S | re.M).groups()
+    text = (TOP / path).read_text()
+    plain = [line.split("//")[0].strip() for line in text.splitlines()]
+    checks.equal(statements.splitlines(), [line for line in plain if line], "docs/image.md: the description of a tree is that of its example")
+    lines = [line for line in run("run", text.encode())[1].splitlines() if line.strip("0")]
+    checks.equal("".join(line + "\n" for line in lines), shown, "docs/image.md: what it shows of a tree")
+
+
+def check_bytes(checks, folder):
+    """netconf-dump2bin makes the bytes of each tree of an output, and says which tree is not there or is broken."""
+    output = run("run", (TOP / "examples/radix_tree.net").read_bytes())[1]
+    words = [0] * 1024
+    first = tree(words)
+    words[0], words[1], words[512] = 0x80009001, 0x8000a001, 0x80040021
+    path = folder / "answers"
+    path.write_text(output)
+    for options, due in ((["--tree", "iommu"], tree(words)), (["--tree", "iommu", "--dump", "1"], first), (["--tree", "iommu", "--dump", "2"], tree(words))):
+        checks.equal(outcome(TOOLS / "netconf-dump2bin", *options, "--output", folder / "pages", path), (0, "", ""), f"tree: dump2bin {options}")
+        checks.that((folder / "pages").read_bytes() == due, f"tree: the bytes of dump2bin {options}")
+    path.write_bytes(output.replace("\n", "\r\n").encode())
+    outcome(TOOLS / "netconf-dump2bin", "--tree", "iommu", "--output", folder / "pages", path)
+    checks.that((folder / "pages").read_bytes() == tree(words), "tree: dump2bin of lines that end as on Windows")
+    troubles = {"there is no tree of card here": (["--tree", "card"], output), "there is no tree 3 of iommu: the last is 2": (["--tree", "iommu", "--dump", "3"], output),
+                "the tree of line 1 says 4096 bytes and has 4064": (["--tree", "iommu", "--dump", "1"], "".join(output.splitlines(True)[:128])),
+                "the tree of line 1 has a line that is no hexadecimal": (["--tree", "iommu", "--dump", "1"], output.replace("0" * 64, "x" * 64, 1)),
+                "the tree of line 1 says a number of pages of 5,000 digits": (["--tree", "u"], f"radix u pages {'9' * 5000}\n00\n")}
+    for message, (options, text) in troubles.items():
+        path.write_text(text)
+        checks.equal(outcome(TOOLS / "netconf-dump2bin", *options, path), (1, "", f"netconf-dump2bin: {path}: {message}\n"), f"tree: dump2bin: {message}")
+    checks.equal(outcome(TOOLS / "netconf-dump2bin", "--changes", "--tree", "iommu", path)[0], 2, "tree: dump2bin with --changes and --tree")
+
+
+def walkers_in(checks, folder):
+    """The walker as each compiler builds it here."""
+    found = []
+    for compiler in ("gcc", "clang"):
+        if not can(compiler, SANITIZERS, folder):
+            checks.skipped += 1
+            checks.lines.append(f"skipped: this machine has no {compiler} with sanitizers; tools/install-needs installs {PACKAGES[compiler]}")
+            continue
+        binary = folder / f"walker-{compiler}"
+        errors = built([compiler, "-std=c99", *WARNINGS, *SANITIZERS, HERE / "walker.c", "-o", binary])
+        checks.equal(errors, "", f"tree: {compiler} compiles the walker without a warning")
+        found += [] if errors else [binary]
+    return found
+
+
+def run_checks(checks, folder, count):
+    """All of this part."""
+    check_model(checks)
+    check_page(checks)
+    check_bytes(checks, folder)
+    walkers, seen = walkers_in(checks, folder), 0
+    check_bad(checks, walkers, folder)
+    for path in descriptions():
+        text = path.read_text("latin-1")
+        if "\nunit " in run("check", text.encode("latin-1"))[1]:
+            seen += check_states(checks, walkers, folder, text, changes_of(text), path.name)
+    checks.that(seen >= 20, "tree: pages of the examples are looked up", seen)
+    text = edges()
+    seen = check_states(checks, walkers, folder, text, changes_of(text), "units at the edges of levels")
+    checks.equal(seen, 4 * sum(range(1, 5)) + 4 * 4 * 3 + 2 * sum(range(1, 4)), "tree: pages of units at the edges of levels are looked up")
+    for number in range(count // 4):
+        net = Net(number)
+        text = net.text() + "begin;\n" + "\n".join(net.changes([], 6)) + "\n"
+        if run("check", text.encode())[0]:
+            # Few made nets break a rule.
+            continue
+        check_states(checks, walkers[:1], folder, text, changes_of(text), f"net {number}")
