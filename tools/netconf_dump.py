@@ -133,6 +133,15 @@ def empty_like(tables):
     return [Table(table.node, table.words, table.slots, memoryview(bytes(len(table.bytes)))) for table in tables]
 
 
+def empty_image(image):
+    """An image of the same shape whose words are all 0."""
+    data, at = bytearray(image), 8
+    for table in tables_of(image)[1]:
+        data[at + 8:at + 8 + len(table.bytes)] = bytes(len(table.bytes))
+        at += 8 + len(table.bytes)
+    return bytes(data)
+
+
 def changes(before, after):
     """The writes and fences, one a line, by which a machine that has one image gets the next: first each slot that differs and
     is not empty is cleared, its gate word first; then comes a fence, where any was; then what is new is written, the gate word

@@ -20,7 +20,7 @@ ROW = re.compile(r"(?P<lo>0x[0-9a-f]+)-(?P<hi>0x[0-9a-f]+) (?P<names>.+)")
 MOST_BYTES = 1 << 22
 """How many bytes a description may have."""
 
-MOST_PRINTED = {"check": 1 << 26, "run": 1 << 29}
+MOST_PRINTED = {"check": 1 << 26, "run": 1 << 29, "audit": 1 << 29}
 """How many bytes of what the program prints are read, by its word: a small text can be one with a net of gigabytes."""
 
 

@@ -28,7 +28,7 @@ class Case:
     """A description with the images of its dumps, what the program says of lookups at each, and what the harness is asked."""
 
     def __init__(self, title, text, commands, lookups, seed):
-        self.title = title
+        self.title, self.text = title, text
         script = []
         for command in [*commands, "dump;"]:
             script.append(command)

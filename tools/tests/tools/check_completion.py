@@ -17,7 +17,8 @@ printf '%s\n' "${COMPREPLY[@]}" | sort
 """
 IMPORT = ["--agent", "--explain", "--help", "--interrupts", "--mtree", "--only", "--strict", "--version", "--views"]
 CASES = [
-    (["netconf", ""], ["check", "demo", "run"]),
+    (["netconf", ""], ["audit", "check", "demo", "run"]),
+    (["netconf", "a"], ["audit"]),
     (["netconf", "r"], ["run"]),
     (["netconf", "x"], []),
     (["netconf", "run", ""], []),
@@ -25,12 +26,14 @@ CASES = [
     (["netconf", "run", "<", ""], ["boards", "four.net"]),
     (["netconf", "run", "<", "fo"], ["four.net"]),
     (["netconf", "run", "<", "four.net", ">", "o"], ["old.txt"]),
-    (["netconf-draw", "-"], ["--agent", "--compare", "--help", "--maps", "--svg", "--version", "--views", "--write"]),
+    (["netconf-draw", "-"], ["--agent", "--audit", "--compare", "--help", "--maps", "--svg", "--version", "--views", "--write"]),
     (["netconf-draw", "--vi"], ["--views"]),
     (["netconf-draw", "--agent", ""], []),
     (["netconf-draw", "--svg", ""], ["boards", "four.net"]),
     (["netconf-draw", "--svg", "four.net", ">", ""], ["board.claims", "board.dtb", "board.dts", "boards", "four.net", "old.txt"]),
-    (["netconf-lint", "--"], ["--help", "--version"]),
+    (["netconf-lint", "--"], ["--audit", "--help", "--version"]),
+    (["netconf-lint", "--audit", "four.net", "b"], ["board.claims", "board.dtb", "board.dts", "boards"]),
+    (["netconf-draw", "--audit", "four.net", "o"], ["old.txt"]),
     (["netconf-lint", "four.net", ""], ["boards", "four.net"]),
     (["netconf-layout", "-"], ["--c", "--help", "--json", "--prefix", "--version"]),
     (["netconf-layout", "--c", "--prefix", ""], []),

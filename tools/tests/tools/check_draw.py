@@ -155,6 +155,40 @@ def check_comparison(checks):
                  (1, "", "netconf-draw: -: gpu is no agent; the agents are: cpu, dma\n"), "draw: a comparison with no agent")
 
 
+def check_sharing(checks, folder):
+    """Who shares what: a row for each span that is shared, cut where rights change, its cells, and frames round what is shared by records."""
+    example = [EXAMPLES / f"foreign_tables.{end}" for end in ("net", "tables")]
+    status, picture, errors = outcome(DRAW, "--audit", *example)
+    texts, _ = texts_of(picture)
+    titles = [element.text for element in tree.fromstring(picture).iter(f"{SVG}title")]
+    frames = [box for box in tree.fromstring(picture).iter(f"{SVG}rect") if box.get("stroke") == "#c00000"]
+    checks.equal((status, errors, len(frames)), (0, "", 2), "draw: who shares what")
+    checks.equal([text for text in texts if text.startswith(("0x", "read", "write"))],
+                 ["0x4000-0x4fff", "read, write", "read, write", "0x9000-0x9fff", "read, write", "read, write", "write", "0x100000-0x100fff", "read, write",
+                  "read", "0x0-0xfff", "read, write", "read, write"], "draw: the rows and cells of what is shared")
+    checks.that({"core0", "disk", "card", "dram", "flash", "Shut out: card_mmu slot 2", "The image has 120 bytes and 5 records."} <= set(texts), "draw: names of what is shared", texts)
+    checks.that("dram 0x9000-0x9fff (4 KiB): core0 at 0x80009000-0x80009fff for read and write; disk at 0x1000-0x1fff for read and write; card at 0x1000-0x1fff for write"
+                in titles, "draw: a row of what is shared says where each agent has it", titles)
+    empty = pathlib.Path(folder, "empty_image")
+    empty.write_bytes(b"DNIM\2\0\0\0")
+    status, picture, errors = outcome(DRAW, "--audit", "-", empty, text="m is accept [0x0-0xff]; agent a is over m;")
+    checks.equal((status, errors, "No two agents see the same address of a node." in picture), (0, "", True), "draw: nothing is shared")
+    text = "m is accept [0x0-0xffff]; agent a is over m; agent b is map [" + ", ".join(f"{at:#x}-{at + 7:#x} to m at {at:#x}" for at in range(0, 16 * 700, 16)) + "];"
+    status, picture, errors = outcome(DRAW, "--audit", "-", empty, text=text)
+    checks.that(status == 0 and errors.startswith("netconf-draw: -: 700 spans are shared, too many to look at, and the picture has the first 700 rows; "), "draw: a note on much that is shared", errors)
+    name = "n" * 100000
+    status, picture, errors = outcome(DRAW, "--audit", "-", empty, text=f"{name} is accept [0x0-0xff]; agent a{name} is over {name}; agent b is over {name};")
+    checks.that((status, errors) == (0, "") and len(picture) < 40000, "draw: a name of 100,000 letters in what is shared", (status, errors, len(picture)))
+    cut = pathlib.Path(folder, "cut_image")
+    cut.write_bytes(b"DNIM\2\0\2\0")
+    troubles = [(["--audit", example[0], cut], 1, f"{cut}: refused: image Short 8 (netconf-lint --audit shows the place)"),
+                (["--audit", EXAMPLES / "overlapping_windows.net", cut], 1, f"{EXAMPLES / 'overlapping_windows.net'}: refused: Overlap bus@0x1800 (netconf-lint --audit shows the place)"),
+                (["--audit", example[0], "none"], 1, "none: No such file or directory")]
+    for words, wanted, error in troubles:
+        checks.equal(outcome(DRAW, *words), (wanted, "", f"netconf-draw: {error}\n"), f"draw: {error}")
+    checks.equal([outcome(DRAW, *words)[0] for words in (["--audit", example[0]], [example[0], cut])], [2, 2], "draw: --audit without an image, and an image without it")
+
+
 def check_links(checks):
     """The box of an agent leads to its map, also from a table of agents."""
     text = "".join(f"agent c[{number}] is over m;\n" for number in range(8)) + "m is accept [0x0-0xff]; agent d.x is map [0x0 to m at 0x1];\n"
@@ -252,5 +286,6 @@ def run(checks):
     check_stable(checks)
     with tempfile.TemporaryDirectory() as folder:
         check_board(checks, folder)
+        check_sharing(checks, folder)
         check_links(checks)
         check_troubles(checks, folder)

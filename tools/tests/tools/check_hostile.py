@@ -22,7 +22,9 @@ from netconf_text import MOST_BYTES, pieces_of
 from netconf_views import Board
 
 BOARD = EXAMPLES / "dma_buffers.net"
-ANSWERS = (("netconf-lint", BOARD), ("netconf-query", "who", BOARD, "dram", "0x0"), ("netconf-draw", BOARD), ("netconf-layout", BOARD),
+TABLES = EXAMPLES / "foreign_tables.tables"
+ANSWERS = (("netconf-lint", BOARD), ("netconf-lint", "--audit", TABLES.with_suffix(".net"), TABLES),
+           ("netconf-draw", "--audit", TABLES.with_suffix(".net"), TABLES), ("netconf-query", "who", BOARD, "dram", "0x0"), ("netconf-draw", BOARD), ("netconf-layout", BOARD),
            ("netconf-dump2bin", "image"), ("netconf-dump2bin", "--changes", "image"))
 """A command of each tool that prints something. `image` stands for an image of tables."""
 

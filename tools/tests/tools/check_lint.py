@@ -1,12 +1,12 @@
 """netconf-lint over a table with each refusal, over the table of the language's page, over a table of grants that are
-refused, and over what it cannot read."""
+refused, over images of tables, and over what it cannot read."""
 
 import os
 import pathlib
 import re
 import tempfile
 
-from checks import TOOLS, TOP, outcome
+from checks import EXAMPLES, TOOLS, TOP, outcome
 
 LINT = TOOLS / "netconf-lint"
 ROW = re.compile(r"\| (?P<text>.+?) \| `refused: (?:line (?P<line>\d+) )?(?P<rule>[A-Z]\w+).*?` \|")
@@ -95,6 +95,99 @@ def check_statuses(checks, folder):
     checks.equal(outcome(LINT)[0], 2, "lint: no file")
 
 
+BOARD = """dram is accept [0x0-0xffffff];
+vectors cpu is accept [0x20-0x3f];
+agent core is over dram;
+agent disk is map [0x0-0x7fff to mmu at 0x0, 0x10000 to irt at 0x0];
+agent card is map [0x0-0x7fff to mmu at 0x0];
+unit mmu kind radix page 12 slots 8
+    reach 24 to dram, cpu;
+unit irt kind vectors page 0 slots 2 reach 8 to cpu;
+"""
+"""A board on which two engines come to the same slots."""
+
+WORDS = (0x1001, 0x2011, 0x3031, 0x4041, 0x5005, 0x1000001, 0x6002, 0x7021, 0x120, 0x1, 0x20, 0x21)
+"""The words of its units: what is shut out are slots 2 to 5 of the first, and slot 0 of the second."""
+
+SHUT = """board.net:6: warning: mmu slot 2: shut out: 0x3031: it allows neither reading nor writing
+board.net:6: warning: mmu slot 3: shut out: 0x4041: bit 6 of its gate word must be 0
+board.net:6: warning: mmu slot 4: shut out: 0x5005: there is no port 2
+board.net:6: warning: mmu slot 5: shut out: 0x1000001: its output 0x1000000 is not below 2^24
+board.net:8: warning: irt slot 0: shut out: 0x120 0x1: its output 0x120 is not below 2^8
+"""
+
+SHARED = """board.net:1: warning: dram 0x1000-0x2fff: shared by records: disk, card
+board.net:4: note: disk sees it at 0x0-0xfff for read
+board.net:4: note: disk sees it at 0x0-0x1fff for write
+board.net:5: note: card sees it at 0x0-0xfff for read
+board.net:5: note: card sees it at 0x0-0x1fff for write
+board.net:1: warning: dram 0x7000-0x7fff: shared by records: disk, card
+board.net:4: note: disk sees it at 0x7000-0x7fff for read
+board.net:5: note: card sees it at 0x7000-0x7fff for read
+"""
+
+
+SHARED_BY_VERSION_1 = """board.net:1: warning: dram 0x1000-0x1fff: shared by records: disk, card
+board.net:4: note: disk sees it at 0x0-0xfff for read and write
+board.net:5: note: card sees it at 0x0-0xfff for read and write
+"""
+
+
+def image_of_board(version=2):
+    """The image of the board with these words."""
+    words = b"".join(word.to_bytes(8, "little") for word in WORDS)
+    heads = [node.to_bytes(2, "little") + bytes([count, 0]) + slots.to_bytes(4, "little") for node, count, slots in ((5, 1, 8), (6, 2, 2))]
+    return b"DNIM" + bytes([version, 0, 2, 0]) + heads[0] + words[:64] + heads[1] + words[64:]
+
+
+def lint_image(folder, image, text=BOARD):
+    """Status, output and errors over a description and an image."""
+    pathlib.Path(folder, "board.net").write_bytes(text.encode("latin-1"))
+    pathlib.Path(folder, "tables").write_bytes(image)
+    return outcome(LINT, "--audit", "board.net", "tables", folder=folder)
+
+
+def check_images(checks, folder):
+    """Images that are taken: why a record is shut out, and what is shared by records; a core that sees all is not named."""
+    checks.equal(lint_image(folder, image_of_board()), (0, SHUT + SHARED, ""), "lint: an image")
+    shut = SHUT.splitlines(keepends=True)
+    ones = [f"board.net:6: warning: mmu slot {slot}: shut out: {WORDS[slot]:#x}: an image of version 1 has no records for one access alone\n" for slot in (1, 7)]
+    last = "board.net:8: warning: irt slot 1: shut out: 0x20 0x21: an image of version 1 has no records for one access alone\n"
+    wanted = "".join([ones[0], *shut[:4], ones[1], shut[4], last, SHARED_BY_VERSION_1])
+    checks.equal(lint_image(folder, image_of_board(1)), (0, wanted, ""), "lint: an image of version 1")
+    checks.equal(lint_image(folder, b"DNIM\2\0\0\0", "m is accept [0x0]; agent a is over m; agent b is over m;"), (0, "", ""), "lint: agents that share by the net alone")
+    answers = outcome(os.environ["NETCONF"], "run", text=(EXAMPLES / "dma_buffers.net").read_text())[1]
+    checks.equal(lint_image(folder, answers.encode(), (EXAMPLES / "dma_buffers.net").read_text()), (0, "", ""), "lint: an output of netconf run, of which the dump is taken")
+
+
+def check_refused_images(checks, folder):
+    """Images that are refused, with what the description says of them; and what cannot be audited."""
+    image, size = image_of_board(), "board.net:1: note: an image of this net has 2 units and 120 bytes\n"
+    cases = {
+        "cut": (image[:-1], "tables:1: refused: image Short 119: the image ends at this byte, inside a field\n" + size),
+        "empty": (b"", "tables:1: refused: image Short 0: the image ends at this byte, inside a field\n" + size),
+        "of version 3": (image[:4] + b"\3" + image[5:], "tables:1: refused: image Header 4: another field stands at this byte: 0 is the mark DNIM, 4 the "
+                                                        "version, 6 the number of units\n" + size),
+        "with another unit": (image[:82] + b"\1" + image[83:], "tables:1: refused: image Shape 1: the head of this unit, counted from 0, is not that of the "
+                              "description's unit\nboard.net:8: note: irt is node 6, words of a record 2, slots 2\n"
+                              "tables:1: note: the head at byte 80 says node 6, words of a record 1, slots 2\n"),
+        "with bytes after it": (image + b"\0", "tables:1: refused: image Trailing 120: from this byte on more follows than an image of this net has\n" + size),
+        "too long": (image.ljust(1 << 26, b"\0"), "tables:1: refused: InputLength: description and image have more than 67,108,863 bytes together\n"),
+    }
+    for what, (data, wanted) in cases.items():
+        checks.equal(lint_image(folder, data), (1, wanted, ""), f"lint: an image {what}")
+    checks.equal(lint_image(folder, image, "a is;\na is;\n"),
+                 (1, "board.net:2: refused: Duplicate: this name is there already\nboard.net:1: note: a is declared here first\n", ""), "lint: a description that is refused, with an image")
+    checks.equal(lint_image(folder, image, BOARD + "// \0"), (2, "", "netconf-lint: board.net: there is a byte 0x00 in it, which ends the description of an audit\n"),
+                 "lint: a byte 0x00 in a comment")
+    checks.equal(outcome(LINT, "--audit", "board.net", "none", folder=folder), (2, "", "netconf-lint: board.net: there is a byte 0x00 in it, which ends the description of an audit\n"),
+                 "lint: and no image")
+    pathlib.Path(folder, "board.net").write_text(BOARD)
+    checks.equal(outcome(LINT, "--audit", "board.net", "none", folder=folder), (2, "", "netconf-lint: none: No such file or directory\n"), "lint: an image that is missing")
+    checks.equal(lint_image(folder, b"dump bytes 9\nzz\n"), (2, "", "netconf-lint: tables: the dump of line 1 has a line that is no hexadecimal\n"), "lint: a dump that is none")
+    checks.equal([outcome(LINT, *words, folder=folder)[0] for words in (["--audit", "board.net"], ["--audit", "board.net", "tables", "tables"])], [2, 2], "lint: --audit with other files")
+
+
 def run(checks):
     """All of this part."""
     with tempfile.TemporaryDirectory() as folder:
@@ -102,4 +195,6 @@ def run(checks):
         check_warnings(checks, folder)
         check_page(checks, folder, met)
         check_deep(checks, folder)
+        check_images(checks, folder)
+        check_refused_images(checks, folder)
         check_statuses(checks, folder)

@@ -3,21 +3,22 @@
 import os
 import pathlib
 import re
+import subprocess
 import tempfile
 
 import check_docs
 from checks import TOOLS, TOP, outcome
 
 NAMED = {
-    "netconf.1": ["run", "check", "demo", "accept", "map", "over", "agent", "vectors", "unit", "module", "use", "for", "begin", "resolve", "lookup",
+    "netconf.1": ["run", "check", "demo", "audit", "NoImage", "accept", "map", "over", "agent", "vectors", "unit", "module", "use", "for", "begin", "resolve", "lookup",
                   "view", "dump", "radix", "split", "absorb", "grant", "route", "revoke", "IdUsed", "NoAgent", "NoTarget", "NotAccepted", "BookFull",
                   "NoPlacement", "NoGrant", "NoUnit", "Pool"],
-    "netconf-lint.1": ["--help", "--version", "NETCONF", "Overlap", "Range", "Repeat", "VectorSpace", "Loop", "Deep", "Duplicate", "warning", "IdUsed",
+    "netconf-lint.1": ["--audit", "--help", "--version", "NETCONF", "Overlap", "Range", "Repeat", "VectorSpace", "Loop", "Deep", "Duplicate", "warning", "IdUsed",
                        "NoAgent", "NoTarget", "NotAccepted", "NoPlacement", "NoUnit", "Pool"],
     "netconf-layout.1": ["--json", "--c", "--prefix", "--help", "--version", "NETCONF", "//@"],
     "netconf-dump2bin.1": ["--changes", "--dump", "--tree", "--output", "--help", "--version", "fence"],
     "netconf-import.1": ["--agent", "--explain", "--help", "--interrupts", "--mtree", "--only", "--strict", "--version", "--views"],
-    "netconf-draw.1": ["--svg", "--views", "--write", "--agent", "--compare", "--help", "--version", "NETCONF"],
+    "netconf-draw.1": ["--svg", "--views", "--write", "--agent", "--audit", "--compare", "--help", "--version", "NETCONF"],
     "netconf-query.1": ["who", "where", "diff", "test", "--json", "--help", "--version", "NETCONF", "never", "only", "all", "alone", "same", "//!"],
 }
 
@@ -41,6 +42,10 @@ def check_examples(checks):
         checks.equal(outcome(os.environ["NETCONF"], word, text=description), (0, output, ""), f"manual: what netconf {word} prints")
     counted = blocks[3].split("$ netconf demo 4\n")[1]
     checks.equal(outcome(os.environ["NETCONF"], "demo", "4", text=""), (0, counted, ""), "manual: what netconf demo 4 prints")
+    dump = outcome(os.environ["NETCONF"], "run", text=buffer + "dump;")[1].split("dump bytes ")[1]
+    audited = blocks[4].split("| netconf audit\n")[1]
+    done = subprocess.run([os.environ["NETCONF"], "audit"], input=buffer.encode() + b"\0" + bytes.fromhex(dump.split("\n", 1)[1]), capture_output=True, check=False)
+    checks.equal((done.returncode, done.stdout.decode(), done.stderr), (0, audited, b""), "manual: what netconf audit prints")
 
 
 def check_documents(checks):
