@@ -13,11 +13,11 @@ import netconf_views
 from checks import EXAMPLES, TOOLS, outcome
 from netconf_claims import Claim, judged
 from netconf_ending import plain
-from netconf_grants import changes_of
+from netconf_grants import ASKED, changes_of, question
 from netconf_import.naming import Names
 from netconf_layout_text import as_json, table
 from netconf_rows import Rows
-from netconf_source import script_of
+from netconf_source import CommandRows, script_of
 from netconf_text import MOST_BYTES, pieces_of
 from netconf_views import Board
 
@@ -92,15 +92,22 @@ def check_limit(checks, folder):
     pathlib.Path(folder, "limit.net").write_text(text)
     status, output, errors = outcome(TOOLS / "netconf-lint", "limit.net", folder=folder)
     checks.equal((status, output.count("warning: "), errors), (0, 501, ""), "hostile: lint of a text at the limit")
-    head = "agent a is over u;unit u kind pages page 0 slots 1 reach 8 to m;m is accept [0x0-0xff];begin;"
-    for source, count in (("radix u 1;", 0), ("radix u 0;", 501), ("radix u(1);", 0)):
-        pathlib.Path(folder, "trees.net").write_text(head + source * ((MOST_BYTES - len(head)) // len(source)))
-        status, output, errors = outcome(TOOLS / "netconf-lint", "trees.net", folder=folder)
-        checks.equal((status, output.count("warning: "), errors), (0, count, ""), f"hostile: lint of very many {source}")
     cause = "limit.net: with the questions for views it is longer than a text may be, 4,194,304 bytes\n"
     for words in (["netconf-draw", "--views", "limit.net"], ["netconf-query", "who", "limit.net", "m", "0"]):
         seen = outcome(TOOLS / words[0], *words[1:], folder=folder)
         checks.equal(seen, (STATUS[words[0]], "", f"{words[0]}: {cause}"), f"hostile: {words[0]} of a text at the limit")
+
+
+def check_trees(checks, folder):
+    """Many commands for trees: each is asked by a command that is no longer, and the pool of each is looked at."""
+    head = "agent a is over u[0];unit u[0] kind pages page 0 slots 1 reach 8 to m;m is accept [0x0-0xff];begin;"
+    for source, count in (("radix u[0]1;", 0), ("radix u[0] 0;", 501), ("radix u[(1-1)](0+1);", 0), ("radix m(1);", 501), ("radix m 1;", 501)):
+        text = head + source * 5000
+        rows = CommandRows(text, ASKED).rows
+        checks.equal((len(rows), len(script_of(text, [question(row)[0] for row in rows])) <= len(text)), (5000, True), f"hostile: {source} is asked by no longer a command")
+        pathlib.Path(folder, "trees.net").write_text(text)
+        status, output, errors = outcome(TOOLS / "netconf-lint", "trees.net", folder=folder)
+        checks.equal((status, output.count("warning: "), errors), (0, count, ""), f"hostile: lint of many {source}")
 
 
 def check_many_agents(checks, folder):
@@ -236,3 +243,4 @@ def run(checks):
         check_endless_net(checks, folder)
         check_many_agents(checks, folder)
         check_limit(checks, folder)
+        check_trees(checks, folder)
