@@ -1,5 +1,5 @@
 -- What calls on a book leave: while the book is sound, its tables keep its grants.
-use Rattle.std.proofs.Common.{◌≡◌, ◌≢◌, ◌∙◌, ℕ, Bool, true, false, not, sym, ap, subst, refl, List, Some, Result, Ok, Err, OnOk, OnErr, is_err}
+use Rattle.std.proofs.Common.{◌≡◌, ◌≢◌, ◌∙◌, ℕ, Bool, true, false, not, sym, ap, subst, refl, List, Some, Result, Ok, Err, OnOk, is_err}
 use Rattle.dn_base.specs.Device.{sizes_of}
 use Rattle.dn_net.specs.declared.node.NodeDecl.{NodeDecl}
 use Rattle.dn_kind.specs.Kind.{Meaning}
@@ -51,8 +51,3 @@ revoked_keeps net ks b b' D (Err no_grant) k ok same unfailed = as_before net ks
 -- what a call leaves of a desk
 pub desk_after : {K : Type 0} {V : K → Type 0} {means : (k : K) × V k → Meaning} {d : Desk K V} → IsSystem means d.system → Keeps d.system.on.net.now (kinds_of means d.system.on.kinds.now) d.book → FitsNet d.system.on.net.now (kinds_of means d.system.on.kinds.now) d.book.set → IsOnDevice d.book.set (sizes_of d.device.tables) (Some d.device.tables) → IsDesk means d
 desk_after system kept fits on_device = record { system = system; kept = kept; fits = fits; on_device = on_device }
-
--- room that is reserved in its book leaves a desk as it is
-pub room_keeps : {K : Type 0} {V : K → Type 0} {means : (k : K) × V k → Meaning} {d : Desk K V} {E : Type 0} (r : Result (Unit {0}) E) (b : BookState) (n : ℕ) → OnOk r (b ≡ record d.book { spare = n }) → OnErr r (b ≡ d.book) → IsDesk means d → IsDesk means (record d { book = b })
-room_keeps {means} {d} (Ok x) b n made same k = subst (λ (w : BookState). IsDesk means (record d { book = w })) (sym made) (record { system = k.system; kept = k.kept; fits = k.fits; on_device = k.on_device })
-room_keeps {means} {d} (Err x) b n made same k = subst (λ (w : BookState). IsDesk means (record d { book = w })) (sym same) k

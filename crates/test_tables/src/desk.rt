@@ -100,19 +100,6 @@ impl<'a> Desk<'a> {
         Some(self.book.revoke(on, id, &mut self.device))
     }
 
-    /// Makes room for so many more grants, and answers whether there was memory. `None`, and nothing is
-    /// done, where the book may not have as many.
-    pub fn reserve(&mut self, more: u32) -> Option<bool>
-        requires { IsDesk meaning self.old }
-        ensures { IsDesk meaning self.new }
-    {
-        let live = self.book.grants().len();
-        if live > 4096 || more as usize > 4096 - live {
-            return None;
-        }
-        Some(self.book.reserve(more).is_ok())
-    }
-
     /// Whether a placement of a request is admissible for its first so many addresses alone, with
     /// these rights. `None` where the request has not so many, or the rights are none.
     pub fn is_exact(

@@ -1,5 +1,4 @@
-//! The plans of the nets of these tests. Those of all but the last are small: their agents have no address past
-//! 15, and their units no output past 7.
+//! The plans of the nets of these tests. The agents have no address past 15, and the units no output past 7.
 
 use dn_net::node::Role;
 use std::alloc::Global;
@@ -70,21 +69,4 @@ pub fn vector_plan(rt: &impl Abort, alloc: Global) -> Plan {
         agent("nic", 2, to(4, 0));
         agent("disk", 1, to(2, 0))
     )
-}
-
-/// A memory of one page, node 0, and 64 units of 64 pages, each with the agent whose pages go through it: node 1 is a
-/// unit, node 2 its agent, and so on.
-pub fn wide_plan(rt: &impl Abort, alloc: Global) -> Plan {
-    let mut plan = Plan::new(alloc);
-    plan.accepting("ram", Role::Plain, 0, 0xfff)
-        .expect(rt, "a plan");
-    for pair in 0..64u16 {
-        let unit = format!(in alloc; "u{pair}").expect(rt, "memory");
-        let agent = format!(in alloc; "a{pair}").expect(rt, "memory");
-        plan.unit(unit.as_str(), PAGES, 12, 64, 32, &[0])
-            .expect(rt, "a plan");
-        plan.agent(agent.as_str(), 0x3_ffff, to(1 + 2 * pair, 0))
-            .expect(rt, "a plan");
-    }
-    plan
 }
