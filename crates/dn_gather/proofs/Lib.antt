@@ -1,0 +1,6 @@
+pub mod Apart
+pub mod Chosen
+pub mod Coming
+pub mod Scattering
+pub mod Slots
+pub mod Whole

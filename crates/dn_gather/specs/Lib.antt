@@ -1,0 +1,5 @@
+pub mod Firsts
+pub mod Grants
+pub mod Parts
+pub mod Scattered
+pub mod Terms
