@@ -12,7 +12,6 @@ use Rattle.dn_interval.specs.declared.row.End.{End}
 use Rattle.dn_interval.specs.declared.row.Row.{Row}
 use Rattle.dn_interval.specs.declared.row.Seg.{Seg}
 use Rattle.dn_interval.specs.declared.span.Span.{Span}
-use Rattle.dn_interval.specs.declared.span.TheConstants.{TOP}
 use Rattle.dn_interval.specs.Spans.{in_span}
 use Rattle.dn_interval.specs.Strands.{ends_give, row_gives, rows_give, seg_gives, segs_give}
 use Rattle.dn_interval.proofs.Membership.{hi_of, in_from, lo_of}

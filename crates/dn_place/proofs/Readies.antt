@@ -23,7 +23,7 @@ use Rattle.dn_placement.specs.Slots.{Slots}
 use Rattle.dn_book.proofs.Hops.{has_bounds}
 use Rattle.dn_view.proofs.Alone.{reached_alone}
 use Rattle.dn_place.specs.Blocks.{HasBlocks}
-use Rattle.dn_place.proofs.WholeBlocks.{IsBehind, KeepsWhole, behind_at, whole_blocks}
+use Rattle.dn_place.proofs.WholeBlocks.{KeepsWhole, behind_at, whole_blocks}
 use Rattle.dn_place.specs.Sought.{HaveUnitBounds, IsSearchReady, ReachOneStop, slot_count}
 
 -- the ports of a unit are nodes that are there

@@ -1,16 +1,15 @@
 -- Where windows keep blocks whole, an admissible placement gives nothing beside its buffer in the blocks of the buffer.
-use Rattle.std.proofs.Common.{◌≡◌, ℕ, zero, suc, ◌+◌, ◌-◌, ◌*◌, ◌/◌, ◌%◌, ◌^◌, ◌<◌, ◌≤◌, ◌⊎◌, inl, inr, Bool, true, false, if◌then◌else◌, ◌&&◌, nat_eq, nat_le, List, [], ◌∷◌, ◌++◌, map, length, slice_get, Option, Some, None, IsSome, IsTrue, refl, sym, ap, ◌∙◌, subst, arith, pow_pos, pow-add, mod-lt, le-leb, eq-eqb, eqb-true}
+use Rattle.std.proofs.Common.{◌≡◌, ℕ, zero, suc, ◌+◌, ◌-◌, ◌*◌, ◌/◌, ◌%◌, ◌^◌, ◌<◌, ◌≤◌, ◌⊎◌, inl, inr, Bool, true, false, if◌then◌else◌, ◌&&◌, nat_eq, nat_le, List, [], ◌∷◌, ◌++◌, length, slice_get, Option, Some, None, IsSome, IsTrue, refl, sym, ap, ◌∙◌, subst, arith, pow_pos, pow-add, mod-lt, le-leb, eq-eqb, eqb-true}
 use Rattle.std.proofs.Math.Nat.{add-mul, div-add-mod', div-lt_iff_lt-mul, mul-le-mul_right, mul_assoc, mul_comm}
 use Rattle.std.proofs.lemmas.Bool.{and_from}
 use Rattle.std.proofs.lemmas.Nat.{div-mul-add, mod-mul-add}
 use Rattle.std.proofs.lemmas.Option.{same_Some}
 use Rattle.dn_base.proofs.Members.{member_at}
-use Rattle.dn_interval.specs.declared.row.End.{End}
 use Rattle.dn_net.specs.declared.node.Name.{Name}
 use Rattle.dn_net.specs.declared.node.NodeDecl.{NodeDecl}
 use Rattle.dn_net.specs.declared.node.Unit.{Unit as UnitPart}
-use Rattle.dn_net.specs.Chain.{IsChain, Member, Reaches}
-use Rattle.dn_net.specs.Decode.{is_agent_at, is_stop, unit_at, Resolves, Step, StopsAt}
+use Rattle.dn_net.specs.Chain.{IsChain, Member}
+use Rattle.dn_net.specs.Decode.{is_agent_at, is_stop, unit_at, Resolves, StopsAt}
 use Rattle.dn_net.specs.Legal.{IsLegalNet}
 use Rattle.dn_net.specs.UnitRules.{LeadsTo}
 use Rattle.dn_net.proofs.Chains.{chain_join}
@@ -26,10 +25,9 @@ use Rattle.dn_tables.specs.declared.placement.Hop.{Hop}
 use Rattle.dn_tables.specs.Placement.{Place}
 use Rattle.dn_placement.specs.declared.request.Request.{Request}
 use Rattle.dn_placement.specs.Exposure.{Adds, IsAdmissible}
-use Rattle.dn_placement.specs.Placement.{IsFreeHop, IsHolding, IsPlacement, IsUsable, Joins, Leads, Meets, is_free, is_shared, name_on}
+use Rattle.dn_placement.specs.Placement.{IsFreeHop, IsPlacement, IsUsable, Joins, Leads, Meets, is_free, is_shared, name_on}
 use Rattle.dn_placement.specs.Records.{first_slot, hop_record, hop_record_by, hop_rights, hops_records, is_taken_by, joined_records, last_slot, or_record, placed_records, slot_record}
 use Rattle.dn_placement.specs.Slots.{Slots}
-use Rattle.dn_walk.specs.Ends.{end_of, name_of_end}
 use Rattle.dn_view.specs.Passes.{outputs, outputs_by}
 use Rattle.dn_view.proofs.AddedRights.{some_allowed}
 use Rattle.dn_view.proofs.Exposed.{placement_fits}

@@ -89,7 +89,8 @@ fn exponent_of(bits: u64, most: u8) -> u8
 fn nodes_bits<Q: Quest>(quest: &Q) -> u64
     requires { Q.is_consistent quest.now }
     ensures { (block : ℕ) → result % 2 ^ block ≡ 0 → (node : ℕ) →
-        node < length (Q.sought quest.now).net → SendsBlocks (Q.sought quest.now).net (2 ^ block) node }
+        node < length (Q.sought quest.now).net →
+        SendsBlocks (Q.sought quest.now).net (2 ^ block) node }
 {
     let mut bits = 0;
     for node in 0..quest.nodes() {

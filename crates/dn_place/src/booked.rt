@@ -93,8 +93,8 @@ pub fn is_shut(book: &Book, system: System, agent: u16, at: u64) -> bool
 pub fn is_crowded(system: System, agent: u16, at: u64) -> bool
     requires system { IsSystem meaning system }
     requires agent { IsTrue (is_agent_at (slice_get system.on.net.now agent)) }
-    ensures { IsTrue result → (slots : Slots) (rq : Request) → AreProper system.entry.on.net.now slots
-        → rq.agent ≡ agent → IsTrue (are_rights rq.rights)
+    ensures { IsTrue result → (slots : Slots) (rq : Request) →
+        AreProper system.entry.on.net.now slots → rq.agent ≡ agent → IsTrue (are_rights rq.rights)
         → NoneSuited system.entry.on.net.now slots rq (Some at) }
 {
     match entry_of(system, agent, Some(at)) {

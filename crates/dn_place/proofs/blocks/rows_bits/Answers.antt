@@ -1,4 +1,4 @@
-use Rattle.std.proofs.Common.{◌≡◌, ◌^◌, List, true, sym, subst}
+use Rattle.std.proofs.Common.{◌≡◌, ◌^◌, List, true, subst}
 use Rattle.dn_interval.specs.declared.row.Row.{Row}
 use Rattle.dn_place.specs.Blocks.{Tells, row_fits, rows_fit}
 use Rattle.dn_place.proofs.BlockRows.{left_first, left_next, left_none}

@@ -1,5 +1,5 @@
 -- The stop is one of the names that are listed.
-use Rattle.std.proofs.Common.{◌≡◌, ◌∙◌, List, Option, Some, sym, subst}
+use Rattle.std.proofs.Common.{◌∙◌, List, Option, Some, sym, subst}
 use Rattle.dn_base.proofs.Told.{if_some_then}
 use Rattle.dn_interval.specs.declared.row.End.{End}
 use Rattle.dn_net.specs.declared.node.NodeDecl.{NodeDecl}

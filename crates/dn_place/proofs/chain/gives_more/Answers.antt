@@ -1,5 +1,4 @@
-use Rattle.std.proofs.Common.{◌≡◌, ◌<◌, ◌≤◌, ◌+◌, ◌^◌, ℕ, Bool, true, false, not, List, [], ◌∷◌, length, get_or, refl, sym, ap, ◌∙◌, subst, arith, IsTrue}
-use Rattle.dn_interval.specs.declared.span.TheConstants.{TOP}
+use Rattle.std.proofs.Common.{◌≡◌, ◌<◌, ℕ, Bool, true, false, not, List, [], ◌∷◌, length, get_or, refl, sym, ap, subst, arith}
 use Rattle.dn_view.proofs.Pages.{power_below}
 use Rattle.dn_tables.specs.declared.placement.Hop.{Hop}
 use Rattle.dn_walk.specs.Ends.{name_of_end}

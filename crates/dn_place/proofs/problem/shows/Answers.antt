@@ -1,4 +1,4 @@
-use Rattle.std.proofs.Common.{◌≡◌, ◌==◌, Bool, true, false, not, length, refl, rules}
+use Rattle.std.proofs.Common.{◌≡◌, ◌==◌, Bool, true, false, not, length, rules}
 use Rattle.dn_place.proofs.BlockRows.{shown_within}
 use Rattle.dn_place.proofs.problem.shows.Goals as goal
 

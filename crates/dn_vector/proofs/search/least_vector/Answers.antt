@@ -1,5 +1,5 @@
 -- The blocks have what the node accepts.
-use Rattle.std.proofs.Common.{◌≡◌, ◌∙◌, refl, sym, ap, subst, ℕ, List, None, IfOk, IfSome, false, true}
+use Rattle.std.proofs.Common.{◌≡◌, refl, subst, ℕ, List, None, IfSome, false, true}
 use Rattle.std.proofs.lemmas.Result.{IfOk-weaker}
 use Rattle.dn_base.proofs.Lists.{item_there}
 use Rattle.dn_base.proofs.Told.{if_some_then}

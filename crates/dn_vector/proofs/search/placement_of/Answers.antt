@@ -1,5 +1,5 @@
 -- The request is the one for the vector, at the line.
-use Rattle.std.proofs.Common.{◌≡◌, ◌∙◌, sym, subst, ℕ, true, false, Some, None, IfOk, IfSome}
+use Rattle.std.proofs.Common.{◌≡◌, ◌∙◌, sym, subst, true, false, Some, None, IfSome}
 use Rattle.std.proofs.lemmas.Bool.{false≢true}
 use Rattle.std.proofs.lemmas.Result.{IfOk-weaker}
 use Rattle.dn_base.proofs.Told.{if_some_then}

@@ -1,4 +1,4 @@
-use Rattle.std.proofs.Common.{List, true, IsTrue}
+use Rattle.std.proofs.Common.{List, IsTrue}
 use Rattle.std.proofs.lemmas.Result.{IfOk-weaker}
 use Rattle.dn_net.specs.declared.node.NodeDecl.{NodeDecl}
 use Rattle.dn_flat.specs.Levels.{AreFlats}
