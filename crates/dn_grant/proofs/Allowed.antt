@@ -15,8 +15,9 @@ use Rattle.dn_book.specs.declared.grant.Grant.{Grant}
 use Rattle.dn_book.specs.Book.{IsFaithful, IsSound, has_id, slots_of}
 use Rattle.dn_book.specs.Laws.{IsGrantFor}
 use Rattle.dn_grant.specs.Grant.{IsUnplaced, NoAddition, grant_of_request}
-use Rattle.dn_grant.specs.Refusal.{id_used, no_agent, no_target, book_full, grant_refusal, is_target_at, refusal_by, refused_address}
-use Rattle.dn_grant.proofs.Unaccepted.{accepted_within}
+use Rattle.dn_grant.specs.Refusal.{id_used, no_agent, no_target, book_full, grant_refusal, refusal_by}
+use Rattle.dn_place.specs.Targets.{is_target_at, refused_address}
+use Rattle.dn_place.proofs.Unaccepted.{accepted_within}
 
 -- the id is new, the agent is one, the buffer is not empty and within the addresses, the book has room
 pub record IsAllowed (net : List NodeDecl) (book : List Grant) (id : ℕ) (rq : Request) : Type 0 where

@@ -1,11 +1,11 @@
 -- Why a request for a grant is refused, and the refusals that need no search.
-use Rattle.std.specs.Prelude.{ℕ, zero, suc, ◌+◌, Bool, false, if◌then◌else◌, not, nat_eq, List, slice_get, Option, Some, None}
+use Rattle.std.specs.Prelude.{ℕ, if◌then◌else◌, not, List, slice_get, Option, Some, None}
 use Rattle.dn_net.specs.declared.node.NodeDecl.{NodeDecl}
-use Rattle.dn_net.specs.Decode.{is_accepted_at, is_agent_at}
-use Rattle.dn_net.specs.Rules.{is_vectors}
+use Rattle.dn_net.specs.Decode.{is_agent_at}
 use Rattle.dn_placement.specs.declared.request.Request.{Request}
 use Rattle.dn_book.specs.declared.grant.Grant.{Grant}
 use Rattle.dn_book.specs.Book.{has_id, is_full}
+use Rattle.dn_place.specs.Targets.{is_target_at, refused_address}
 
 -- why a request is refused: a live grant has the id; the agent is none; the node is none or has
 -- interrupt vectors; the node does not accept this address; the book is full; no placement serves
@@ -16,23 +16,6 @@ pub data GrantRefusal : Type 0 where
   not_accepted : ℕ → GrantRefusal
   book_full : GrantRefusal
   no_placement : GrantRefusal
-
--- a node is there, and its addresses are no interrupt vectors
-abbrev pub is_target_at : Option NodeDecl → Bool
-is_target_at None = false
-is_target_at (Some n) = not (is_vectors n.role)
-
--- the first of so many addresses from one on that the node does not accept
-abbrev pub unaccepted_from : Option NodeDecl → ℕ → ℕ → Option ℕ
-unaccepted_from n a zero = None
-unaccepted_from n a (suc count) =
-    if is_accepted_at a n then unaccepted_from n (a + 1) count else Some a
-
--- the address for which a buffer is refused: its base where it is empty, and else the first of its
--- addresses that the node does not accept
-abbrev pub refused_address : Option NodeDecl → ℕ → ℕ → Option ℕ
-refused_address n base size =
-    if nat_eq size 0 then Some base else unaccepted_from n base size
 
 -- the refusal for an address, and where there is none the one for want of room in the book
 abbrev pub refusal_by : List Grant → Option ℕ → Option GrantRefusal

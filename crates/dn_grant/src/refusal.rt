@@ -1,16 +1,15 @@
 //! The refusals of a request that need no search.
 
-ghost use Rattle.std.specs.Prelude.{◌≡◌, ◌<◌, length, slice_get, Some, None, IfSome, IsTrue};
+ghost use Rattle.std.specs.Prelude.{◌≡◌, Some, None, IfSome};
 ghost use Rattle.std.specs.Option.{option_map};
-ghost use Rattle.dn_grant.specs.Terms.{IsGrantTold, grant_fault_view, grant_refusal, is_target_at};
+ghost use Rattle.dn_grant.specs.Terms.{IsGrantTold, grant_fault_view, grant_refusal};
 
-use crate::accepted::refused_address;
 use crate::fault::GrantFault;
 use dn_book::book::Book;
 use dn_net::checked::CheckedNet;
-use dn_net::net::Net;
+use dn_place::accepted::{is_target, refused_address};
 use dn_placement::request::Request;
-use dn_placement::roles::{is_agent, is_vectors};
+use dn_placement::roles::is_agent;
 
 /// The first refusal of a request that holds before a placement is sought. It takes no memory.
 pub fn refusal(book: &Book, checked: CheckedNet, id: u32, request: &Request) -> Option<GrantFault>
@@ -38,12 +37,4 @@ pub fn refusal(book: &Book, checked: CheckedNet, id: u32, request: &Request) -> 
         return Some(GrantFault::BookFull);
     }
     None
-}
-
-/// Whether a node is there, and its addresses are no interrupt vectors.
-fn is_target(net: &Net, node: u16) -> bool
-    ensures target { result ≡ is_target_at (slice_get net.now node) }
-    ensures there { IsTrue result → node < length net.now }
-{
-    node < net.nodes() && !is_vectors(net, node)
 }

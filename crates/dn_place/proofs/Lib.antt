@@ -14,6 +14,7 @@ pub mod Shut
 pub mod Stretches
 pub mod Tops
 pub mod Toward
+pub mod Unaccepted
 pub mod Units
 pub mod Usable
 pub mod Walks

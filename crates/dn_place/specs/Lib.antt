@@ -9,4 +9,5 @@ pub mod Rows
 pub mod Slots
 pub mod Sought
 pub mod Stages
+pub mod Targets
 pub mod Terms

@@ -9,3 +9,4 @@ pub use Rattle.dn_place.specs.Rows.{AreToward, GivesNone, InRow, IsClear, is_pas
 pub use Rattle.dn_place.specs.Slots.{AreBarred, AreFree, AreFreeTo, AreShut, AreUsable, AreUseless, HasCrowd, IsBarred, IsWithin, is_free_slot, is_usable_slot, shared_by, slot_of}
 pub use Rattle.dn_place.specs.Sought.{HaveUnitBounds, HasUnitBounds, IsSearchReady, ReachOneStop, slot_count}
 pub use Rattle.dn_place.specs.Stages.{IsDoor, IsOutput, IsSearchStage}
+pub use Rattle.dn_place.specs.Targets.{is_target_at, refused_address}

@@ -1,9 +1,10 @@
 //! The search for the first admissible placement of a request.
 //!
 //! [`first`](mod@first) looks for it under a set of tables, and [`booked`] beside the grants of a book;
-//! [`reach`] is what the requests of an agent share.
+//! [`reach`] is what the requests of an agent share. [`accepted`] tells whether a buffer may be asked for.
 #![tactic(auto)]
 
+pub mod accepted;
 mod blocks;
 pub mod booked;
 mod chain;

@@ -1,8 +1,8 @@
 use Rattle.std.proofs.Common.{sym, slice_get}
 use Rattle.std.proofs.lemmas.Bool.{ne_eqb}
-use Rattle.dn_grant.proofs.Unaccepted.{IsFirstUnaccepted, refused_found, refused_none}
-use Rattle.dn_grant.proofs.accepted.refused_address.Goals as goal
-use Rattle.dn_grant.proofs.accepted.refused_address.Goals.{After-first_unaccepted-first}
+use Rattle.dn_place.proofs.Unaccepted.{IsFirstUnaccepted, refused_found, refused_none}
+use Rattle.dn_place.proofs.accepted.refused_address.Goals as goal
+use Rattle.dn_place.proofs.accepted.refused_address.Goals.{After-first_unaccepted-first}
 
 first : (c : After-first_unaccepted-first) → IsFirstUnaccepted (slice_get c.args.checked.net.now c.args.node) c.args.base c.first_unaccepted-first.result
 first c =

@@ -3,9 +3,9 @@ use Rattle.std.proofs.Math.Seq.{drop-cons}
 use Rattle.dn_base.proofs.Lists.{drop_all}
 use Rattle.dn_net.specs.declared.node.Block.{Block}
 use Rattle.dn_net.proofs.Woven.{ascends_from}
-use Rattle.dn_grant.proofs.Unaccepted.{IsPassed, none_passed, outside_before, outside_last, passed_by, passed_in}
-use Rattle.dn_grant.proofs.accepted.first_outside.Goals.{then-first-block-2, else-first-block-2}
-use Rattle.dn_grant.proofs.accepted.first_outside.Goals as goal
+use Rattle.dn_place.proofs.Unaccepted.{IsPassed, none_passed, outside_before, outside_last, passed_by, passed_in}
+use Rattle.dn_place.proofs.accepted.first_outside.Goals.{then-first-block-2, else-first-block-2}
+use Rattle.dn_place.proofs.accepted.first_outside.Goals as goal
 
 -- the block to which the pass came, and those behind it
 at : (base first : ℕ) (bs : List Block) (i : ℕ) (z : Block) → i < length bs → IsPassed base first bs (drop i bs) → IsPassed base first bs (get_or bs i z ∷ drop (i + 1) bs)

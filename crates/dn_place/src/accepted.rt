@@ -1,13 +1,24 @@
-//! The first address of a buffer that its node does not accept, found by the node's blocks.
+//! Whether a node may be asked for a buffer, and the first address of it that the node does not accept,
+//! found by the node's blocks.
 
 ghost use Rattle.std.specs.Prelude.{◌≡◌, ℕ, ◌≤◌, ◌<◌, true, false, length, slice_get, IsTrue};
 ghost use Rattle.std.specs.List.{All};
 ghost use Rattle.std.specs.List.Sorted.{IsNonDecreasingBy};
 ghost use Rattle.dn_net.specs.Terms.{block_in_range, in_some_block, is_accepted_at};
-ghost use Rattle.dn_grant.specs.Terms.{refused_address};
+ghost use Rattle.dn_place.specs.Terms.{is_target_at, refused_address};
 
 use dn_net::checked::CheckedNet;
+use dn_net::net::Net;
 use dn_net::node::Block;
+use dn_placement::roles::is_vectors;
+
+/// Whether a node is there, and its addresses are no interrupt vectors.
+pub fn is_target(net: &Net, node: u16) -> bool
+    ensures target { result ≡ is_target_at (slice_get net.now node) }
+    ensures there { IsTrue result → node < length net.now }
+{
+    node < net.nodes() && !is_vectors(net, node)
+}
 
 /// The address for which a buffer is refused: its base where it is empty, and else the first of its
 /// addresses that the node does not accept. It takes no memory, and goes over the blocks of the node

@@ -2,9 +2,9 @@ use Rattle.std.proofs.Common.{◌≡◌, ◌∙◌, ap, ℕ, slice_get}
 use Rattle.dn_base.proofs.Lists.{item_there}
 use Rattle.dn_net.specs.Decode.{in_some_block, is_accepted_at}
 use Rattle.dn_walk.proofs.Nodes.{node_in_range}
-use Rattle.dn_grant.proofs.Unaccepted.{rows_accept}
-use Rattle.dn_grant.proofs.accepted.first_unaccepted.Goals.{After-accept_rows}
-use Rattle.dn_grant.proofs.accepted.first_unaccepted.Goals as goal
+use Rattle.dn_place.proofs.Unaccepted.{rows_accept}
+use Rattle.dn_place.proofs.accepted.first_unaccepted.Goals.{After-accept_rows}
+use Rattle.dn_place.proofs.accepted.first_unaccepted.Goals as goal
 
 -- the node accepts just what the rows have
 same : (c : After-accept_rows) (a : ℕ) → is_accepted_at a (slice_get c.args.checked.net.now c.args.node) ≡ in_some_block a c.accept_rows.result.now

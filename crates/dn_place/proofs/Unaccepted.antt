@@ -10,7 +10,7 @@ use Rattle.dn_net.specs.Decode.{top, within, in_some_block, is_accepted_at}
 use Rattle.dn_net.specs.Rules.{block_in_range}
 use Rattle.dn_net.proofs.Least.{within_from}
 use Rattle.dn_net.proofs.Woven.{Ascends, lower}
-use Rattle.dn_grant.specs.Refusal.{refused_address, unaccepted_from}
+use Rattle.dn_place.specs.Targets.{refused_address, unaccepted_from}
 
 -- an address that does not lie in the first of some blocks lies in one of them where it lies in one of the others
 by_others : (a : ℕ) (b : Block) (bs : List Block) → within a b ≡ false → in_some_block a (b ∷ bs) ≡ in_some_block a bs
