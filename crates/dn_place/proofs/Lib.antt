@@ -7,6 +7,7 @@ pub mod Marked
 pub mod Meetings
 pub mod Nexts
 pub mod Openings
+pub mod Outputs
 pub mod Pages
 pub mod Proper
 pub mod Readies

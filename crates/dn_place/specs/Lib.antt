@@ -1,5 +1,6 @@
 pub mod Blocks
 pub mod Candidates
+pub mod Exits
 pub mod Hops
 pub mod Marks
 pub mod Problems

@@ -70,11 +70,15 @@ abbrev pub slot_count : Option UnitPart → ℕ
 slot_count None = 0
 slot_count (Some u) = u.slots
 
+-- no slot is free, and none holds a record
+abbrev pub no_slots : Slots
+no_slots = record { held = λ unit slot. None; is_free = λ unit slot. false; has_owner = λ unit slot. false }
+
 -- nothing is looked for
 abbrev pub nothing_sought : Sought
 nothing_sought = record {
   net = [];
-  slots = record { held = λ unit slot. None; is_free = λ unit slot. false; has_owner = λ unit slot. false };
+  slots = no_slots;
   request = record { agent = 0; node = 0; base = 0; size = 0; rights = both_rights };
   at = None;
 }

@@ -1,7 +1,8 @@
 //! The search for the first admissible placement of a request.
 //!
 //! [`first`](mod@first) looks for it under a set of tables, and [`booked`] beside the grants of a book;
-//! [`reach`] is what the requests of an agent share. [`accepted`] tells whether a buffer may be asked for.
+//! [`reach`] is what the requests of an agent share. [`accepted`] tells whether a buffer may be asked for,
+//! and [`exits`] by which outputs of a unit it is given.
 #![tactic(auto)]
 
 pub mod accepted;
@@ -9,18 +10,20 @@ mod blocks;
 pub mod booked;
 mod chain;
 mod entry;
+pub mod exits;
 pub mod first;
 mod hops;
 mod inputs;
+mod lone;
 mod marks;
 mod problem;
 mod quest;
 pub mod reach;
-mod rows;
+pub mod rows;
 mod slot_state;
-mod slots;
-mod tables;
-mod unit;
+pub mod slots;
+pub mod tables;
+pub mod unit;
 mod whole;
 
 pub use dn_base::OutOfMemory;

@@ -91,7 +91,12 @@ pub(crate) fn made_rows<Q: Quest>(
 
 /// Where levels give names of so many from one on, as normal rows of these names. A row counts whole, also where it
 /// gives others beside them.
-fn near_rows(alloc: Global, levels: &[Rows], target: End, size: u64) -> Result<Rows, OutOfMemory>
+pub fn near_rows(
+    alloc: Global,
+    levels: &[Rows],
+    target: End,
+    size: u64,
+) -> Result<Rows, OutOfMemory>
     ensures { IfOk result (λ rows. AreNormal (λ a z. IsTrue
         (levels_near target size levels.now a z)) rows) }
 {
@@ -124,7 +129,7 @@ fn is_level_past(rows: &Rows, a: u64, size: u64) -> bool
 }
 
 /// Whether levels give nothing to the stretch.
-fn are_levels_past(levels: &[Rows], a: u64, size: u64) -> bool
+pub(crate) fn are_levels_past(levels: &[Rows], a: u64, size: u64) -> bool
     requires some { 1 ≤ size }
     requires fits { a + size < 18446744073709551616 }
     ensures yes { IsTrue result → GivesNone (levels_give levels.now) a size }

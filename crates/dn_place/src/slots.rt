@@ -126,7 +126,7 @@ fn past_slot(found: SlotState, slot: u32, first: u32, port: u8, page: u64) -> u3
 }
 
 /// Two to a power.
-pub(crate) fn power(exponent: u8) -> u64
+pub fn power(exponent: u8) -> u64
     requires { exponent ≤ 56 }
     ensures { result ≡ 2 ^ exponent }
 {

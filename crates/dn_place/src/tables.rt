@@ -3,7 +3,7 @@
 ghost use Rattle.std.specs.Prelude.{◌≡◌, ◌↔◌, IsTrue, false};
 ghost use Rattle.dn_kind.specs.Terms.{AreKinds, kinds_of};
 ghost use Rattle.dn_tables.specs.Terms.{FitsNet, fits_kinds, has_slot};
-ghost use Rattle.dn_placement.specs.Terms.{is_zero_slot, slots_of_set};
+ghost use Rattle.dn_placement.specs.Terms.{is_free_in, is_zero_slot, slots_of_set};
 ghost use Rattle.dn_view.specs.Terms.{IsSystem};
 ghost use Rattle.dn_place.specs.Terms.{IsBarred, shared_by, slot_of};
 
@@ -24,13 +24,21 @@ pub(crate) fn slot_at(kinds: &Kinds, tables: &TableSet, unit: u16, slot: u32) ->
     requires there { IsTrue (has_slot tables.now unit slot) }
     ensures { result ≡ slot_of (slots_of_set (kinds_of meaning kinds.now) tables.now) unit slot }
 {
-    if tables.uses_at(unit, slot) == 0 && has_zero_words(tables, unit, slot) {
+    if is_free(tables, unit, slot) {
         return SlotState::Free;
     }
     if tables.owner_at(unit, slot).is_some() {
         return SlotState::Barred;
     }
     shared_by(tables.record_at(kinds, unit, slot))
+}
+
+/// Whether a slot of a set of tables is free.
+pub fn is_free(tables: &TableSet, unit: u16, slot: u32) -> bool
+    requires there { IsTrue (has_slot tables.now unit slot) }
+    ensures { result ≡ is_free_in tables.now unit slot }
+{
+    tables.uses_at(unit, slot) == 0 && has_zero_words(tables, unit, slot)
 }
 
 /// Whether no hop may take the slot of a name in a unit. `false` where the name is in no slot of a unit.

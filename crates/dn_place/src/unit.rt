@@ -11,7 +11,7 @@ use dn_net::node::Unit;
 use dn_view::system::System;
 
 /// The unit that a node is, if it is one.
-pub(crate) fn unit_in<'a>(system: System<'a>, node: u16) -> Option<&'a Unit>
+pub fn unit_in<'a>(system: System<'a>, node: u16) -> Option<&'a Unit>
     requires { IsSystem meaning system }
     ensures some { IfSome result (λ u. unit_at system.entry.on.net.now node ≡ Some u.now) }
     ensures bounds { IfSome result (λ u. HasUnitBounds system.entry.on.net.now u.now) }
