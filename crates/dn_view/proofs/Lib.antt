@@ -11,6 +11,7 @@ pub mod Held
 pub mod Nearby
 pub mod MetHops
 pub mod Newly
+pub mod Onwards
 pub mod Pages
 pub mod Passed
 pub mod Rounds

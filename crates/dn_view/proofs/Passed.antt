@@ -208,8 +208,9 @@ on_is net fresh all s z = ((λ x. x), (λ x. x))
 abbrev pub NewlyComes : List NodeDecl → Held → Held → Held → List Seg → List Seg → ℕ → ℕ → End → Type 0
 NewlyComes net h fresh all shown level n a z = (segs_give shown a z ≡ true) ⊎ ((s : End) × (segs_give level a s ≡ true) × Newly net h fresh all n (name_of_end s) (name_of_end z))
 
-pub newly_next : (net : List NodeDecl) → IsLegalNet net → (h fresh all : Held) → AreHeld net h → (flats : FlatsView) → AreFlats net flats → (shown shown' level level' : List Seg) (n : ℕ) (a : ℕ) (z : End) → ((segs_give shown' a z ≡ true) ↔ ((segs_give shown a z ≡ true) ⊎ ((s : End) × (segs_give level a s ≡ true) × IsPassedOn net fresh all (name_of_end s) (name_of_end z)))) → ((t : End) → segs_give level' a t ≡ segs_pass net h (part_gives Stops flats) level a t) → NewlyComes net h fresh all shown level (suc n) a z ↔ NewlyComes net h fresh all shown' level' n a z
-newly_next net legal h fresh all held flats are shown shown' level level' n a z es el = (into, back)
+-- one level more, of which those names are kept at least that go on through the first records
+pub newly_next : (net : List NodeDecl) → IsLegalNet net → (h fresh all : Held) → AreHeld net h → (flats : FlatsView) → AreFlats net flats → (shown shown' level rest level' : List Seg) (n : ℕ) (a : ℕ) (z : End) → ((segs_give shown' a z ≡ true) ↔ ((segs_give shown a z ≡ true) ⊎ ((s : End) × (segs_give level a s ≡ true) × IsPassedOn net fresh all (name_of_end s) (name_of_end z)))) → ((s : End) → segs_give rest a s ≡ true → segs_give level a s ≡ true) → ((s : End) → segs_give level a s ≡ true → ((w : Name) × Member w (outputs net h (name_of_end s)) × ((t : Name) × StopsAt net w t × Newly net h fresh all n t (name_of_end z))) → segs_give rest a s ≡ true) → ((t : End) → segs_give level' a t ≡ segs_pass net h (part_gives Stops flats) rest a t) → NewlyComes net h fresh all shown level (suc n) a z ↔ NewlyComes net h fresh all shown' level' n a z
+newly_next net legal h fresh all held flats are shown shown' level rest level' n a z es given met el = (into, back)
   where
     into : NewlyComes net h fresh all shown level (suc n) a z → NewlyComes net h fresh all shown' level' n a z
     into (inl e) = inl (es.1 (inl e))
@@ -217,13 +218,13 @@ newly_next net legal h fresh all held flats are shown shown' level level' n a z 
       where
         by : ((w : Name) × Member w (outputs net fresh (name_of_end r.0)) × ResolvesUnder net all w (name_of_end z)) ⊎ ((w : Name) × Member w (outputs net h (name_of_end r.0)) × ((t : Name) × StopsAt net w t × Newly net h fresh all n t (name_of_end z))) → NewlyComes net h fresh all shown' level' n a z
         by (inl k) = inl (es.1 (inr (r.0, r.1, (on_is net fresh all (name_of_end r.0) (name_of_end z)).1 k)))
-        by (inr k) = inr (end_of k.2.0, el (end_of k.2.0) ∙ (passed_stops net legal h held flats are level a (end_of k.2.0)).1 (r.0, r.1, (k.0, k.1, k.2.1)), k.2.2)
+        by (inr k) = inr (end_of k.2.0, el (end_of k.2.0) ∙ (passed_stops net legal h held flats are rest a (end_of k.2.0)).1 (r.0, met r.0 r.1 k, (k.0, k.1, k.2.1)), k.2.2)
 
     back : NewlyComes net h fresh all shown' level' n a z → NewlyComes net h fresh all shown level (suc n) a z
     back (inl e) = elim (es.0 e) [ inl k ↦ inl k | inr k ↦ inr (k.0, k.1, inl ((on_is net fresh all (name_of_end k.0) (name_of_end z)).0 k.2)) ]
     back (inr v) =
-        let r = (passed_stops net legal h held flats are level a v.0).0 (sym (el v.0) ∙ v.1) in
-        inr (r.0, r.1, inr (r.2.0, r.2.1, (name_of_end v.0, r.2.2, v.2)))
+        let r = (passed_stops net legal h held flats are rest a v.0).0 (sym (el v.0) ∙ v.1) in
+        inr (r.0, given r.0 r.1, inr (r.2.0, r.2.1, (name_of_end v.0, r.2.2, v.2)))
 
 pub newly_end : (net : List NodeDecl) (h fresh all : Held) (shown level : List Seg) (a : ℕ) (z : End) → NewlyComes net h fresh all shown level 0 a z ↔ (segs_give shown a z ≡ true)
 newly_end net h fresh all shown level a z = (into, (λ e. inl e))

@@ -1,5 +1,5 @@
 -- A node from which no hop can be met shows nothing newly.
-use Rattle.std.proofs.Common.{◌≡◌, ℕ, suc, ◌+◌, ◌*◌, ◌/◌, ◌%◌, ◌^◌, ◌<◌, ◌≤◌, inl, inr, Bool, true, false, if◌then◌else◌, ◌&&◌, nat_eq, nat_lt, List, [], ◌∷◌, length, slice_get, Option, Some, None, IsTrue, refl, sym, ap, ◌∙◌, subst, eqb-true, ltb-true}
+use Rattle.std.proofs.Common.{◌≡◌, ℕ, zero, suc, ◌+◌, ◌*◌, ◌/◌, ◌%◌, ◌^◌, ◌<◌, ◌≤◌, inl, inr, Bool, true, false, if◌then◌else◌, ◌&&◌, nat_eq, nat_lt, List, [], ◌∷◌, length, slice_get, Option, Some, None, IsTrue, refl, sym, ap, ◌∙◌, subst, eqb-true, ltb-true}
 use Rattle.std.specs.List.{list_any, list_all}
 use Rattle.std.proofs.lemmas.Bool.{false≢true}
 use Rattle.dn_base.proofs.Lists.{list_all-at}
@@ -32,20 +32,15 @@ use Rattle.dn_placement.specs.Records.{hop_record_by, hop_rights, hops_records, 
 use Rattle.dn_walk.specs.Ends.{end_of, name_of_end}
 use Rattle.dn_flat.specs.Onward.{has_rows}
 use Rattle.dn_view.specs.Exact.{IsAdded, IsExactAt}
-use Rattle.dn_view.specs.Passes.{outputs_by, stops_of}
+use Rattle.dn_view.specs.Passes.{outputs, outputs_by, stops_of}
 use Rattle.dn_view.specs.Records.{fresh_record, fresh_records}
 use Rattle.dn_view.specs.Through.{ComesNewly, Newly}
-use Rattle.dn_view.specs.Untouched.{can_meet, has_hop, leads_to_units}
+use Rattle.dn_view.specs.Untouched.{can_meet, comes_on, has_hop, leads_to_hops, leads_to_units, units_in}
 use Rattle.dn_view.proofs.Added.{not_asked}
 use Rattle.dn_view.proofs.Buffers.{exact_none}
 use Rattle.dn_view.proofs.Cuts.{none_at}
 use Rattle.dn_view.proofs.Exposed.{stop_low}
 use Rattle.dn_view.proofs.Viewed.{node_stops}
-
--- the units of the stops of a node; of one that is not there they are none
-abbrev pub units_in : Option Levels → List ℕ
-units_in None = []
-units_in (Some levels) = levels.units
 
 -- in a node in which no hop stands the hops have no record
 unplaced : (net : List NodeDecl) (size : ℕ) (rights : Rights) (own place : ℕ) (hops : List Hop) (node slot : ℕ) → has_hop hops node ≡ false → hops_records net size rights own place hops node slot ≡ None
@@ -75,46 +70,53 @@ module _ (net : List NodeDecl) (legal : IsLegalNet net) (flats : FlatsView) (are
   abbrev fresh : Held
   fresh = allowing access (fresh_records h added)
 
+  abbrev joined : Held
+  joined = allowing access (joined_records h added)
+
+  -- what a record sends a name to is in the node of a port
+  by_port : (g : Held) (t w : Name) (u : UnitPart) → Member w (outputs_by g t (Some u)) → (i : ℕ) × (slice_get u.ports i ≡ Some w.node)
+  by_port g t w u m = on (g t.node (t.addr / 2 ^ u.page)) m
+    where
+      at : (o : Option ℕ) (i n : ℕ) → slice_get u.ports i ≡ o → Member w (name_at_port o n) → (i : ℕ) × (slice_get u.ports i ≡ Some w.node)
+      at None i n e k = absurd k
+      at (Some port) i n e (inr k) = absurd k
+      at (Some port) i n e (inl k) = (i, e ∙ ap (λ (x : Name). Some x.node) k)
+
+      on : (o : Option Record) → Member w (output u o t.addr) → (i : ℕ) × (slice_get u.ports i ≡ Some w.node)
+      on None k = absurd k
+      on (Some r) k = at (slice_get u.ports r.port) r.port (r.page * 2 ^ u.page + t.addr % 2 ^ u.page) refl k
+
+  -- the node of a port is there
+  port_there : (t : Name) (u : UnitPart) (i port : ℕ) → unit_at net t.node ≡ Some u → slice_get u.ports i ≡ Some port → port < length flats.nodes
+  port_there t u i port e at = subst (λ n. port < n) (sym are.every) (ltb-true port (length net) (list_all-at (λ q. nat_lt q (length net)) u.ports i port (ports_at net t.node u legal.nodes.closed e) at))
+
+  -- the layers of a node give its stops
+  stop_given : (w v : Name) → w.node < length flats.nodes → StopsAt net w v → levels_give (stops_of flats w.node) w.addr (end_of v) ≡ true
+  stop_given w v l st = (node_stops net flats are w.node l (levels_give (stops_of flats w.node) w.addr (end_of v)) w.addr (end_of v) (stop_low net w v st) refl).1 st
+
   -- what goes on to no units comes to a name newly by the record of its own slot
-  pub by_own_slot : (t z : Name) → leads_to_units flats (unit_at net t.node) ≡ false → ComesNewly net (allowing access h) fresh (allowing access (joined_records h added)) t z → (w : Name) × Member w (outputs_by fresh t (unit_at net t.node))
-  unfolding ComesNewly
-  by_own_slot t z none k = by k
+  own_slot : (n : ℕ) (t z : Name) → leads_to_units flats (unit_at net t.node) ≡ false → Newly net (allowing access h) fresh joined n t z → (w : Name) × Member w (outputs_by fresh t (unit_at net t.node))
+  own_slot zero t z none k = absurd k
+  own_slot (suc n) t z none k = by k
     where
       not_on : (w v : Name) (o : Option UnitPart) → unit_at net t.node ≡ o → leads_to_units flats o ≡ false → Member w (outputs_by (allowing access h) t o) → StopsAt net w v → ⊥
       not_on w v None e f m st = absurd m
-      not_on w v (Some u) e f m st = on (allowing access h t.node (t.addr / 2 ^ u.page)) m
-        where
-          leads : ℕ → Bool
-          leads port = list_any has_rows (stops_of flats port)
+      not_on w v (Some u) e f m st =
+          let at = by_port (allowing access h) t w u m in
+          let given = stop_given w v (port_there t u at.0 w.node e at.1) st in
+          absurd (false≢true (sym (none_at (λ port. list_any has_rows (stops_of flats port)) u.ports at.0 w.node f at.1) ∙ layer_given (stops_of flats w.node) w.addr (end_of v) given))
 
-          at : (o : Option ℕ) (i n : ℕ) → slice_get u.ports i ≡ o → Member w (name_at_port o n) → ⊥
-          at None i n g k = absurd k
-          at (Some port) i n g (inr k) = absurd k
-          at (Some port) i n g (inl k) = absurd (false≢true (sym (none_at leads u.ports i port f g) ∙ layer_given (stops_of flats port) w.addr (end_of v) gives))
-            where
-              same : w.node ≡ port
-              same = sym (ap (λ (x : Name). x.node) k)
+      by : Newly net (allowing access h) fresh joined (suc n) t z → (w : Name) × Member w (outputs_by fresh t (unit_at net t.node))
+      by (inl m) = (m.0, m.1)
+      by (inr m) = absurd (not_on m.0 m.2.0 (unit_at net t.node) refl none m.1 m.2.1)
 
-              within : port < length flats.nodes
-              within = subst (λ n. port < n) (sym are.every) (there u.ports i (ports_at net t.node u legal.nodes.closed e) g)
-                where
-                  there : (ports : List ℕ) (j : ℕ) → IsTrue (list_all (λ q. nat_lt q (length net)) ports) → slice_get ports j ≡ Some port → port < length net
-                  there ports j all_there at_j = ltb-true port (length net) (list_all-at (λ q. nat_lt q (length net)) ports j port all_there at_j)
-
-              gives : levels_give (stops_of flats port) w.addr (end_of v) ≡ true
-              gives = (node_stops net flats are port within (levels_give (stops_of flats port) w.addr (end_of v)) w.addr (end_of v) (stop_low net w v st) refl).1 (subst (λ (n : ℕ). StopsAt net (record { node = n; addr = w.addr }) v) same st)
-
-          on : (o : Option Record) → Member w (output u o t.addr) → ⊥
-          on None k = absurd k
-          on (Some r) k = at (slice_get u.ports r.port) r.port (r.page * 2 ^ u.page + t.addr % 2 ^ u.page) refl k
-
-      by : Newly net (allowing access h) fresh (allowing access (joined_records h added)) 3 t z → (w : Name) × Member w (outputs_by fresh t (unit_at net t.node))
-      by (inl n) = (n.0, n.1)
-      by (inr n) = absurd (not_on n.0 n.2.0 (unit_at net t.node) refl none n.1 n.2.1)
+  pub by_own_slot : (t z : Name) → leads_to_units flats (unit_at net t.node) ≡ false → ComesNewly net (allowing access h) fresh (allowing access (joined_records h added)) t z → (w : Name) × Member w (outputs_by fresh t (unit_at net t.node))
+  unfolding ComesNewly
+  by_own_slot t z none k = own_slot 3 t z none k
 
   -- what stands where no hop can be met does not come to one
-  not_newly : (t z : Name) → can_meet net flats p.hops t.node ≡ false → ComesNewly net (allowing access h) fresh (allowing access (joined_records h added)) t z → ⊥
-  not_newly t z none k = let n = by_own_slot t z parts.1 k in not_fresh n.0 (unit_at net t.node) n.1
+  not_newly : (n : ℕ) (t z : Name) → can_meet net flats p.hops t.node ≡ false → Newly net (allowing access h) fresh joined n t z → ⊥
+  not_newly n t z none k = let m = own_slot n t z parts.1 k in not_fresh m.0 (unit_at net t.node) m.1
     where
       parts : (has_hop p.hops t.node ≡ false) × (leads_to_units flats (unit_at net t.node) ≡ false)
       parts = or_parts (has_hop p.hops t.node) (leads_to_units flats (unit_at net t.node)) none
@@ -136,6 +138,31 @@ module _ (net : List NodeDecl) (legal : IsLegalNet net) (flats : FlatsView) (are
       let t = levels_there net flats are node (subst (λ n. node < n) are.every l) in
       subst (λ (o : Option Levels). is_among z.node (units_in o) ≡ true) (sym t.1) ((are.each node t.0 t.1).units a z low (ap (λ (o : Option Levels). levels_give (stops_in o) a z) (sym t.1) ∙ given))
 
+  never_newly : (t z : Name) → can_meet net flats p.hops t.node ≡ false → ComesNewly net (allowing access h) fresh (allowing access (joined_records h added)) t z → ⊥
+  unfolding ComesNewly
+  never_newly t z none k = not_newly 3 t z none k
+
+  -- what stands in a unit whose ports lead to no unit from which a hop can be met comes to none through a first record
+  not_onward : (n : ℕ) (s z : Name) → comes_on net flats p.hops (unit_at net s.node) ≡ false → ((w : Name) × Member w (outputs net (allowing access h) s) × ((t : Name) × StopsAt net w t × Newly net (allowing access h) fresh joined n t z)) → ⊥
+  not_onward n s z none k = by (unit_at net s.node) refl none k.1
+    where
+      by : (o : Option UnitPart) → unit_at net s.node ≡ o → comes_on net flats p.hops o ≡ false → Member k.0 (outputs_by (allowing access h) s o) → ⊥
+      by None e f m = absurd m
+      by (Some u) e f m =
+          let at = by_port (allowing access h) s k.0 u m in
+          let there : k.0.node < length flats.nodes = port_there s u at.0 k.0.node e at.1 in
+          let given = stop_given k.0 k.2.0 there k.2.1 in
+          let unmet : list_any (can_meet net flats p.hops) (units_in (slice_get flats.nodes k.0.node)) ≡ false = none_at (leads_to_hops net flats p.hops) u.ports at.0 k.0.node f at.1 in
+          not_newly n k.2.0 z (unlisted (can_meet net flats p.hops) (units_in (slice_get flats.nodes k.0.node)) k.2.0.node unmet (listed k.0.node there k.0.addr (end_of k.2.0) (stop_low net k.0 k.2.0 k.2.1) given)) k.2.2
+
+  -- so of the names that come to a hop through a first record each is kept
+  pub kept_onward : (n : ℕ) (s z : Name) (kept : Bool) → (comes_on net flats p.hops (unit_at net s.node) ≡ true → kept ≡ true) → ((w : Name) × Member w (outputs net (allowing access h) s) × ((t : Name) × StopsAt net w t × Newly net (allowing access h) fresh joined n t z)) → kept ≡ true
+  kept_onward n s z kept met k = by (comes_on net flats p.hops (unit_at net s.node)) refl
+    where
+      by : (b : Bool) → comes_on net flats p.hops (unit_at net s.node) ≡ b → kept ≡ true
+      by true e = met e
+      by false e = absurd (not_onward n s z e k)
+
   -- a node at which nothing is asked for, and from which no hop can be met, is exact
   pub untouched : (node : ℕ) → node < length flats.nodes → (nat_eq node rq.agent && allows rq.rights access) ≡ false → list_any (can_meet net flats p.hops) (units_in (slice_get flats.nodes node)) ≡ false → IsExactAt net h rq p access node
   untouched node l asked none = (exact_none net h rq p access node [] (not_asked net h rq p access node asked) (λ a z low. ((λ e. absurd (false≢true e)), (λ k. absurd (never a z low k))))).0 refl
@@ -144,4 +171,4 @@ module _ (net : List NodeDecl) (legal : IsLegalNet net) (flats : FlatsView) (are
       never a z low k =
           let layers : List (List Row) = stops_of flats node in
           let given : levels_give layers a (end_of k.0) ≡ true = (node_stops net flats are node l (levels_give layers a (end_of k.0)) a (end_of k.0) low refl).1 k.1 in
-          not_newly k.0 (name_of_end z) (unlisted (can_meet net flats p.hops) (units_in (slice_get flats.nodes node)) k.0.node none (listed node l a (end_of k.0) low given)) k.2
+          never_newly k.0 (name_of_end z) (unlisted (can_meet net flats p.hops) (units_in (slice_get flats.nodes node)) k.0.node none (listed node l a (end_of k.0) low given)) k.2

@@ -9,5 +9,5 @@ pub use Rattle.dn_view.specs.Records.{AreFitted, HoldsBelow, IsFitted, IsFitting
 pub use Rattle.dn_view.specs.Systems.{AreSystemTables, IsSystem}
 pub use Rattle.dn_view.specs.Through.{ComesThrough}
 pub use Rattle.dn_view.specs.Trials.{AreExactIn, ComesIn, IsExactIn, IsPassedIn, IsTrial}
-pub use Rattle.dn_view.specs.Untouched.{can_meet, has_hop, leads_on, leads_to_units}
+pub use Rattle.dn_view.specs.Untouched.{can_meet, comes_on, has_hop, leads_on, leads_to_hops, leads_to_units}
 pub use Rattle.dn_view.specs.Views.{AreViewed, ReachesUnit, ResolvesFromUnder}

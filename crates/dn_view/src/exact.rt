@@ -15,6 +15,7 @@ ghost use Rattle.dn_view.specs.Terms.{AreExactIn, ComesIn, IsAskedAt, IsExactIn,
 use crate::OutOfMemory;
 use crate::course::Course;
 use crate::met::met_stops;
+use crate::onward::onward_segs;
 use crate::part::FlatPart;
 use crate::pass::pass;
 use crate::records::Records;
@@ -135,7 +136,9 @@ fn newly_shown(alloc: Global, trial: Trial, stops: Vec<Seg>) -> Result<Vec<Seg>,
     for _ in 0..UNITS {
         let segs = level.as_slice();
         push_newly(alloc, &mut shown, trial, segs)?;
-        level = passed_stops(alloc, kept, segs)?;
+        let onward = onward_segs(alloc, trial, segs)?;
+        let rest = onward.as_slice();
+        level = passed_stops(alloc, kept, rest)?;
     }
     Ok(shown)
 }

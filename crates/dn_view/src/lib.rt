@@ -7,6 +7,7 @@ pub mod laws;
 mod met;
 pub mod names;
 pub mod near;
+mod onward;
 mod output;
 pub mod part;
 mod pass;

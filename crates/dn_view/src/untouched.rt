@@ -31,7 +31,7 @@ pub(crate) fn is_untouched(trial: Trial, node: u16) -> bool
 }
 
 /// Whether what stands in one of the nodes can come to a hop.
-fn some_meets(trial: Trial, nodes: &[u16]) -> bool
+pub(crate) fn some_meets(trial: Trial, nodes: &[u16]) -> bool
     requires { IsTrial meaning trial }
     ensures { result ≡ list_any (can_meet trial.entry.system.on.net.now
         trial.entry.system.flats.now trial.entry.placement.now.hops) nodes.now }

@@ -10,9 +10,9 @@ use Rattle.dn_flat.specs.Levels.{levels_give, stops_in}
 use Rattle.dn_view.specs.Near.{hops_near}
 use Rattle.dn_view.specs.Passes.{stops_of}
 use Rattle.dn_view.specs.Trials.{ComesIn, trial_records}
-use Rattle.dn_view.specs.Untouched.{leads_on}
+use Rattle.dn_view.specs.Untouched.{leads_on, units_in}
 use Rattle.dn_view.proofs.MetHops.{near_given, near_hops}
-use Rattle.dn_view.proofs.Unmet.{by_own_slot, listed, units_in, unlisted}
+use Rattle.dn_view.proofs.Unmet.{by_own_slot, listed, unlisted}
 use Rattle.dn_view.proofs.met.met_stops.Goals as goal
 
 pub returns-then-some_lead_on-clause-given : goal.returns-then-some_lead_on-clause-given

@@ -1,7 +1,6 @@
 use Rattle.std.proofs.Common.{◌≡◌, ◌∙◌, ap, sym, false, not, Bool, true, refl}
 use Rattle.std.specs.List.{list_any}
-use Rattle.dn_view.proofs.Unmet.{units_in}
-use Rattle.dn_view.specs.Untouched.{can_meet}
+use Rattle.dn_view.specs.Untouched.{can_meet, units_in}
 use Rattle.dn_view.proofs.Unmet.{untouched}
 use Rattle.dn_view.proofs.untouched.is_untouched.Goals as goal
 
