@@ -1,5 +1,5 @@
 -- Pieces of lists, and what the pages of their trees have.
-use Rattle.std.proofs.Common.{◌≡◌, ℕ, zero, suc, ◌+◌, ◌-◌, ◌*◌, ◌^◌, ◌<◌, ◌≤◌, Bool, true, false, List, [], ◌∷◌, ◌++◌, length, take, drop, replicate, get_or, refl, sym, ap, subst, ◌∙◌, arith, length-append, append_assoc, if◌then◌else◌}
+use Rattle.std.proofs.Common.{◌≡◌, ℕ, zero, suc, ◌+◌, ◌-◌, ◌*◌, ◌^◌, ◌<◌, ◌≤◌, Bool, true, false, List, [], ◌∷◌, ◌++◌, length, take, drop, replicate, get_or, refl, sym, ap, subst, ◌∙◌, arith, length-append, append_assoc, append-nil, if◌then◌else◌}
 use Rattle.std.proofs.Math.Nat.{min-le_left, pow-suc, one-le-pow, pow-le-pow_right}
 use Rattle.std.proofs.lemmas.List.{drop-drop, length-take, length-replicate}
 use Rattle.dn_radix.specs.Tree.{is_zero, pieces, pages_of, entries, trees, room, page_count, tree}
@@ -204,6 +204,12 @@ tree_next level at ws = refl
 pub tree_last : (at : ℕ) (ws : List ℕ) → tree 0 at ws ≡ ws ++ replicate (512 - length ws) 0
 unfolding tree
 tree_last at ws = refl
+
+-- the page of 512 words
+pub tree_whole : (at : ℕ) (ws : List ℕ) → length ws ≡ 512 → tree 0 at ws ≡ ws
+tree_whole at ws l =
+    let none : 512 - length ws ≡ 0 = omega (arith, l) in
+    tree_last at ws ∙ ap (λ n. ws ++ replicate {A = ℕ} n 0) none ∙ append-nil ws
 
 pub page_some : (level : ℕ) (ws : List ℕ) → 1 ≤ page_count level ws
 unfolding page_count

@@ -2,9 +2,10 @@
 use Rattle.std.proofs.Common.{◌≡◌, ℕ, suc, ◌+◌, ◌-◌, ◌*◌, ◌/◌, ◌%◌, ◌<◌, ◌≤◌, Bool, true, false, not, ◌||◌, List, [], ◌∷◌, ◌++◌, length, take, drop, Ok, Err, Result, sym, ap, ◌∙◌, arith, append_assoc, if◌then◌else◌}
 use Rattle.std.specs.Prelude.{◌==◌, nat_lt}
 use Rattle.std.proofs.lemmas.Bool.{ne_eqb, ltb-false}
-use Rattle.dn_radix.specs.Tree.{is_zero, pieces, pages_of, entries, trees, room, page_count, tree}
+use Rattle.dn_radix.specs.Tree.{is_zero, pieces, pages_of, entries, trees, room, page_count, tree, word_bytes}
 use Rattle.dn_radix.specs.Found.{word_at, is_bad, followed, found}
-use Rattle.dn_radix.proofs.Pieces.{no_pieces, pieces_first, pieces_next, pages_zero, pages_more, entries_zero, entries_more, trees_zero, trees_more, page_count_next, tree_next}
+use Rattle.dn_radix.proofs.Pieces.{no_pieces, pieces_first, pieces_next, pages_zero, pages_more, entries_zero, entries_more, trees_zero, trees_more, page_count_next, tree_next, tree_whole}
+use Rattle.dn_radix.proofs.Words.{bytes_both}
 
 -- a level that is not the lowest is one above another
 above : (level : ℕ) → (level ≡ 0 → ⊥) → level ≡ suc (level - 1)
@@ -56,19 +57,29 @@ entries_take f n size k next ws part out out' whole l e z o h =
     ∙ ap (λ (r : List ℕ). out ++ r) (sym (ap (entries f next) (here n size k ws part l e) ∙ entries_more f next part rest z))
     ∙ h
 
-pub trees_pass : (f : List ℕ → ℕ) (made : ℕ → List ℕ → List ℕ) (n size k next : ℕ) (ws part out whole : List ℕ) → k < n → part ≡ take size (drop (k * size) ws) → is_zero part ≡ true → out ++ trees f made next (pieces (n - k) size (drop (k * size) ws)) ≡ whole → out ++ trees f made next (pieces (n - (k + 1)) size (drop ((k + 1) * size) ws)) ≡ whole
+pub trees_pass : (f : List ℕ → ℕ) (made : ℕ → List ℕ → List ℕ) (n size k next : ℕ) (ws part out whole : List ℕ) → k < n → part ≡ take size (drop (k * size) ws) → is_zero part ≡ true → out ++ word_bytes (trees f made next (pieces (n - k) size (drop (k * size) ws))) ≡ whole → out ++ word_bytes (trees f made next (pieces (n - (k + 1)) size (drop ((k + 1) * size) ws))) ≡ whole
 trees_pass f made n size k next ws part out whole l e z h =
     let rest : List (List ℕ) = pieces (n - (k + 1)) size (drop ((k + 1) * size) ws) in
-    ap (λ (r : List ℕ). out ++ r) (sym (ap (trees f made next) (here n size k ws part l e) ∙ trees_zero f made next part rest z))
+    ap (λ (r : List ℕ). out ++ word_bytes r) (sym (ap (trees f made next) (here n size k ws part l e) ∙ trees_zero f made next part rest z))
     ∙ h
 
-pub trees_take : (f : List ℕ → ℕ) (made : ℕ → List ℕ → List ℕ) (n size k next : ℕ) (ws part out out' whole : List ℕ) → k < n → part ≡ take size (drop (k * size) ws) → is_zero part ≡ false → out' ≡ out ++ made next part → out ++ trees f made next (pieces (n - k) size (drop (k * size) ws)) ≡ whole → out' ++ trees f made (next + f part) (pieces (n - (k + 1)) size (drop ((k + 1) * size) ws)) ≡ whole
+pub trees_take : (f : List ℕ → ℕ) (made : ℕ → List ℕ → List ℕ) (n size k next : ℕ) (ws part out out' whole : List ℕ) → k < n → part ≡ take size (drop (k * size) ws) → is_zero part ≡ false → out' ≡ out ++ word_bytes (made next part) → out ++ word_bytes (trees f made next (pieces (n - k) size (drop (k * size) ws))) ≡ whole → out' ++ word_bytes (trees f made (next + f part) (pieces (n - (k + 1)) size (drop ((k + 1) * size) ws))) ≡ whole
 trees_take f made n size k next ws part out out' whole l e z o h =
     let rest : List (List ℕ) = pieces (n - (k + 1)) size (drop ((k + 1) * size) ws) in
-    ap (λ (r : List ℕ). r ++ trees f made (next + f part) rest) o
-    ∙ append_assoc out (made next part) (trees f made (next + f part) rest)
-    ∙ ap (λ (r : List ℕ). out ++ r) (sym (ap (trees f made next) (here n size k ws part l e) ∙ trees_more f made next part rest z))
+    ap (λ (r : List ℕ). r ++ word_bytes (trees f made (next + f part) rest)) o
+    ∙ append_assoc out (word_bytes (made next part)) (word_bytes (trees f made (next + f part) rest))
+    ∙ ap (λ (r : List ℕ). out ++ r) (sym (bytes_both (made next part) (trees f made (next + f part) rest)))
+    ∙ ap (λ (r : List ℕ). out ++ word_bytes r) (sym (ap (trees f made next) (here n size k ws part l e) ∙ trees_more f made next part rest z))
     ∙ h
+
+-- the page of the entries, and then the trees
+pub begun : (out out' es given ts' ts whole : List ℕ) → given ≡ es → length es ≡ 512 → ((at : ℕ) → out' ≡ out ++ word_bytes (tree 0 at given)) → ts' ≡ ts → whole ≡ es ++ ts → out' ++ word_bytes ts' ≡ out ++ word_bytes whole
+begun out out' es given ts' ts whole g l o t w =
+    ap (λ (r : List ℕ). r ++ word_bytes ts') (o 0 ∙ ap (λ (r : List ℕ). out ++ word_bytes (tree 0 0 r)) g ∙ ap (λ (r : List ℕ). out ++ word_bytes r) (tree_whole 0 es l))
+    ∙ append_assoc out (word_bytes es) (word_bytes ts')
+    ∙ ap (λ (r : List ℕ). out ++ (word_bytes es ++ word_bytes r)) t
+    ∙ ap (λ (r : List ℕ). out ++ r) (sym (bytes_both es ts))
+    ∙ ap (λ (r : List ℕ). out ++ word_bytes r) (sym w)
 
 -- no piece is left
 pub none_left : (n k size : ℕ) (ws : List ℕ) → n ≤ k → pieces (n - k) size ws ≡ []

@@ -1,6 +1,7 @@
 -- Words in their bytes.
-use Rattle.std.proofs.Common.{◌≡◌, ℕ, zero, suc, ◌+◌, ◌*◌, ◌^◌, ◌<◌, List, [], ◌∷◌, ◌++◌, length, drop, get_or, refl, sym, ap, ◌∙◌, arith, length-append}
+use Rattle.std.proofs.Common.{◌≡◌, ℕ, zero, suc, ◌+◌, ◌*◌, ◌^◌, ◌<◌, List, [], ◌∷◌, ◌++◌, length, drop, get_or, replicate, refl, sym, ap, ◌∙◌, arith, length-append}
 use Rattle.std.proofs.lemmas.List.{drop-drop, drop_at}
+use Rattle.std.proofs.lemmas.Grind.{flat_map-append}
 use Rattle.byteorder.specs.Endian.{little_number, little_bytes}
 use Rattle.byteorder.specs.Numbers.{little_number-reads_back, length-bytes_low_first}
 use Rattle.dn_radix.specs.Tree.{word_bytes}
@@ -13,6 +14,17 @@ length_words (w ∷ ws) =
     let b : length (little_bytes 8 w) ≡ 8 = length-bytes_low_first 0 8 w in
     let ih = length_words ws in
     omega arith
+
+-- the bytes of two lists
+pub bytes_both : (ws vs : List ℕ) → word_bytes (ws ++ vs) ≡ word_bytes ws ++ word_bytes vs
+bytes_both ws vs = flat_map-append (little_bytes 8) ws vs
+
+-- the bytes of zeros
+pub bytes_of_zeros : (n : ℕ) → word_bytes (replicate {A = ℕ} n 0) ≡ replicate {A = ℕ} (8 * n) 0
+bytes_of_zeros zero = refl
+bytes_of_zeros (suc n) =
+    let e : suc (suc (suc (suc (suc (suc (suc (suc (8 * n)))))))) ≡ 8 * suc n = omega arith in
+    ap (λ (l : List ℕ). little_bytes 8 0 ++ l) (bytes_of_zeros n) ∙ ap (λ m. replicate {A = ℕ} m 0) e
 
 -- a word is read at its place
 pub word_there : (ws : List ℕ) (k place : ℕ) → k < length ws → get_or ws k 0 < 2 ^ 64 → place ≡ 8 * k → word_at (word_bytes ws) place ≡ get_or ws k 0

@@ -26,7 +26,7 @@ pub fn build(alloc: Global, words: &[u64], pool: u64) -> Result<Vec<u8>, RadixFa
     if u64::from(need) > pool {
         return Err(RadixFault::Pool { need });
     }
-    tree_of(alloc, words).or(Err(RadixFault::OutOfMemory))
+    tree_of(alloc, words, 4096 * need as usize).or(Err(RadixFault::OutOfMemory))
 }
 
 /// Whether each of the words is 0.
@@ -95,83 +95,88 @@ fn count_pages(level: u32, words: &[u64]) -> u32
 }
 
 /// Appends the tree of words, whose first page is of this number. It calls itself as deep as there are levels.
-fn push_tree(out: &mut Vec<u64>, level: u32, at: u32, words: &[u64]) -> Result<(), OutOfMemory>
+fn push_tree(
+    alloc: Global,
+    out: &mut Vec<u8>,
+    level: u32,
+    at: u32,
+    words: &[u64],
+) -> Result<(), OutOfMemory>
     requires level { level ≤ 2 }
+    requires fits { length words.now ≤ room level }
     requires few { at + page_count level words.now ≤ 2 ^ 24 }
-    ensures { OnOk result (out.new.items ≡ out.old.items ++ tree level at words.now) }
+    ensures { OnOk result (out.new.items ≡ out.old.items ++ word_bytes (tree level at words.now)) }
 {
     if level == 0 {
         return push_page(out, words);
     }
     let below = level - 1;
-    push_entries(out, below, at + 1, words)?;
+    let entries = entries_of(alloc, below, at + 1, words)?;
+    push_page(out, entries.as_slice())?;
     let mut next = at + 1;
     for k in 0..512 {
         let part = piece(words, below, k);
         if !is_zero(part) {
-            push_tree(out, below, next, part)?;
+            push_tree(alloc, out, below, next, part)?;
             next += count_pages(below, part);
         }
     }
     Ok(())
 }
 
-/// Appends words, and 0 after them up to a page.
-fn push_page(out: &mut Vec<u64>, words: &[u64]) -> Result<(), OutOfMemory>
-    ensures { OnOk result ((at : ℕ) → out.new.items ≡ out.old.items ++ tree 0 at words.now) }
+/// Appends a page: the bytes of words, and 0 after them.
+fn push_page(out: &mut Vec<u8>, words: &[u64]) -> Result<(), OutOfMemory>
+    requires { length words.now ≤ 512 }
+    ensures { OnOk result ((at : ℕ) → out.new.items
+        ≡ out.old.items ++ word_bytes (tree 0 at words.now)) }
 {
-    out.extend_from_slice(words)?;
+    push_words(out, words)?;
     for place in words.len()..512 {
-        out.push(0)?;
+        out.extend_from_slice(&[0u8; 8])?;
     }
     Ok(())
 }
 
-/// Appends the entries of the pieces of words, whose trees stand from a page on.
-fn push_entries(
-    out: &mut Vec<u64>,
-    below: u32,
-    first: u32,
-    words: &[u64],
-) -> Result<(), OutOfMemory>
+/// Appends the bytes of words, the lowest byte of each first.
+fn push_words(out: &mut Vec<u8>, words: &[u64]) -> Result<(), OutOfMemory>
+    requires { length words.now ≤ 512 }
+    ensures { OnOk result (out.new.items ≡ out.old.items ++ word_bytes words.now) }
+{
+    let mut page = [0u8; 4096];
+    let size = 8 * words.len();
+    LittleEndian::write_u64_into(words, &mut page[..size]);
+    out.extend_from_slice(&page[..size])?;
+    Ok(())
+}
+
+/// The entries of the pieces of words, whose trees stand from a page on.
+fn entries_of(alloc: Global, below: u32, first: u32, words: &[u64]) -> Result<Vec<u64>, OutOfMemory>
     requires level { below ≤ 1 }
     requires few { first + pages_of (page_count below) (pieces 512 (room below) words.now)
         ≤ 2 ^ 24 }
-    ensures { OnOk result (out.new.items ≡ out.old.items
-        ++ entries (page_count below) first (pieces 512 (room below) words.now)) }
+    ensures { IfOk result (λ list. list.items
+        ≡ entries (page_count below) first (pieces 512 (room below) words.now)) }
 {
+    let mut list = Vec::with_capacity(alloc, 512)?;
     let mut next = first;
     for k in 0..512 {
         let part = piece(words, below, k);
         if is_zero(part) {
-            out.push(0)?;
+            list.push(0)?;
         } else {
-            out.push(4096 * u64::from(next) + 1)?;
+            list.push(4096 * u64::from(next) + 1)?;
             next += count_pages(below, part);
         }
     }
-    Ok(())
+    Ok(list)
 }
 
-/// The bytes of words, the lowest byte of each first.
-fn bytes_of(alloc: Global, words: &[u64]) -> Result<Vec<u8>, OutOfMemory>
-    ensures { IfOk result (λ bytes. bytes.items ≡ word_bytes words.now) }
-{
-    let mut bytes = Vec::with_capacity(alloc, words.len().saturating_mul(8))?;
-    for word in words {
-        let mut eight = [0u8; 8];
-        LittleEndian::write_u64(&mut eight, *word);
-        bytes.extend_from_slice(&eight)?;
-    }
-    Ok(bytes)
-}
-
-/// The bytes of the tree of words.
-pub(crate) fn tree_of(alloc: Global, words: &[u64]) -> Result<Vec<u8>, OutOfMemory>
+/// The bytes of the tree of words, for which there is room for so many at first.
+pub(crate) fn tree_of(alloc: Global, words: &[u64], size: usize) -> Result<Vec<u8>, OutOfMemory>
     requires { length words.now ≤ 1048576 }
     ensures { IfOk result (λ bytes. bytes.items ≡ tree_bytes words.now) }
 {
-    let mut pages = Vec::new(alloc);
-    push_tree(&mut pages, level_of(words.len()), 0, words)?;
-    bytes_of(alloc, pages.as_slice())
+    let mut bytes = Vec::with_capacity(alloc, size)?;
+    push_tree(alloc, &mut bytes, level_of(words.len()), 0, words)?;
+    Ok(bytes)
 }

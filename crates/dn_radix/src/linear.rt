@@ -26,7 +26,7 @@ pub fn linear(alloc: Global, image: &[u8], words: u32) -> Result<Vec<u64>, Linea
     }
     let list = words_in(alloc, image, words)?;
     words_fit(list.as_slice());
-    let tree = tree_of(alloc, list.as_slice()).or(Err(LinearFault::OutOfMemory))?;
+    let tree = tree_of(alloc, list.as_slice(), image.len()).or(Err(LinearFault::OutOfMemory))?;
     let same = same_bytes(tree.as_slice(), image);
     if same {
         Ok(list)

@@ -1,4 +1,4 @@
-use Rattle.std.proofs.Common.{◌≡◌, ◌-◌, ◌*◌, ◌≤◌, false, true, sym, ap, arith, rules, subst, drop}
+use Rattle.std.proofs.Common.{◌≡◌, ◌-◌, ◌*◌, false, true, ap, arith, rules, drop}
 use Rattle.dn_radix.specs.Tree.{is_zero, page_count, pages_of, room}
 use Rattle.dn_radix.proofs.Pieces.{tree_few}
 use Rattle.dn_radix.proofs.Steps.{count_first, count_begun, none_left, pages_pass, pages_take}

@@ -1,5 +1,4 @@
-use Rattle.std.proofs.Common.{◌≡◌, ◌∙◌, ◌*◌, ◌≤◌, sym, ap, subst, drop, take}
-use Rattle.dn_radix.specs.Tree.{room}
+use Rattle.std.proofs.Common.{◌∙◌, ◌*◌, ◌≤◌, sym, ap, subst, drop, take}
 use Rattle.dn_radix.proofs.Pieces.{room_small}
 use Rattle.dn_radix.proofs.build.piece.Goals as goal
 

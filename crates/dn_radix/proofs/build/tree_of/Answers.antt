@@ -1,7 +1,7 @@
-use Rattle.std.proofs.Common.{length, ap, arith}
+use Rattle.std.proofs.Common.{length, ◌≤◌, ap, sym, subst, arith}
 use Rattle.dn_radix.proofs.Pieces.{tree_few}
-use Rattle.dn_radix.proofs.Reached.{level_low}
-use Rattle.dn_radix.specs.Tree.{level_of, page_count}
+use Rattle.dn_radix.proofs.Reached.{level_low, level_room}
+use Rattle.dn_radix.specs.Tree.{level_of, page_count, room}
 use Rattle.dn_radix.proofs.build.tree_of.Goals as goal
 
 pub push_tree-requires-clause-few : goal.push_tree-requires-clause-few
@@ -9,3 +9,6 @@ push_tree-requires-clause-few c =
     let few = tree_few (level_of (length c.args.words.now)) c.args.words.now (level_low (length c.args.words.now)) in
     let e = ap (λ n. page_count n c.args.words.now) c.level_of.ensures in
     omega (arith, few, e)
+
+pub push_tree-requires-clause-fits : goal.push_tree-requires-clause-fits
+push_tree-requires-clause-fits c = subst (λ n. length c.args.words.now ≤ room n) (sym c.level_of.ensures) (level_room (length c.args.words.now) (omega (arith, c.requires)))
