@@ -1,4 +1,5 @@
 pub mod Cut
+pub mod Paged
 pub mod Pieces
 pub mod Reached
 pub mod Read

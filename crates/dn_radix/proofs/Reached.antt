@@ -22,7 +22,7 @@ word_of_zeros [] k e = refl
 word_of_zeros (w ∷ ws) zero e = grind arith
 word_of_zeros (w ∷ ws) (suc k) e = word_of_zeros ws k (and_parts (w == 0) (is_zero ws) e).1
 
-zeros : (n k : ℕ) → get_or {A = ℕ} (replicate {A = ℕ} n 0) k 0 ≡ zero
+pub zeros : (n k : ℕ) → get_or {A = ℕ} (replicate {A = ℕ} n 0) k 0 ≡ zero
 zeros zero k = refl
 zeros (suc n) zero = refl
 zeros (suc n) (suc k) = zeros n k

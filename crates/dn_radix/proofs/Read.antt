@@ -1,6 +1,5 @@
 -- What bytes that are the tree of words say.
-use Rattle.std.proofs.Common.{◌≡◌, ℕ, zero, suc, ◌+◌, ◌<◌, ◌≤◌, List, [], ◌∷◌, ◌++◌, length, take, get_or, Ok, Err, Result, refl, sym, ap, ◌∙◌, arith}
-use Rattle.std.proofs.lemmas.List.{take_more}
+use Rattle.std.proofs.Common.{◌≡◌, ℕ, zero, suc, ◌<◌, ◌≤◌, List, [], ◌∷◌, length, get_or, Ok, Result, refl, sym, ap, ◌∙◌, arith}
 use Rattle.dn_radix.specs.Tree.{level_of, tree, tree_bytes}
 use Rattle.dn_radix.specs.Found.{found}
 use Rattle.dn_radix.specs.Built.{IsTreeOf}
@@ -29,23 +28,8 @@ word_is image count at level ws r few there e t h =
     ∙ ap (λ l. found (tree_bytes ws) l at 0) (e ∙ ap level_of (sym n))
     ∙ words_are_found ws at (omega (arith, n, few)) t.small (omega (arith, n, there))
 
--- one word more
-pub word_more : (image : List ℕ) (count at level w : ℕ) (ws read read' : List ℕ) → count ≤ 1048576 → at < count → level ≡ level_of count → IsTreeOf image count ws → ◌≡◌ {A = Result ℕ ℕ} (Ok w) (found image level at 0) → read ≡ take at ws → read' ≡ read ++ w ∷ [] → read' ≡ take (at + 1) ws
-word_more image count at level w ws read read' few there e t h so_far more =
-    let n = t.count_is in
-    let same : ◌≡◌ {A = Result ℕ ℕ} (Ok w) (Ok (get_or ws at 0)) = word_is image count at level ws (Ok w) few there e t h in
-    let word : w ≡ get_or ws at 0 = cc in
-    let inside : at < length ws = omega (arith, n, there) in
-    more ∙ ap (λ (l : List ℕ). l ++ w ∷ []) so_far ∙ ap (λ v. take at ws ++ v ∷ []) word ∙ sym (take_more ws at 0 inside)
-
--- none that is not found
-pub none_bad : (image : List ℕ) (count at level b : ℕ) (ws : List ℕ) → count ≤ 1048576 → at < count → level ≡ level_of count → IsTreeOf image count ws → ◌≡◌ {A = Result ℕ ℕ} (Err b) (found image level at 0) → ⊥
-none_bad image count at level b ws few there e t h =
-    let same : ◌≡◌ {A = Result ℕ ℕ} (Err b) (Ok (get_or ws at 0)) = word_is image count at level ws (Err b) few there e t h in
-    cc
-
 -- lists of one length that have the same words at each place
-same_lists : (ws vs : List ℕ) → length ws ≡ length vs → ((i : ℕ) → i < length ws → get_or ws i 0 ≡ get_or vs i 0) → ws ≡ vs
+pub same_lists : (ws vs : List ℕ) → length ws ≡ length vs → ((i : ℕ) → i < length ws → get_or ws i 0 ≡ get_or vs i 0) → ws ≡ vs
 same_lists [] [] e same = refl
 same_lists [] (v ∷ vs) e same = absurd (omega arith)
 same_lists (w ∷ ws) [] e same = absurd (omega arith)

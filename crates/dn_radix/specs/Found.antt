@@ -1,6 +1,7 @@
 -- What is found by the entries of an image of pages, whoever made it.
-use Rattle.std.specs.Prelude.{ℕ, zero, suc, ◌+◌, ◌-◌, ◌*◌, ◌/◌, ◌%◌, Bool, if◌then◌else◌, ◌||◌, ◌==◌, not, nat_lt, List, drop, length, Result, Ok, Err}
+use Rattle.std.specs.Prelude.{◌≡◌, ℕ, zero, suc, ◌+◌, ◌-◌, ◌*◌, ◌/◌, ◌%◌, Bool, if◌then◌else◌, ◌||◌, ◌==◌, not, nat_lt, ◌<◌, List, drop, length, slice_index, Option, Some, None, Result, Ok, Err}
 use Rattle.byteorder.specs.Endian.{little_number}
+use Rattle.dn_radix.specs.declared.fault.Bad.{Bad}
 use Rattle.dn_radix.specs.Tree.{room}
 
 -- the word whose bytes begin at a place
@@ -26,3 +27,15 @@ found image zero i page = Ok (word_at image (page + 8 * i))
 found image (suc level) i page =
     followed (found image level (i % room level)) (length image) (page + 8 * (i / room level))
     (word_at image (page + 8 * (i / room level)))
+
+-- the word of a number among 512, by the page in which they stand: 0 where there is none, or the place of
+-- the bad entry on the way to it
+abbrev pub word_of_page : List ℕ → Result (Option ℕ) Bad → ℕ → Result ℕ ℕ
+word_of_page image (Err bad) i = Err bad.at
+word_of_page image (Ok None) i = Ok 0
+word_of_page image (Ok (Some page)) i = Ok (word_at image (page + 8 * i))
+
+-- so many words that stand in a page from its first on, or are 0 where there is none
+pub record AreOfPage (image : List ℕ) (page : Option ℕ) (count : ℕ) (ws : List ℕ) : Type 0 where
+  pub count_is : length ws ≡ count
+  pub words : (i : ℕ) → i < count → word_of_page image (Ok page) i ≡ Ok (slice_index ws i)
