@@ -12,9 +12,9 @@ use Rattle.dn_kind.specs.Kind.{Meaning, IsLawful}
 use Rattle.dn_kind.specs.Tables.{record_held, AreTables, record_allowing, resolved_names_under}
 use Rattle.dn_kind.specs.Cleared.{is_open_in, words_allowing}
 use Rattle.dn_kind.proofs.Allowed.{records_allowing}
-use Rattle.dn_image.specs.Reading.{BrokenImage, broken_image, image_words, version_of, reading_by, image_reading}
+use Rattle.dn_image.specs.Reading.{broken_image, image_words, version_of, reading_by, image_reading}
 use Rattle.dn_image.proofs.Sized.{image_sized, kept_sized}
-use Rattle.dn_lookup.specs.Lookup.{no_agent, no_image, image_records, lets_through, lookup_in, lookup_of, bytes_records}
+use Rattle.dn_lookup.specs.Lookup.{no_agent, image_records, lets_through, lookup_in, lookup_of, bytes_records}
 
 -- the record, where the code lets the access through
 abbrev pub record_through : ℕ → Access → Option Record → Option Record
@@ -78,23 +78,3 @@ looked_up net kinds bytes access x version names agent whole same found =
 pub answer_looked_up : {E : Type 0} (net : List NodeDecl) (kinds : List Meaning) (bytes : List ℕ) (access : Access) (x : Name) (version : ℕ) (r : Result (List Name) E) → is_agent_at (slice_get net x.node) ≡ true → broken_image net kinds bytes ≡ None → version ≡ version_of bytes → IfOk r (λ names. names ≡ resolved_names_under net (bytes_records net kinds bytes version access) x) → IfOk r (λ names. lookup_of net kinds bytes access x ≡ Ok names)
 answer_looked_up net kinds bytes access x version (Ok names) agent whole same found = looked_up net kinds bytes access x version names agent whole same found
 answer_looked_up net kinds bytes access x version (Err e) agent whole same found = tt
-
--- a lookup in bytes that are none
-pub no_image_there : (net : List NodeDecl) (kinds : List Meaning) (bytes : List ℕ) (access : Access) (x : Name) (b : BrokenImage) (o : Option BrokenImage) → is_agent_at (slice_get net x.node) ≡ true → broken_image net kinds bytes ≡ o → reading_by o (version_of bytes) ≡ Err b → lookup_of net kinds bytes access x ≡ Err (no_image b)
-no_image_there net kinds bytes access x b None agent eo e = cc
-no_image_there net kinds bytes access x b (Some d) agent eo e =
-    ap (λ c. if c then lookup_in net kinds access x (image_reading net kinds bytes) else Err no_agent) agent
-    ∙ ap (λ o. lookup_in net kinds access x (reading_by o (record { version = version_of bytes; words = image_words net kinds bytes }))) eo
-    ∙ ap (λ c. Err (no_image c)) (same_err d b e)
-  where
-    same_err : (c d : BrokenImage) → ◌≡◌ {A = Result ℕ BrokenImage} (Err c) (Err d) → c ≡ d
-    same_err c d f = cc
-
--- bytes that are read are an image, and of the version that is read
-pub is_whole : (o : Option BrokenImage) (n version : ℕ) → reading_by o n ≡ Ok version → o ≡ None
-is_whole None n version e = refl
-is_whole (Some b) n version e = cc
-
-pub is_of_version : (o : Option BrokenImage) (n version : ℕ) → reading_by o n ≡ Ok version → version ≡ n
-is_of_version None n version e = cc
-is_of_version (Some b) n version e = cc
