@@ -1,5 +1,6 @@
 pub mod Added
 pub mod Agents
+pub mod Alike
 pub mod Alone
 pub mod Buffers
 pub mod Courses

@@ -94,21 +94,25 @@ module _ (net : List NodeDecl) (legal : IsLegalNet net) (flats : FlatsView) (are
   stop_given : (w v : Name) → w.node < length flats.nodes → StopsAt net w v → levels_give (stops_of flats w.node) w.addr (end_of v) ≡ true
   stop_given w v l st = (node_stops net flats are w.node l (levels_give (stops_of flats w.node) w.addr (end_of v)) w.addr (end_of v) (stop_low net w v st) refl).1 st
 
+  -- what a name is sent to in a unit that leads on to no units has no stop
+  pub no_stop_after : (g : Held) (t w v : Name) → leads_to_units flats (unit_at net t.node) ≡ false → Member w (outputs net g t) → StopsAt net w v → ⊥
+  no_stop_after g t w v none m st = by (unit_at net t.node) refl none m
+    where
+      by : (o : Option UnitPart) → unit_at net t.node ≡ o → leads_to_units flats o ≡ false → Member w (outputs_by g t o) → ⊥
+      by None e f m = absurd m
+      by (Some u) e f m =
+          let at = by_port g t w u m in
+          let given = stop_given w v (port_there t u at.0 w.node e at.1) st in
+          absurd (false≢true (sym (none_at (λ port. list_any has_rows (stops_of flats port)) u.ports at.0 w.node f at.1) ∙ layer_given (stops_of flats w.node) w.addr (end_of v) given))
+
   -- what goes on to no units comes to a name newly by the record of its own slot
   own_slot : (n : ℕ) (t z : Name) → leads_to_units flats (unit_at net t.node) ≡ false → Newly net (allowing access h) fresh joined n t z → (w : Name) × Member w (outputs_by fresh t (unit_at net t.node))
   own_slot zero t z none k = absurd k
   own_slot (suc n) t z none k = by k
     where
-      not_on : (w v : Name) (o : Option UnitPart) → unit_at net t.node ≡ o → leads_to_units flats o ≡ false → Member w (outputs_by (allowing access h) t o) → StopsAt net w v → ⊥
-      not_on w v None e f m st = absurd m
-      not_on w v (Some u) e f m st =
-          let at = by_port (allowing access h) t w u m in
-          let given = stop_given w v (port_there t u at.0 w.node e at.1) st in
-          absurd (false≢true (sym (none_at (λ port. list_any has_rows (stops_of flats port)) u.ports at.0 w.node f at.1) ∙ layer_given (stops_of flats w.node) w.addr (end_of v) given))
-
       by : Newly net (allowing access h) fresh joined (suc n) t z → (w : Name) × Member w (outputs_by fresh t (unit_at net t.node))
       by (inl m) = (m.0, m.1)
-      by (inr m) = absurd (not_on m.0 m.2.0 (unit_at net t.node) refl none m.1 m.2.1)
+      by (inr m) = absurd (no_stop_after (allowing access h) t m.0 m.2.0 none m.1 m.2.1)
 
   pub by_own_slot : (t z : Name) → leads_to_units flats (unit_at net t.node) ≡ false → ComesNewly net (allowing access h) fresh (allowing access (joined_records h added)) t z → (w : Name) × Member w (outputs_by fresh t (unit_at net t.node))
   unfolding ComesNewly

@@ -4,6 +4,7 @@ use Rattle.dn_interval.specs.declared.span.TheConstants.{TOP}
 use Rattle.dn_net.specs.declared.node.Name.{Name}
 use Rattle.dn_kind.specs.Kind.{Meaning}
 use Rattle.dn_kind.specs.Kinded.{kinds_of}
+use Rattle.dn_kind.specs.declared.rights.Access.TheVariants.{Read}
 use Rattle.dn_kind.specs.Tables.{Held}
 use Rattle.dn_tables.specs.Set.{FitsNet, record_kept}
 use Rattle.dn_view.specs.declared.course.Course.{Course}
@@ -42,7 +43,17 @@ abbrev pub IsExactIn : {K : Type 0} {V : K → Type 0} → ((k : K) × V k → M
 IsExactIn means trial node =
     IsExactAt trial.system.on.net.now (trial_records means trial) trial.request.now trial.placement.now trial.access node
 
--- so do those of every agent
+-- the trial for reading
+abbrev pub reading : {K : Type 0} {V : K → Type 0} → Trial K V → Trial K V
+reading trial = record {
+  system = trial.system;
+  tables = trial.tables;
+  request = trial.request;
+  placement = trial.placement;
+  access = Read;
+}
+
+-- the addresses of every agent show newly in a trial exactly what is asked for
 abbrev pub AreExactIn : {K : Type 0} {V : K → Type 0} → ((k : K) × V k → Meaning) → Trial K V → Type 0
 AreExactIn means trial =
     AreExact trial.system.on.net.now (trial_records means trial) trial.request.now trial.placement.now trial.access

@@ -10,7 +10,7 @@ ghost use Rattle.dn_kind.specs.Terms.{allows, are_rights, kinds_of};
 ghost use Rattle.dn_tables.specs.Terms.{FitsNet, record_kept};
 ghost use Rattle.dn_placement.specs.Terms.{IsAdmissible, IsPlacement, slots_of_set};
 ghost use Rattle.dn_walk.specs.Terms.{name_of_end};
-ghost use Rattle.dn_view.specs.Terms.{AreExactIn, ComesIn, IsAskedAt, IsExactIn, IsPassedIn, IsSystem, IsTrial, are_buffer, is_buffer_end, is_buffer_row, is_part_of_buffer};
+ghost use Rattle.dn_view.specs.Terms.{AreExactIn, ComesIn, IsAskedAt, IsExactIn, IsPassedIn, IsSystem, IsTrial, are_buffer, is_buffer_end, is_buffer_row, is_part_of_buffer, reading};
 
 use crate::OutOfMemory;
 use crate::course::Course;
@@ -22,7 +22,7 @@ use crate::records::Records;
 use crate::shown::{UNITS, passed_stops, push_through};
 use crate::system::System;
 use crate::trial::Trial;
-use crate::untouched::is_untouched;
+use crate::untouched::{is_alike, is_untouched};
 use dn_interval::{End, Row, Rows, Seg};
 use dn_kind::rights::Access;
 use dn_placement::request::Request;
@@ -60,28 +60,30 @@ pub fn exact<'a>(
         placement,
         access: read,
     };
-    let reads = exact_for(alloc, trial)?;
+    let reads = exact_for(alloc, trial, false)?;
     if !reads {
         return Ok(false);
     }
     let access = write;
-    exact_for(alloc, Trial { access, ..trial })
+    exact_for(alloc, Trial { access, ..trial }, true)
 }
 
 /// Whether every agent shows newly in a trial exactly what is asked for. The request's agent is looked
-/// at first, since most placements that show more show it there.
-fn exact_for(alloc: Global, trial: Trial) -> Result<bool, OutOfMemory>
-    requires { IsTrial meaning trial }
+/// at first, since most placements that show more show it there. It may be known that every agent does so for
+/// reading: then those are passed over that show the same for writing.
+fn exact_for(alloc: Global, trial: Trial, is_read: bool) -> Result<bool, OutOfMemory>
+    requires trial { IsTrial meaning trial }
+    requires reading { IsTrue is_read → AreExactIn meaning (reading trial) }
     ensures { IfOk result (λ is_exact. IsTrue is_exact ↔ AreExactIn meaning trial.entry) }
 {
     let own = trial.request.agent;
-    let first = exact_at(alloc, trial, own)?;
+    let first = exact_at(alloc, trial, own, is_read)?;
     if !first {
         return Ok(false);
     }
     for node in 0..trial.system.on.net.nodes() {
         if node != own {
-            let other = exact_at(alloc, trial, node)?;
+            let other = exact_at(alloc, trial, node, is_read)?;
             if !other {
                 return Ok(false);
             }
@@ -90,9 +92,12 @@ fn exact_for(alloc: Global, trial: Trial) -> Result<bool, OutOfMemory>
     Ok(true)
 }
 
-/// Whether a node is no agent, or shows newly in a trial exactly what is asked for.
-fn exact_at(alloc: Global, trial: Trial, node: u16) -> Result<bool, OutOfMemory>
-    requires { IsTrial meaning trial }
+/// Whether a node is no agent, or shows newly in a trial exactly what is asked for. It may be known that it does so for
+/// reading.
+fn exact_at(alloc: Global, trial: Trial, node: u16, is_read: bool) -> Result<bool, OutOfMemory>
+    requires trial { IsTrial meaning trial }
+    requires reading { IsTrue is_read → IsTrue (is_agent_at
+        (slice_get trial.system.on.net.now node)) → IsExactIn meaning (reading trial) node }
     ensures { IfOk result (λ is_exact. IsTrue is_exact ↔ (IsTrue (is_agent_at
         (slice_get trial.entry.system.on.net.now node)) → IsExactIn meaning trial.entry node)) }
 {
@@ -101,6 +106,11 @@ fn exact_at(alloc: Global, trial: Trial, node: u16) -> Result<bool, OutOfMemory>
     }
     if is_untouched(trial, node) {
         return Ok(true);
+    }
+    if is_read {
+        if is_alike(trial, node) {
+            return Ok(true);
+        }
     }
     let stops = met_stops(alloc, trial, node)?;
     let shown = newly_shown(alloc, trial, stops)?;

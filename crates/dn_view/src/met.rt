@@ -47,7 +47,7 @@ pub(crate) fn met_stops(alloc: Global, trial: Trial, node: u16) -> Result<Vec<Se
 }
 
 /// Whether one of the nodes is a unit with a port whose node leads to units.
-fn some_lead_on(system: System, nodes: &[u16]) -> bool
+pub(crate) fn some_lead_on(system: System, nodes: &[u16]) -> bool
     requires { IsSystem meaning system }
     ensures { result ≡ list_any (leads_on system.entry.on.net.now system.entry.flats.now) nodes.now }
 {

@@ -2,16 +2,19 @@
 
 ghost use Rattle.std.specs.Prelude.{◌≡◌, ◌<◌, length, IsTrue};
 ghost use Rattle.dn_net.specs.Terms.{unit_at};
-ghost use Rattle.dn_kind.specs.Terms.{Held};
+ghost use Rattle.dn_kind.specs.declared.rights.Access.{Access};
+ghost use Rattle.dn_kind.specs.Terms.{Held, both_rights};
 ghost use Rattle.dn_view.specs.Terms.{IsExactAt, IsSystem, IsTrial, can_meet, has_hop, leads_to_units};
 ghost use Rattle.dn_view.specs.declared.part.FlatPart.TheVariants.{Stops};
 ghost use Rattle.std.specs.List.{list_any};
 
 use crate::exact::is_asked;
+use crate::met::some_lead_on;
 use crate::part::FlatPart;
 use crate::pass::{leads_on, unit_of};
 use crate::system::System;
 use crate::trial::Trial;
+use dn_kind::rights::Rights;
 use dn_tables::placement::Placement;
 
 /// Whether nothing is asked for at a node, and no name to which the node leads can come to a hop of the
@@ -51,6 +54,29 @@ fn can_meet(trial: Trial, node: u16) -> bool
         trial.entry.system.flats.now trial.entry.placement.now.hops node }
 {
     has_hop(trial.placement, node) || leads_to_units(trial.system, node)
+}
+
+/// Whether a node is known to show newly for each access the same: each record that is added has both rights, and no unit
+/// to which the node leads goes on to units.
+pub(crate) fn is_alike(trial: Trial, node: u16) -> bool
+    requires trial { IsTrial meaning trial }
+    requires there { node < length trial.system.flats.now.nodes }
+    ensures { IsTrue result → (h : Held) (a b : Access) → IsExactAt trial.entry.system.on.net.now
+        h trial.entry.request.now trial.entry.placement.now a node → IsExactAt
+        trial.entry.system.on.net.now h trial.entry.request.now trial.entry.placement.now b node }
+{
+    if !has_both(trial.request.rights) {
+        return false;
+    }
+    let units = trial.system.flats.of(node).units.as_slice();
+    !some_lead_on(trial.system, units)
+}
+
+/// Whether the rights are reading and writing.
+fn has_both(rights: Rights) -> bool
+    ensures { IsTrue result → rights ≡ both_rights }
+{
+    rights == Rights::both()
 }
 
 /// Whether one of the hops stands in the node.

@@ -22,8 +22,8 @@ use Rattle.dn_view.proofs.exact.exact_at.Goals as goal
 -- what is shown newly is what is added
 added : (g : Over) (c : In_ok-shown g) (a : ℕ) (z : End) → a ≤ TOP → (segs_give c.in_ok-shown.shown.items a z ≡ true) ↔ IsAdded c.args.trial.system.on.net.now (trial_records (λ k. (goal.UnitKind-dyn g k).meaning k.1) c.args.trial) c.args.trial.request.now c.args.trial.placement.now c.args.trial.access (record { node = c.args.node; addr = a }) (name_of_end z)
 added g c =
-    let there : c.args.node < length c.args.trial.system.flats.now.nodes = subst (λ n. c.args.node < n) (sym c.requires.system.flat.every) (agent_there c.args.trial.system.on.net.now c.args.node (sym c.if-not-is_agent.ensures)) in
-    added_is c.args.trial.system.on.net.now (trial_records (λ k. (goal.UnitKind-dyn g k).meaning k.1) c.args.trial) c.args.trial.request.now c.args.trial.placement.now c.args.trial.access c.args.node c.args.trial.system.flats.now c.requires.system.flat there c.in_ok-stops.stops.items c.in_ok-shown.shown.items c.in_ok-stops.ensures.given c.in_ok-stops.ensures.met c.in_ok-shown.ensures
+    let there : c.args.node < length c.args.trial.system.flats.now.nodes = subst (λ n. c.args.node < n) (sym c.requires.trial.system.flat.every) (agent_there c.args.trial.system.on.net.now c.args.node (sym c.if-not-is_agent.ensures)) in
+    added_is c.args.trial.system.on.net.now (trial_records (λ k. (goal.UnitKind-dyn g k).meaning k.1) c.args.trial) c.args.trial.request.now c.args.trial.placement.now c.args.trial.access c.args.node c.args.trial.system.flats.now c.requires.trial.system.flat there c.in_ok-stops.stops.items c.in_ok-shown.shown.items c.in_ok-stops.ensures.given c.in_ok-stops.ensures.met c.in_ok-shown.ensures
 
 pub returns-then-not-is_agent : goal.returns-then-not-is_agent
 returns-then-not-is_agent g c =
