@@ -16,6 +16,7 @@ pub mod Onwards
 pub mod Pages
 pub mod Passed
 pub mod Rounds
+pub mod Runs
 pub mod Single
 pub mod Taken
 pub mod Unmet

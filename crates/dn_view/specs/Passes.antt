@@ -1,5 +1,5 @@
 -- What segments of names in units come to through one slot each.
-use Rattle.std.specs.Prelude.{ℕ, ◌+◌, ◌-◌, ◌/◌, ◌^◌, Bool, ◌&&◌, nat_eq, nat_lt, List, [], length, slice_get, Option, Some, None}
+use Rattle.std.specs.Prelude.{ℕ, ◌+◌, ◌-◌, ◌/◌, ◌^◌, ◌<◌, Bool, false, ◌&&◌, nat_eq, nat_lt, List, [], length, slice_get, Option, Some, None, IfSome}
 use Rattle.std.specs.List.{list_any}
 use Rattle.dn_interval.specs.declared.row.End.{End}
 use Rattle.dn_interval.specs.declared.row.Row.{Row}
@@ -11,7 +11,7 @@ use Rattle.dn_net.specs.declared.node.Unit.{Unit as UnitPart}
 use Rattle.dn_net.specs.Decode.{unit_at}
 use Rattle.dn_kind.specs.Tables.{Held, output}
 use Rattle.dn_flat.specs.Levels.{FlatsView, levels_give, reached_of, shows, stops_in}
-use Rattle.dn_flat.specs.Onward.{has_rows}
+use Rattle.dn_flat.specs.Onward.{has_rows, seg_leads}
 use Rattle.dn_view.specs.declared.part.FlatPart.{FlatPart}
 use Rattle.dn_view.specs.declared.part.FlatPart.TheVariants.{Accepts, Stops}
 
@@ -53,6 +53,15 @@ seg_passes net h next s a z = in_span s.span a && names_go next (outputs net h (
 -- the name of an address of one of the segments does
 abbrev pub segs_pass : List NodeDecl → Held → (ℕ → ℕ → End → Bool) → List Seg → ℕ → End → Bool
 segs_pass net h next segs a z = list_any (λ s. seg_passes net h next s a z) segs
+
+-- what a run of names comes to that is still to be followed, where there is one
+abbrev pub run_leads : (ℕ → ℕ → End → Bool) → Option Seg → ℕ → End → Bool
+run_leads next None a z = false
+run_leads next (Some s) a z = seg_leads next s a z
+
+-- the node of the run is there
+abbrev pub IsRun : FlatsView → Option Seg → Type 0
+IsRun flats run = IfSome run (λ s. s.node < length flats.nodes)
 
 -- the name of an address of the segment stands in the slot
 abbrev pub in_slot : ℕ → ℕ → Seg → ℕ → Bool

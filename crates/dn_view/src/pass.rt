@@ -1,14 +1,14 @@
 //! Passes through units: what segments of names in units come to through one slot each.
 
-ghost use Rattle.std.specs.Prelude.{◌≡◌, ℕ, ◌+◌, ◌-◌, ◌*◌, ◌/◌, ◌%◌, ◌^◌, ◌<◌, ◌≤◌, ◌&&◌, ◌||◌, nat_lt, length, slice_get, Some, None, OnOk, IsTrue};
+ghost use Rattle.std.specs.Prelude.{◌≡◌, ℕ, ◌+◌, ◌-◌, ◌*◌, ◌/◌, ◌%◌, ◌^◌, ◌<◌, ◌≤◌, ◌&&◌, ◌||◌, nat_lt, length, slice_get, Bool, Some, None, IfOk, IfSome, OnOk, IsTrue};
 ghost use Rattle.std.specs.List.{list_all, list_any};
 ghost use Rattle.std.specs.Option.{option_copied};
 ghost use Rattle.dn_interval.specs.declared.row.End.{End};
 ghost use Rattle.dn_interval.specs.Terms.{in_span, segs_give};
 ghost use Rattle.dn_net.specs.Terms.{unit_at};
 ghost use Rattle.dn_kind.specs.Terms.{is_plain_unit_shape, is_within, unit_shape};
-ghost use Rattle.dn_flat.specs.Terms.{has_rows};
-ghost use Rattle.dn_view.specs.Terms.{IsCourse, course_records, in_slot, names_go, outputs, part_gives, part_leads, seg_name, seg_passes, segs_pass, stops_of};
+ghost use Rattle.dn_flat.specs.Terms.{has_rows, seg_leads};
+ghost use Rattle.dn_view.specs.Terms.{IsCourse, IsRun, course_records, in_slot, names_go, outputs, part_gives, part_leads, run_leads, seg_name, seg_passes, segs_pass, stops_of};
 
 use crate::OutOfMemory;
 use crate::course::Course;
@@ -16,7 +16,7 @@ use crate::part::FlatPart;
 use crate::range::{held_end, slot_range};
 use crate::records::record_for;
 use dn_flat::flats::Flats;
-use dn_interval::onward::cut;
+use dn_interval::onward::{cut, last_out};
 use dn_interval::{End, Rows, Seg, Span};
 use dn_kind::output::output_name;
 use dn_kind::unit_kind::Record;
@@ -70,13 +70,15 @@ fn pass_seg(
     };
     let end = held_end(course.system, course.tables, seg.node, unit);
     let range = slot_range(checked, course.records, unit, seg, end);
+    let mut run = None;
     for slot in range.0..range.1 {
-        pass_slot(out, mid, course, part, unit, seg, slot)?;
+        run = pass_slot(out, mid, course, part, unit, seg, slot, run)?;
     }
-    Ok(())
+    push_run(out, mid, course.system.flats, part, run)
 }
 
-/// Adds what the names of a segment come to through one slot.
+/// Adds what the names of a segment come to through one slot, and what a run comes to: but for those of a run that is
+/// answered, with which the next slot may go on.
 fn pass_slot(
     out: &mut Vec<Seg>,
     mid: &mut Vec<Seg>,
@@ -85,29 +87,103 @@ fn pass_slot(
     unit: &Unit,
     seg: Seg,
     slot: u64,
-) -> Result<(), OutOfMemory>
+    run: Option<Seg>,
+) -> Result<Option<Seg>, OutOfMemory>
     requires course { IsCourse meaning course }
     requires unit { unit_at course.system.on.net.now seg.node ≡ Some unit.now }
     requires there { slot < unit.now.slots }
     requires begins { seg.base / 2 ^ unit.now.page ≤ slot }
     requires ends { slot ≤ (seg.base + (seg.span.hi - seg.span.lo)) / 2 ^ unit.now.page }
-    ensures { OnOk result ((a : ℕ) (z : End) → segs_give out.new.items a z
-        ≡ (segs_give out.old.items a z || (in_slot unit.now.page slot seg a && names_go
+    requires run { IsRun course.system.flats.now run }
+    ensures run { IfOk result (λ next. IsRun course.entry.system.flats.now next) }
+    ensures given { IfOk result (λ next. (a : ℕ) (z : End) → (segs_give out.new.items a z
+        || run_leads (part_gives part course.entry.system.flats.now) next a z)
+        ≡ ((segs_give out.old.items a z
+        || run_leads (part_gives part course.entry.system.flats.now) run a z)
+        || (in_slot unit.now.page slot seg a && names_go
         (part_gives part course.entry.system.flats.now) (outputs course.entry.system.on.net.now
         (course_records meaning course.entry) (seg_name seg a)) z))) }
 {
     match record_for(course, seg.node, slot as u32) {
-        None => Ok(()),
+        None => Ok(run),
         Some(record) => {
-            push_sent(
-                out,
-                mid,
-                course.system.flats,
-                part,
-                sent_part(unit, record, seg, slot),
-            )
+            let sent = sent_part(unit, record, seg, slot);
+            push_after(out, mid, course.system.flats, part, run, sent)
         }
     }
+}
+
+/// Adds what a run comes to, unless a segment goes on with it: the run is answered that is left, with the segment in it.
+fn push_after(
+    out: &mut Vec<Seg>,
+    mid: &mut Vec<Seg>,
+    flats: &Flats,
+    part: FlatPart,
+    run: Option<Seg>,
+    seg: Seg,
+) -> Result<Option<Seg>, OutOfMemory>
+    requires there { seg.node < length flats.now.nodes }
+    requires run { IsRun flats.now run }
+    ensures run { IfOk result (λ next. IsRun flats.now next) }
+    ensures given { IfOk result (λ next. (a : ℕ) (z : End) → (segs_give out.new.items a z
+        || run_leads (part_gives part flats.now) next a z) ≡ ((segs_give out.old.items a z
+        || run_leads (part_gives part flats.now) run a z)
+        || seg_leads (part_gives part flats.now) seg a z)) }
+{
+    match with_next(run, seg) {
+        Some(longer) => Ok(Some(longer)),
+        None => {
+            push_run(out, mid, flats, part, run)?;
+            Ok(Some(seg))
+        }
+    }
+}
+
+/// Adds what a run comes to, if there is one.
+fn push_run(
+    out: &mut Vec<Seg>,
+    mid: &mut Vec<Seg>,
+    flats: &Flats,
+    part: FlatPart,
+    run: Option<Seg>,
+) -> Result<(), OutOfMemory>
+    requires run { IsRun flats.now run }
+    ensures { OnOk result ((a : ℕ) (z : End) → segs_give out.new.items a z
+        ≡ (segs_give out.old.items a z || run_leads (part_gives part flats.now) run a z)) }
+{
+    match run {
+        Some(seg) => push_sent(out, mid, flats, part, seg),
+        None => Ok(()),
+    }
+}
+
+/// A run with a segment that goes on with it. `None` where it does not.
+fn with_next(run: Option<Seg>, seg: Seg) -> Option<Seg>
+    ensures node { IfSome result (λ s. s.node ≡ seg.node) }
+    ensures given { IfSome result (λ s. (next : ℕ → ℕ → End → Bool) (a : ℕ) (z : End) →
+        seg_leads next s a z ≡ (run_leads next run a z || seg_leads next seg a z)) }
+{
+    let one = run?;
+    if one.node != seg.node {
+        return None;
+    }
+    if one.span.hi + 1 != seg.span.lo {
+        return None;
+    }
+    let end = last_out(one);
+    if end + 1 != seg.base {
+        return None;
+    }
+    let span = Span {
+        lo: one.span.lo,
+        hi: seg.span.hi,
+    };
+    let base = one.base;
+    Some(Seg {
+        span,
+        node: seg.node,
+        base,
+    })
 }
 
 /// Adds what the names of a segment come to by what their node comes to.
