@@ -1,11 +1,11 @@
 //! What all agents see under a set of tables.
 
-ghost use Rattle.std.specs.Prelude.{◌≡◌, ◌<◌, ◌++◌, ◌∷◌, [], length, map, slice_get, IfOk, OnOk, IsTrue};
+ghost use Rattle.std.specs.Prelude.{◌≡◌, ◌<◌, ◌++◌, ◌∷◌, [], length, map, if◌then◌else◌, slice_get, IfOk, OnOk, IsTrue};
 ghost use Rattle.dn_net.specs.Terms.{is_agent_at};
 ghost use Rattle.dn_kind.specs.Terms.{kinds_of};
 ghost use Rattle.dn_tables.specs.Terms.{FitsNet, record_kept};
 ghost use Rattle.dn_view.specs.Terms.{IsSystem};
-ghost use Rattle.dn_audit.specs.Terms.{AreSeen, are_within, viewer_of, viewers, viewers_at};
+ghost use Rattle.dn_audit.specs.Terms.{AreSeen, are_within, viewer_of, viewers};
 
 use crate::OutOfMemory;
 use crate::report::Seen;
@@ -35,17 +35,19 @@ pub(crate) fn views(
 {
     let mut views = Items::new(alloc);
     for node in 0..system.on.net.nodes() {
-        push_views(alloc, system, tables, node, &mut views)?;
+        push_view(alloc, system, tables, node, Access::Read, &mut views)?;
+        push_view(alloc, system, tables, node, Access::Write, &mut views)?;
     }
     Ok(views)
 }
 
-/// Adds what a node sees for reading and then for writing, where it is an agent.
-fn push_views(
+/// Adds what a node sees for an access, where it is an agent.
+fn push_view(
     alloc: Global,
     system: System,
     tables: &TableSet,
     node: u16,
+    access: Access,
     views: &mut Items<Seen>,
 ) -> Result<(), OutOfMemory>
     requires system { IsSystem meaning system }
@@ -55,44 +57,19 @@ fn push_views(
         (record_kept (kinds_of meaning system.on.kinds.now) tables.now) views.old }
     requires within { IsTrue (are_within (length system.on.net.now) views.old) }
     ensures viewers { OnOk result (map viewer_of views.new ≡ map viewer_of views.old
-        ++ viewers_at node (is_agent_at (slice_get system.entry.on.net.now node))) }
+        ++ (if is_agent_at (slice_get system.entry.on.net.now node)
+        then record { agent = node; access = access } ∷ [] else [])) }
     ensures seen { OnOk result (AreSeen system.entry.on.net.now
         (record_kept (kinds_of meaning system.entry.on.kinds.now) tables.now) views.new) }
     ensures within { OnOk result (IsTrue (are_within (length system.entry.on.net.now) views.new)) }
 {
     if is_agent(system.on.net, node) {
-        push_view(alloc, system, tables, node, Access::Read, views)?;
-        push_view(alloc, system, tables, node, Access::Write, views)?;
+        let rows = view(alloc, system, tables, node, access)?;
+        views.push(Seen {
+            agent: node,
+            access,
+            rows,
+        })?;
     }
-    Ok(())
-}
-
-/// Adds what an agent sees for an access.
-fn push_view(
-    alloc: Global,
-    system: System,
-    tables: &TableSet,
-    agent: u16,
-    access: Access,
-    views: &mut Items<Seen>,
-) -> Result<(), OutOfMemory>
-    requires system { IsSystem meaning system }
-    requires fits { FitsNet system.on.net.now (kinds_of meaning system.on.kinds.now) tables.now }
-    requires there { agent < length system.on.net.now }
-    requires seen { AreSeen system.on.net.now
-        (record_kept (kinds_of meaning system.on.kinds.now) tables.now) views.old }
-    requires within { IsTrue (are_within (length system.on.net.now) views.old) }
-    ensures viewers { OnOk result (map viewer_of views.new ≡ map viewer_of views.old
-        ++ record { agent = agent; access = access } ∷ []) }
-    ensures seen { OnOk result (AreSeen system.entry.on.net.now
-        (record_kept (kinds_of meaning system.entry.on.kinds.now) tables.now) views.new) }
-    ensures within { OnOk result (IsTrue (are_within (length system.entry.on.net.now) views.new)) }
-{
-    let rows = view(alloc, system, tables, agent, access)?;
-    views.push(Seen {
-        agent,
-        access,
-        rows,
-    })?;
     Ok(())
 }
