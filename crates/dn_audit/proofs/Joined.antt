@@ -63,10 +63,6 @@ joined_before node [] [] b a = tt
 joined_before node [] (y ∷ ys) b a = (let e = a.0 in omega (arith, e), joined_before node [] ys tt a.1)
 joined_before node (x ∷ xs) ys b a = (let k = b.0 in omega (arith, k), joined_before node xs ys b.1 a)
 
--- at first there are none
-pub joined_none : (has : ℕ → ℕ → ℕ → Bool) → AreJoined has 0 []
-joined_none has = record { ascend = tt; before = tt; each = λ m l. absurd (omega (arith, l)) }
-
 -- the rows of a node more
 pub joined_more : (has : ℕ → ℕ → ℕ → Bool) (node : ℕ) (xs ys : List Shared) → AreJoined has node xs → AreSharedIn node (has node) ys → AreJoined has (node + 1) (xs ++ ys)
 joined_more has node xs ys j y = record {
