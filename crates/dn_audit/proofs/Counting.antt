@@ -29,16 +29,14 @@ shut_some node w ws records slot r e =
     by true = refl
     by false = refl
 
--- one that holds none has one by its gate
-pub shut_open : (node w : ℕ) (ws : List ℕ) (records : ℕ → Option Record) (slot : ℕ) → records slot ≡ None → has_gate w ws slot ≡ true → shut_slot node w ws records slot ≡ record { unit = node; slot = slot } ∷ []
-shut_open node w ws records slot e g =
-    ap (λ (o : Option Record). if has_gate w ws slot && not (is_some o) then record { unit = node; slot = slot } ∷ [] else []) e
-    ∙ ap (λ (b : Bool). if b && true then record { unit = node; slot = slot } ∷ [] else []) g
-
-pub shut_closed : (node w : ℕ) (ws : List ℕ) (records : ℕ → Option Record) (slot : ℕ) → records slot ≡ None → has_gate w ws slot ≡ false → shut_slot node w ws records slot ≡ []
-shut_closed node w ws records slot e g =
-    ap (λ (o : Option Record). if has_gate w ws slot && not (is_some o) then record { unit = node; slot = slot } ∷ [] else []) e
-    ∙ ap (λ (b : Bool). if b && true then record { unit = node; slot = slot } ∷ [] else []) g
+-- one that holds none has one where its gate is set
+pub shut_none : (node w : ℕ) (ws : List ℕ) (records : ℕ → Option Record) (slot : ℕ) → records slot ≡ None → shut_slot node w ws records slot ≡ (if has_gate w ws slot then record { unit = node; slot = slot } ∷ [] else [])
+shut_none node w ws records slot e =
+    ap (λ (o : Option Record). if has_gate w ws slot && not (is_some o) then record { unit = node; slot = slot } ∷ [] else []) e ∙ by (has_gate w ws slot)
+  where
+    by : (b : Bool) → ◌≡◌ {A = List Shut} (if b && true then record { unit = node; slot = slot } ∷ [] else []) (if b then record { unit = node; slot = slot } ∷ [] else [])
+    by true = refl
+    by false = refl
 
 -- SLOT BY SLOT
 

@@ -1,10 +1,12 @@
-use Rattle.std.proofs.Common.{◌<◌, ◌≤◌, ℕ, List, length, arith, rules}
+use Rattle.std.proofs.Common.{◌≡◌, ◌<◌, ◌≤◌, None, ℕ, List, length, arith, rules}
 use Rattle.std.specs.List.{All}
 use Rattle.dn_kind.specs.Kind.{Meaning, IsLawful}
 use Rattle.dn_kind.specs.Kinded.{kinds_of}
 use Rattle.dn_kind.specs.Tables.{Held}
 use Rattle.dn_tables.proofs.Slots.{all_of_map}
+use Rattle.dn_tables.specs.Set.{FitsNet, IsOnDevice, fresh_set}
 use Rattle.dn_book.proofs.Packed.{AreKindsOf}
+use Rattle.dn_audit.specs.Sizes.{sizes_by}
 use Rattle.dn_audit.specs.Taking.{records_in, words_in}
 use Rattle.dn_audit.proofs.Counting.{held_next, shut_next}
 use Rattle.dn_audit.proofs.Filled.{filled_all, filled_first, image_held}
@@ -16,8 +18,11 @@ loop-node-init g c =
     let kinds : List Meaning = kinds_of (λ k. (goal.UnitKind-dyn g k).meaning k.1) c.args.image.on.kinds.now in
     let are : AreKindsOf net kinds = record { lawful = all_of_map _ c.args.image.on.kinds.now.list.items c.requires.image.on.lawful; shaped = c.requires.image.on.shaped } in
     let h : Held = records_in (λ k. (goal.UnitKind-dyn g k).meaning k.1) c.args.image in
+    let fits : FitsNet net kinds c.in_ok-tables.tables = search rules in
+    let fresh : c.in_ok-tables.tables ≡ fresh_set kinds net = search rules in
+    let on_device : IsOnDevice c.in_ok-tables.tables (sizes_by c.make.new.device.sizes.items) None = search rules in
     record {
-      filled = filled_first net kinds are c.requires.image.legal h _ _ _ c.in_ok-tables.ensures.fits c.in_ok-tables.ensures.fresh c.in_ok-tables.ensures.on_device;
+      filled = filled_first net kinds are c.requires.image.legal h _ _ _ fits fresh on_device;
       records = omega arith;
       few = omega arith;
       shut = search rules;

@@ -4,7 +4,7 @@ use Rattle.dn_kind.specs.Kinded.{kinds_of}
 use Rattle.dn_image.specs.Image.{width_of}
 use Rattle.dn_audit.specs.Records.{held_from, shut_from}
 use Rattle.dn_audit.specs.Taking.{IsFilledTo, records_in, words_in}
-use Rattle.dn_audit.proofs.taking.take_unit.Given as goal
+use Rattle.dn_audit.proofs.taking.take_node.Given as goal
 
 abbrev pub invariant-loop-slot : goal.invariant-loop-slot
 invariant-loop-slot g l =
