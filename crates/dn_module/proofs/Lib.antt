@@ -1,6 +1,7 @@
 pub mod Closed
 pub mod Each
 pub mod Made
+pub mod Gathers
 pub mod PlainMade
 pub mod Known
 pub mod Outside

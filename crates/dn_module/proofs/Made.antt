@@ -4,7 +4,7 @@ use Rattle.std.proofs.lemmas.Bool.{false≢true}
 use Rattle.std.specs.List.{list_all}
 use Rattle.dn_base.proofs.Lists.{list_all-last}
 use Rattle.dn_module.specs.declared.command.Command.{Command}
-use Rattle.dn_module.specs.Commands.{commands_or_none, makes_within, names_within}
+use Rattle.dn_module.specs.Commands.{commands_or_none, makes_within, nodes_within}
 use Rattle.dn_module.specs.Values.{◌>>=◌, each}
 use Rattle.dn_module.specs.Faults.{ExpansionFault}
 use Rattle.dn_module.proofs.Each.{followed, after_one}
@@ -17,7 +17,7 @@ Making = Result (List Command) ExpansionFault
 pub record AreMade (count : ℕ) (whole rest : Making) : Type 0 where
   pub made : List Command
   pub is : whole ≡ followed made rest
-  pub known : IsTrue (list_all (names_within count) made)
+  pub known : IsTrue (list_all (nodes_within count) made)
 
 -- none was made
 pub made_first : (count : ℕ) (whole : Making) → AreMade count whole whole
@@ -27,14 +27,14 @@ made_first count whole = record { made = []; is = same whole; known = refl }
     same (Err e) = refl
     same (Ok ys) = refl
 
-made_by : {X : Type 0} (f : X → Result Command ExpansionFault) (count : ℕ) (whole : Making) (all rest : List X) (x : X) (c : Command) → all ≡ x ∷ rest → f x ≡ Ok c → IsTrue (names_within count c) → AreMade count whole (each f all) → AreMade count whole (each f rest)
+made_by : {X : Type 0} (f : X → Result Command ExpansionFault) (count : ℕ) (whole : Making) (all rest : List X) (x : X) (c : Command) → all ≡ x ∷ rest → f x ≡ Ok c → IsTrue (nodes_within count c) → AreMade count whole (each f all) → AreMade count whole (each f rest)
 made_by f count whole all rest x c at is known m = record {
   made = m.made ++ c ∷ [];
   is = m.is
       ∙ ap (λ l. followed m.made (each f l)) at
       ∙ ap (λ o. followed m.made (o >>= (λ y. each f rest >>= (λ ys. Ok (y ∷ ys))))) is
       ∙ after_one m.made c (each f rest);
-  known = list_all-last (names_within count) m.made c m.known known;
+  known = list_all-last (nodes_within count) m.made c m.known known;
 }
 
 -- one more is made
@@ -61,10 +61,10 @@ pub made_all : {X : Type 0} (f : X → Result Command ExpansionFault) (count : �
 made_all f count whole all none m = whole_is f count whole all none m ∙ ap (λ w. Ok (commands_or_none w)) (sym (whole_is f count whole all none m))
 
 -- and each names nodes that are there
-pub all_known : {X : Type 0} (f : X → Result Command ExpansionFault) (count : ℕ) (whole : Making) (all : List X) → all ≡ [] → AreMade count whole (each f all) → IsTrue (list_all (names_within count) (commands_or_none whole))
+pub all_known : {X : Type 0} (f : X → Result Command ExpansionFault) (count : ℕ) (whole : Making) (all : List X) → all ≡ [] → AreMade count whole (each f all) → IsTrue (list_all (nodes_within count) (commands_or_none whole))
 all_known f count whole all none m =
     let cut : m.made ++ [] ≡ m.made = append-nil m.made in
-    subst (λ (w : Making). IsTrue (list_all (names_within count) (commands_or_none w))) (sym (whole_is f count whole all none m)) (subst (λ (l : List Command). IsTrue (list_all (names_within count) l)) (sym cut) m.known)
+    subst (λ (w : Making). IsTrue (list_all (nodes_within count) (commands_or_none w))) (sym (whole_is f count whole all none m)) (subst (λ (l : List Command). IsTrue (list_all (nodes_within count) l)) (sym cut) m.known)
 
 -- they are as many as they were made of
 pub made_count : {X : Type 0} (f : X → Result Command ExpansionFault) (xs : List X) → is_ok (each f xs) ≡ true → length (commands_or_none (each f xs)) ≡ length xs

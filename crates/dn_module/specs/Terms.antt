@@ -1,5 +1,5 @@
 -- The words of the crate that clauses cite, from one place.
-pub use Rattle.dn_module.specs.Commands.{asked_of, command_of, commands_of, commands_or_none, makes_within, names_within, node_within, target_of}
+pub use Rattle.dn_module.specs.Commands.{asked_of, command_of, commands_of, commands_or_none, has_few_pieces, makes_within, names_within, node_within, nodes_within, piece_of, pieces_within, target_of}
 pub use Rattle.dn_module.specs.Drafts.{at_line, bare_draft, block_of, dest_of, draft_of, entry_of, is_known, known_kind, limit_passed, names, node_draft, node_in, parts_of_draft, role_of, with_draft}
 pub use Rattle.dn_module.specs.Expand.{Expansion, Visibility, all_rewritings, arguments_fit, expansion_of, fits_param, given_by, has_twice, item_rewriting, line_of_item, line_of_work, loop_of, module_from, most_steps, nodes_of, nothing_yet, numbers_of, outside, rewriting, statements, usable_modules, use_rewriting, with_module, word_of_param}
 pub use Rattle.dn_module.specs.Faults.{expand_fault_view, flaw_fault, flaw_fault_view, name_fault_view}

@@ -1,5 +1,6 @@
 //! The commands of a script.
 
+use dn_base::items::Items;
 use dn_base::text::Text;
 use dn_parse::syntax::Mode;
 
@@ -54,6 +55,28 @@ pub enum Command {
         /// The most pages that the tree may have.
         pool: u64,
     },
+    /// To let an agent reach pieces of memory, one after another at addresses of its own.
+    Gather {
+        /// The agent that asks for the pieces.
+        agent: Target,
+        /// The pieces, one to eight, in the order of the agent's addresses.
+        pieces: Items<PieceTarget>,
+        /// The access that the agent asks for.
+        mode: Mode,
+    },
+}
+
+/// A piece of memory as a gather names it.
+#[derive(Drop)]
+pub struct PieceTarget {
+    /// The id by which the piece can be revoked.
+    pub id: Text,
+    /// The node in which the piece lies.
+    pub node: Target,
+    /// The piece's first address there.
+    pub base: u64,
+    /// How many addresses the piece has.
+    pub size: u64,
 }
 
 /// A node as a command names it.

@@ -8,7 +8,8 @@ ghost use Rattle.dn_module.specs.Commands.{names_within};
 use crate::commands::Commands;
 use dn_net::net::Net;
 
-/// A net, and the commands of its text. Each node to which the net or a command refers is there.
+/// A net, and the commands of its text. Each node to which the net or a command refers is there, and a
+/// gather has one to eight pieces.
 #[derive(Drop)]
 pub struct Expanded<'a> {
     pub net: Net,

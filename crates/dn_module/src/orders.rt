@@ -1,23 +1,24 @@
 //! From a command of a text to that of a script. It stands outside of modules and loops.
 
-ghost use Rattle.std.specs.Prelude.{◌≡◌, ℕ, length, Result, Ok, Err, IfOk, IfErr, IfSome, OnOk, IsTrue};
+ghost use Rattle.std.specs.Prelude.{◌≡◌, ℕ, length, map, Result, Ok, Err, IfOk, IfErr, IfSome, OnOk, IsTrue};
 ghost use Rattle.std.specs.List.{list_all};
-ghost use Rattle.dn_parse.specs.Tree.{view as asks_view, absorb as asks_absorb};
-ghost use Rattle.dn_parse.specs.Terms.{expr_view, grant_view, name_view, order_view, route_view, script_view};
+ghost use Rattle.dn_parse.specs.Tree.{view as asks_view, absorb as asks_absorb, gather as asks_gather};
+ghost use Rattle.dn_parse.specs.Terms.{expr_view, grant_view, name_view, order_view, piece_view, route_view, script_view};
 ghost use Rattle.dn_module.specs.declared.command.Command.{Command};
 ghost use Rattle.dn_module.specs.declared.command.Target.{Target};
 ghost use Rattle.dn_module.specs.Values.{Flaw as SpecFlaw};
-ghost use Rattle.dn_module.specs.Terms.{asked_of, at_line, command_of, commands_of, commands_or_none, expand_fault_view, flaw_fault_view, full_name, makes_within, name_fault_view, names_within, node_within, target_of, value};
+ghost use Rattle.dn_module.specs.Terms.{asked_of, at_line, command_of, commands_of, commands_or_none, each, expand_fault_view, flaw_fault_view, full_name, makes_within, name_fault_view, nodes_within, node_within, piece_of, pieces_within, target_of, value};
 ghost use Rattle.dn_base.specs.Terms.{Answers};
 
-use crate::command::{Command, Target};
+use crate::command::{Command, PieceTarget, Target};
 use crate::fault::ExpandFault;
 use crate::names::NameTable;
 use crate::scope::Scope;
 use crate::values::{Flaw, NameFault, declared_name, value};
+use dn_base::items::Items;
 use dn_base::text::Text;
 use dn_parse::script::Script;
-use dn_parse::syntax::{Cmd, Expr, GrantExpr, Mode, NameExpr, Order, RouteExpr};
+use dn_parse::syntax::{Cmd, Expr, GrantExpr, Mode, NameExpr, Order, PieceExpr, RouteExpr};
 use std::alloc::Global;
 
 /// Goes once over the commands of a script, and keeps none: `Ok` where each has its values, else the
@@ -30,7 +31,7 @@ pub fn check_commands<'a>(
     ensures made { Answers
         (λ _. commands_or_none (commands_of names.now (script_view script.entry)))
         expand_fault_view result (commands_of names.now (script_view script.entry)) }
-    ensures known { OnOk result (IsTrue (list_all (names_within (length names.now))
+    ensures known { OnOk result (IsTrue (list_all (nodes_within (length names.now))
         (commands_or_none (commands_of names.now (script_view script.entry))))) }
 {
     if script.is_plain() {
@@ -61,7 +62,7 @@ fn check_command<'a>(alloc: Global, names: &NameTable, asked: Cmd<'a>) -> Result
 fn told(made: Result<Command, NameFault>, line: u32) -> Result<(), ExpandFault>
     ensures made { (count : ℕ) (asked : Result Command SpecFlaw) →
         Answers (λ c. c) name_fault_view made asked →
-        IfOk made (λ c. IsTrue (names_within count c)) →
+        IfOk made (λ c. IsTrue (nodes_within count c)) →
         OnOk result (IsTrue (makes_within count (at_line line asked))) }
     ensures fault { (asked : Result Command SpecFlaw) →
         Answers (λ c. c) name_fault_view made asked →
@@ -77,7 +78,7 @@ fn told(made: Result<Command, NameFault>, line: u32) -> Result<(), ExpandFault>
 pub fn command(alloc: Global, names: &NameTable, order: &Order) -> Result<Command, NameFault>
     ensures made { Answers (λ x. x) name_fault_view result
         (command_of names.now (order_view order.now)) }
-    ensures known { IfOk result (λ c. IsTrue (names_within (length names.now) c)) }
+    ensures known { IfOk result (λ c. IsTrue (nodes_within (length names.now) c)) }
 {
     match order {
         Order::Resolve(name, expr, mode) => {
@@ -99,6 +100,11 @@ pub fn command(alloc: Global, names: &NameTable, order: &Order) -> Result<Comman
             let (node, pool) = asked_target(alloc, names, node, pool)?;
             Ok(Command::Radix { node, pool })
         }
+        Order::Gather {
+            agent,
+            pieces,
+            mode,
+        } => gather(alloc, names, agent, pieces.as_slice(), *mode),
     }
 }
 
@@ -149,7 +155,7 @@ fn asked_target(
 fn view(alloc: Global, names: &NameTable, name: &NameExpr, mode: Mode) -> Result<Command, NameFault>
     ensures made { Answers (λ x. x) name_fault_view result
         (command_of names.now (asks_view (name_view name.now) mode)) }
-    ensures known { IfOk result (λ c. IsTrue (names_within (length names.now) c)) }
+    ensures known { IfOk result (λ c. IsTrue (nodes_within (length names.now) c)) }
 {
     let target = target(alloc, names, name)?;
     Ok(Command::View(target, mode))
@@ -158,7 +164,7 @@ fn view(alloc: Global, names: &NameTable, name: &NameExpr, mode: Mode) -> Result
 fn absorb(alloc: Global, names: &NameTable, name: &NameExpr) -> Result<Command, NameFault>
     ensures made { Answers (λ x. x) name_fault_view result
         (command_of names.now (asks_absorb (name_view name.now))) }
-    ensures known { IfOk result (λ c. IsTrue (names_within (length names.now) c)) }
+    ensures known { IfOk result (λ c. IsTrue (nodes_within (length names.now) c)) }
 {
     let target = target(alloc, names, name)?;
     Ok(Command::Absorb(target))
@@ -168,7 +174,7 @@ fn absorb(alloc: Global, names: &NameTable, name: &NameExpr) -> Result<Command, 
 fn grant(alloc: Global, names: &NameTable, asked: &GrantExpr) -> Result<Command, NameFault>
     ensures made { Answers (λ x. x) name_fault_view result
         (command_of names.now (grant_view asked.now)) }
-    ensures known { IfOk result (λ c. IsTrue (names_within (length names.now) c)) }
+    ensures known { IfOk result (λ c. IsTrue (nodes_within (length names.now) c)) }
 {
     let agent = target(alloc, names, &asked.agent)?;
     let node = target(alloc, names, &asked.node)?;
@@ -190,7 +196,7 @@ fn grant(alloc: Global, names: &NameTable, asked: &GrantExpr) -> Result<Command,
 fn route(alloc: Global, names: &NameTable, asked: &RouteExpr) -> Result<Command, NameFault>
     ensures made { Answers (λ x. x) name_fault_view result
         (command_of names.now (route_view asked.now)) }
-    ensures known { IfOk result (λ c. IsTrue (names_within (length names.now) c)) }
+    ensures known { IfOk result (λ c. IsTrue (nodes_within (length names.now) c)) }
 {
     let agent = target(alloc, names, &asked.agent)?;
     let line = number(alloc, &asked.line)?;
@@ -201,6 +207,62 @@ fn route(alloc: Global, names: &NameTable, asked: &RouteExpr) -> Result<Command,
         agent,
         line,
         node,
+    })
+}
+
+/// A piece as a gather names it.
+fn piece(alloc: Global, names: &NameTable, asked: &PieceExpr) -> Result<PieceTarget, NameFault>
+    ensures made { Answers (λ x. x) name_fault_view result
+        (piece_of names.now (piece_view asked.now)) }
+    ensures known { IfOk result (λ p. IsTrue (node_within (length names.now) p.node.node)) }
+{
+    let node = target(alloc, names, &asked.node)?;
+    let base = number(alloc, &asked.base)?;
+    let size = number(alloc, &asked.size)?;
+    let id = Text::of(alloc, asked.id)?;
+    Ok(PieceTarget {
+        id,
+        node,
+        base,
+        size,
+    })
+}
+
+fn pieces(
+    alloc: Global,
+    names: &NameTable,
+    asked: &[PieceExpr],
+) -> Result<Items<PieceTarget>, NameFault>
+    ensures made { Answers (λ x. x) name_fault_view result
+        (each (piece_of names.now) (map piece_view asked.now)) }
+    ensures known { IfOk result (λ ps. IsTrue (pieces_within (length names.now) ps)) }
+{
+    let mut made = Items::from_vec(Vec::with_capacity(alloc, asked.len())?);
+    for expr in asked {
+        let piece = piece(alloc, names, expr)?;
+        made.push(piece)?;
+    }
+    Ok(made)
+}
+
+/// Pieces that the first node named is to reach.
+fn gather(
+    alloc: Global,
+    names: &NameTable,
+    agent: &NameExpr,
+    asked: &[PieceExpr],
+    mode: Mode,
+) -> Result<Command, NameFault>
+    ensures made { Answers (λ x. x) name_fault_view result (command_of names.now
+        (asks_gather (name_view agent.now) (map piece_view asked.now) mode)) }
+    ensures known { IfOk result (λ c. IsTrue (nodes_within (length names.now) c)) }
+{
+    let agent = target(alloc, names, agent)?;
+    let pieces = pieces(alloc, names, asked)?;
+    Ok(Command::Gather {
+        agent,
+        pieces,
+        mode,
     })
 }
 

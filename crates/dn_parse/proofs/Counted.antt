@@ -9,7 +9,7 @@ use Rattle.dn_parse.specs.Tree.{Placed}
 use Rattle.dn_parse.specs.Actions.{Value}
 use Rattle.dn_token.specs.Words.{same_sign}
 use Rattle.dn_parse.specs.Forms.{Form, takes, does, and_then, either, many, parenthesised, Sort, a_word, a_node_word, any_word, a_number, the_word, the_keyword, the_sign, is, is_sign, Times, Spells}
-use Rattle.dn_parse.specs.Syntax.{in_parentheses, Parenthesised, SpellsText, Viable, statement_form, after_open, expr, term, factor, minus_expr, more_terms, more_factors, index, part_form, more_parts, name_form, upper_bound, block_form, at_addr, dest_form, more_dests, entry_form, more_blocks, accept, more_entries, map_form, over, spec_form, plain_form, agent_form, vectors_form, more_names, unit_form, param_form, more_params, params_form, module_form, arg_form, more_args, args_form, use_form, loop_form, access_form, maybe_access, command_form, radix_form}
+use Rattle.dn_parse.specs.Syntax.{in_parentheses, Parenthesised, SpellsText, Viable, statement_form, after_open, expr, term, factor, minus_expr, more_terms, more_factors, index, part_form, more_parts, name_form, upper_bound, block_form, at_addr, dest_form, more_dests, entry_form, more_blocks, accept, more_entries, map_form, over, spec_form, plain_form, agent_form, vectors_form, more_names, unit_form, param_form, more_params, params_form, module_form, arg_form, more_args, args_form, use_form, loop_form, access_form, maybe_access, command_form, radix_form, piece_form, more_pieces, gather_form}
 use Rattle.dn_parse.specs.Machine.{parentheses}
 use Rattle.dn_parse.specs.Laws.{opening_count, closing_count, open_parentheses}
 use Rattle.dn_parse.proofs.Taken.{Inner}
@@ -146,11 +146,11 @@ unfolding after_open expr term factor minus_expr more_terms more_factors
 parentheses_closed = refl
 
 statement_even : is_even 0 statement_form ≡ true
-unfolding expr term factor minus_expr more_terms more_factors index part_form more_parts name_form upper_bound block_form at_addr dest_form more_dests entry_form more_blocks accept more_entries map_form over spec_form plain_form agent_form vectors_form more_names unit_form param_form more_params params_form module_form arg_form more_args args_form use_form loop_form access_form maybe_access command_form radix_form statement_form
+unfolding expr term factor minus_expr more_terms more_factors index part_form more_parts name_form upper_bound block_form at_addr dest_form more_dests entry_form more_blocks accept more_entries map_form over spec_form plain_form agent_form vectors_form more_names unit_form param_form more_params params_form module_form arg_form more_args args_form use_form loop_form access_form maybe_access command_form radix_form piece_form more_pieces gather_form statement_form
 statement_even = refl
 
 statement_closed : ends_at 0 statement_form ≡ 0
-unfolding expr term factor minus_expr more_terms more_factors index part_form more_parts name_form upper_bound block_form at_addr dest_form more_dests entry_form more_blocks accept more_entries map_form over spec_form plain_form agent_form vectors_form more_names unit_form param_form more_params params_form module_form arg_form more_args args_form use_form loop_form access_form maybe_access command_form radix_form statement_form
+unfolding expr term factor minus_expr more_terms more_factors index part_form more_parts name_form upper_bound block_form at_addr dest_form more_dests entry_form more_blocks accept more_entries map_form over spec_form plain_form agent_form vectors_form more_names unit_form param_form more_params params_form module_form arg_form more_args args_form use_form loop_form access_form maybe_access command_form radix_form piece_form more_pieces gather_form statement_form
 statement_closed = refl
 
 -- a form that is even from none on closes what it opens, however many were open before it

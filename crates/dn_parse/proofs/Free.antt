@@ -4,7 +4,7 @@ use Rattle.dn_token.specs.declared.token.Sign.TheVariants.{Semicolon, OpenParent
 use Rattle.dn_token.specs.Token.{Lexeme, sign}
 use Rattle.dn_parse.specs.Actions.{Value}
 use Rattle.dn_parse.specs.Forms.{Form, takes, does, and_then, either, many, parenthesised, Sort, is, is_sign, values_with_token}
-use Rattle.dn_parse.specs.Syntax.{after_open, statement_form, expr, term, factor, minus_expr, more_terms, more_factors, index, part_form, more_parts, name_form, upper_bound, block_form, at_addr, dest_form, more_dests, entry_form, more_blocks, accept, more_entries, map_form, over, spec_form, plain_form, agent_form, vectors_form, more_names, unit_form, param_form, more_params, params_form, module_form, arg_form, more_args, args_form, use_form, loop_form, access_form, maybe_access, command_form, radix_form}
+use Rattle.dn_parse.specs.Syntax.{after_open, statement_form, expr, term, factor, minus_expr, more_terms, more_factors, index, part_form, more_parts, name_form, upper_bound, block_form, at_addr, dest_form, more_dests, entry_form, more_blocks, accept, more_entries, map_form, over, spec_form, plain_form, agent_form, vectors_form, more_names, unit_form, param_form, more_params, params_form, module_form, arg_form, more_args, args_form, use_form, loop_form, access_form, maybe_access, command_form, radix_form, piece_form, more_pieces, gather_form}
 use Rattle.dn_parse.specs.Machine.{Move, to, skips, refuses, move_of_token, move_and_then, move_or_else, move_again, move, Fed, on, stuck, fed_at_end, fed_by_move, feed}
 use Rattle.dn_parse.specs.Machine.{over as ended}
 use Rattle.dn_parse.proofs.Sets.{both_left, both_right, sign_is}
@@ -28,7 +28,7 @@ all_free_append [] k h g = g
 all_free_append (f ∷ j) k h g = (h.0, all_free_append j k h.1 g)
 
 pub statement_free : is_free statement_form ≡ true
-unfolding expr term factor minus_expr more_terms more_factors index part_form more_parts name_form upper_bound block_form at_addr dest_form more_dests entry_form more_blocks accept more_entries map_form over spec_form plain_form agent_form vectors_form more_names unit_form param_form more_params params_form module_form arg_form more_args args_form use_form loop_form access_form maybe_access command_form radix_form statement_form
+unfolding expr term factor minus_expr more_terms more_factors index part_form more_parts name_form upper_bound block_form at_addr dest_form more_dests entry_form more_blocks accept more_entries map_form over spec_form plain_form agent_form vectors_form more_names unit_form param_form more_params params_form module_form arg_form more_args args_form use_form loop_form access_form maybe_access command_form radix_form piece_form more_pieces gather_form statement_form
 statement_free = refl
 
 open_free : is_free after_open ≡ true

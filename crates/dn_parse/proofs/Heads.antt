@@ -1,22 +1,23 @@
 -- What is read of each statement is what the machine does with its form.
-use Rattle.std.proofs.Common.{◌≡◌, ◌∙◌, ap, sym, refl, ℕ, suc, Bool, true, false, cond, not, ◌&&◌, List, [], ◌∷◌, ◌++◌, length, codes, Option, Some, None, Ok, Err, arith}
+use Rattle.std.proofs.Common.{◌≡◌, ◌∙◌, ap, sym, refl, ℕ, suc, Bool, true, false, cond, not, ◌&&◌, ◌||◌, List, [], ◌∷◌, ◌++◌, length, codes, Option, Some, None, Ok, Err, arith}
 use Rattle.dn_parse.specs.declared.syntax.Mode.TheVariants.{Unsaid, Read as ForRead, Write as ForWrite}
+use Rattle.std.specs.Str.{bytes_eq}
 use Rattle.std.proofs.lemmas.Slice.Eq.{bytes_eq-Decides}
 use Rattle.dn_token.specs.declared.token.Keyword.{Keyword}
 use Rattle.dn_token.specs.declared.token.Keyword.TheVariants.{Agent, Vectors, Unit as UnitWord, Module, Use, For, In, End, Begin, Is, Accept, Map, To, And, At, Over, Kind, Page, Slots, Reach, As, Num, Node, Resolve, Lookup, View, Grant, Route, Revoke, Dump, Split, Absorb}
 use Rattle.dn_token.specs.declared.token.Sign.{Sign}
 use Rattle.dn_token.specs.declared.token.Sign.TheVariants.{Comma, OpenParenthesis, CloseParenthesis, Dots}
 use Rattle.dn_token.specs.Token.{Lexeme, Token, word, keyword, number, sign}
-use Rattle.dn_parse.specs.Tree.{Expression, Part, Role, plain_role, agent_role, vectors_role, Spec, Param, Arg, number_arg, node_arg, Declaration, node, unit, Order, revoke, absorb, Statement, declares, heads_module, uses, orders}
-use Rattle.dn_parse.specs.Actions.{Value, Action, perform, text, expression, name, names, spec, param, params, arg, args, mode, statement, put_word, make_part, first_item, next_item, make_number_param, make_node_param, no_params, make_number_arg, make_node_arg, no_args, make_plain, make_agent, make_vectors, make_unit, make_module, make_use, make_loop, make_end, make_begin, no_access, for_read, for_write, make_resolve, make_lookup, make_view, make_grant, make_route, make_revoke, make_dump, make_split, make_absorb, make_radix}
+use Rattle.dn_parse.specs.Tree.{Expression, Part, Role, plain_role, agent_role, vectors_role, Spec, Param, Arg, number_arg, node_arg, Declaration, node, unit, Order, revoke, absorb, gather, Piece, Statement, declares, heads_module, uses, orders}
+use Rattle.dn_parse.specs.Actions.{Value, Action, perform, text, expression, name, names, spec, param, params, arg, args, mode, piece, pieces, statement, put_word, make_part, first_item, next_item, make_number_param, make_node_param, no_params, make_number_arg, make_node_arg, no_args, make_plain, make_agent, make_vectors, make_unit, make_module, make_use, make_loop, make_end, make_begin, no_access, for_read, for_write, make_resolve, make_lookup, make_view, make_grant, make_route, make_revoke, make_dump, make_split, make_absorb, make_radix, make_piece, make_gather}
 use Rattle.dn_parse.specs.Forms.{Form, takes, does, either, one_of, Sort, a_word, a_node_word, any_word, the_keyword, the_sign, is, is_sign, is_command_word, values_with_token}
 use Rattle.dn_parse.specs.Forms.{and_then as both}
-use Rattle.dn_parse.specs.Syntax.{the, this, mark, factor, term, expr, part_form, name_form, spec_form, more_names, param_form, more_params, params_form, arg_form, more_args, args_form, plain_form, agent_form, vectors_form, unit_form, module_form, use_form, loop_form, access_form, maybe_access, command_form, radix_form, part_by, name_by, plain_by, index, more_parts, minus_expr, more_terms, more_factors, accept, map_form, over, block_form, upper_bound, more_blocks, entry_form, more_entries, dest_form, at_addr, more_dests, statement_form}
+use Rattle.dn_parse.specs.Syntax.{the, this, mark, factor, term, expr, part_form, name_form, spec_form, more_names, param_form, more_params, params_form, arg_form, more_args, args_form, plain_form, agent_form, vectors_form, unit_form, module_form, use_form, loop_form, access_form, maybe_access, command_form, radix_form, piece_form, more_pieces, gather_form, part_by, name_by, plain_by, index, more_parts, minus_expr, more_terms, more_factors, accept, map_form, over, block_form, upper_bound, more_blocks, entry_form, more_entries, dest_form, at_addr, more_dests, statement_form}
 use Rattle.dn_parse.specs.Machine.{Move, to, skips, refuses, move_of_token, move_and_then, move_or_else, move, Fed, on, stuck, fed_by_move, inside, run, go, feed, refused}
-use Rattle.dn_parse.specs.Descent.{and_then, if_there, Read, Reader, sign_at, keyword_at, word_at, any_word_at, row, with_front, after_sign, after_keyword, the_word_at, name_at, expr_at, spec_at, param_at, next_param_at, params_at, closed_params_at, arg_at, next_arg_at, args_at, closed_args_at, next_port_at, ports_at, node_at, measure_at, unit_declaration_at, module_at, use_at, loop_at, mode_at, access_at, resolve_at, lookup_at, view_at, grant_at, route_at, radix_at, order_at, as_declared, as_ordered, keyword_statement_at, is_free, begins_word, begins_order, word_statement_at, statement_by, statement_at}
+use Rattle.dn_parse.specs.Descent.{and_then, if_there, Read, Reader, sign_at, keyword_at, word_at, any_word_at, row, with_front, after_sign, after_keyword, the_word_at, name_at, expr_at, spec_at, param_at, next_param_at, params_at, closed_params_at, arg_at, next_arg_at, args_at, closed_args_at, next_port_at, ports_at, node_at, measure_at, unit_declaration_at, module_at, use_at, loop_at, mode_at, access_at, resolve_at, lookup_at, view_at, grant_at, route_at, radix_at, piece_at, next_piece_at, pieces_at, gather_at, order_at, as_declared, as_ordered, keyword_statement_at, is_free, begins_word, begins_order, word_order_at, word_statement_at, statement_by, statement_at}
 use Rattle.dn_parse.proofs.Does.{Does, Row, does_by, seq, pass, last, act, keyword_after, sign_after, word_does, any_word_does, if_keyword, if_word, the_word_after, seq_on, does_same, assoc, most_row_does}
-use Rattle.dn_parse.proofs.Readers.{bind_same, sign_row, row_read, expr_read, expr_does, name_read, name_does, spec_does}
-use Rattle.dn_parse.proofs.Sets.{may_skip, starts, fits, among, one_left, keyword_is, sign_is}
+use Rattle.dn_parse.proofs.Readers.{bind_same, sign_row, keyword_row, row_read, expr_read, expr_does, name_read, name_does, spec_does}
+use Rattle.dn_parse.proofs.Sets.{none_of, may_skip, starts, fits, among, one_left, keyword_is, sign_is}
 use Rattle.dn_parse.proofs.Begins.{at_start, at_other}
 use Rattle.dn_parse.proofs.Turns.{run_fed, run_then, run_does, run_first, run_second}
 
@@ -250,6 +251,35 @@ radix_does : (ts : List Token) → Does after_radix 0 0 ts [] ordered (radix_at 
 unfolding radix_at
 radix_does ts = seq (name_at 32 ts) _ (name_does ts) (λ n r. seq (expr_at 32 r) _ (expr_does r) (λ e r1. last _ make_radix (λ vs. refl)))
 
+piece_does : (ts : List Token) → Does piece_form 0 0 ts [] piece (piece_at ts)
+unfolding piece_form piece_at
+piece_does ts = seq (word_at ts) _ (word_does 0 ts) (λ w r. seq (name_at 32 r) _ (name_does r) (λ n r1. seq (expr_at 32 r1) _ (expr_does r1) (λ b r2. seq (expr_at 32 r2) _ (expr_does r2) (λ z r3. last _ make_piece (λ vs. refl)))))
+
+piece_row : Row (the_keyword And) (both piece_form (does next_item)) 0 pieces piece_at next_piece_at
+unfolding next_piece_at after_keyword
+piece_row = keyword_row And piece_form piece pieces piece_at next_piece_at (λ ts. refl) piece_does (λ es x vs. refl)
+
+abbrev gather_end : List Part → List Piece × List Token → Read Order
+gather_end n ps = and_then (access_at ps.1) (λ m. Ok (gather n ps.0 m.0, m.1))
+
+pieces_same : (n : List Part) (ts : List Token) → and_then (piece_at ts) (λ first. and_then (with_front (first.0 ∷ []) (row next_piece_at 7 first.1)) (gather_end n)) ≡ and_then (pieces_at ts) (gather_end n)
+unfolding pieces_at
+pieces_same n ts = assoc (piece_at ts) _ _
+
+abbrev after_agent : Form
+after_agent = both piece_form (both (does first_item) (both (more_pieces 7) (both maybe_access (does make_gather))))
+
+pieces_does : (n : List Part) (ts : List Token) → Does after_agent 0 0 ts (name n ∷ []) ordered (and_then (pieces_at ts) (gather_end n))
+unfolding more_pieces
+pieces_does n ts = does_same _ _ (pieces_same n ts) (seq (piece_at ts) _ (piece_does ts) (λ p rest. act (pieces (p ∷ []) ∷ name n ∷ []) first_item _ (λ vs. refl) (seq_on (with_front (p ∷ []) (row next_piece_at 7 rest)) _ (most_row_does (the_keyword And) _ 0 pieces piece_at next_piece_at piece_row 7 rest (p ∷ [])) (λ ps r. seq (access_at r) _ (access_does r) (λ m r1. last _ make_gather (λ vs. refl))))))
+
+abbrev after_gather : Form
+after_gather = both name_form after_agent
+
+gather_does : (ts : List Token) → Does after_gather 0 0 ts [] ordered (gather_at ts)
+unfolding gather_at
+gather_does ts = seq (name_at 32 ts) _ (name_does ts) (λ n r. pieces_does n r)
+
 revoke_does : (ts : List Token) → Does (both (takes a_word) (does make_revoke)) 0 0 ts [] ordered (and_then (word_at ts) (λ w. Ok (revoke w.0, w.1)))
 revoke_does ts = seq (word_at ts) _ (word_does 0 ts) (λ w r. last _ make_revoke (λ vs. refl))
 
@@ -287,7 +317,7 @@ unfolding plain_form index expr term factor minus_expr more_terms more_factors m
 plain_fits = refl
 
 abbrev other_forms : Form
-other_forms = one_of agent_form (vectors_form ∷ unit_form ∷ module_form ∷ use_form ∷ loop_form ∷ both (the End) (does make_end) ∷ both (the Begin) (does make_begin) ∷ command_form ∷ radix_form ∷ [])
+other_forms = one_of agent_form (vectors_form ∷ unit_form ∷ module_form ∷ use_form ∷ loop_form ∷ both (the End) (does make_end) ∷ both (the Begin) (does make_begin) ∷ command_form ∷ radix_form ∷ gather_form ∷ [])
 
 node_word_first : (w : List ℕ) (t : Token) (ts : List Token) → t.lexeme ≡ word w → is_command_word w ≡ false → (line : ℕ) (k : List Form) (vs : List Value) → run (inside line 0 (statement_form ∷ k) vs) (t ∷ ts) ≡ run (inside line 0 (node_rest make_plain ∷ k) vs) (t ∷ ts)
 unfolding statement_form plain_form
@@ -326,7 +356,7 @@ by_head (Some f) k vs = on (f ∷ k) vs
 by_head None k vs = stuck
 
 feeds : (j : Keyword) (k : List Form) (vs : List Value) → feed (statement_form ∷ k) vs (keyword j) ≡ by_head (head j) k vs
-unfolding statement_form plain_form agent_form vectors_form unit_form module_form use_form loop_form command_form radix_form name_form part_form
+unfolding statement_form plain_form agent_form vectors_form unit_form module_form use_form loop_form command_form radix_form gather_form name_form part_form
 feeds Agent k vs = refl
 feeds Vectors k vs = refl
 feeds UnitWord k vs = refl
@@ -361,11 +391,11 @@ feeds Split k vs = refl
 feeds Absorb k vs = refl
 
 feeds_number : (x : ℕ) (k : List Form) (vs : List Value) → feed (statement_form ∷ k) vs (number x) ≡ stuck
-unfolding statement_form plain_form agent_form vectors_form unit_form module_form use_form loop_form command_form radix_form name_form part_form
+unfolding statement_form plain_form agent_form vectors_form unit_form module_form use_form loop_form command_form radix_form gather_form name_form part_form
 feeds_number x k vs = refl
 
 feeds_sign : (s : Sign) (k : List Form) (vs : List Value) → feed (statement_form ∷ k) vs (sign s) ≡ stuck
-unfolding statement_form plain_form agent_form vectors_form unit_form module_form use_form loop_form command_form radix_form name_form part_form
+unfolding statement_form plain_form agent_form vectors_form unit_form module_form use_form loop_form command_form radix_form gather_form name_form part_form
 feeds_sign s k vs = refl
 
 keyword_token : (j : Keyword) (t : Token) (ts : List Token) → t.lexeme ≡ keyword j → Does statement_form 0 0 (t ∷ ts) [] statement (keyword_statement_at j (t ∷ ts) ts)
@@ -403,63 +433,71 @@ keyword_token Dump t ts e = order_word (does make_dump) Dump t ts _ e (feeds Dum
 keyword_token Split t ts e = order_word (does make_split) Split t ts _ e (feeds Split) (last _ make_split (λ vs. refl))
 keyword_token Absorb t ts e = order_word (both name_form (does make_absorb)) Absorb t ts _ e (feeds Absorb) (name_order make_absorb absorb (λ n vs. refl) ts)
 
--- a word that begins a command, where a word follows it
-abbrev radix_node : Form
-radix_node = plain_by (does (put_word (codes "radix")))
+-- a word that begins a command where a word follows it: the form of what follows it there, and how that is read
+record CommandWord (w : List ℕ) (f : Form) (reader : Reader Order) : Type 0 where
+  pub begins : (l : Lexeme) → among (starts f) l ≡ is_free l
+  pub fitting : fits f ≡ true
+  pub needed : may_skip f ≡ false
+  pub feeding : (k : List Form) (vs : List Value) → feed (statement_form ∷ k) vs (word w) ≡ on (either f (plain_by (does (put_word w))) ∷ k) vs
+  pub reading : (ts : List Token) → Does f 0 0 ts [] ordered (reader ts)
 
-abbrev radix_rest : Form
-radix_rest = either after_radix radix_node
+radix_word : CommandWord (codes "radix") after_radix radix_at
+unfolding statement_form plain_form agent_form vectors_form unit_form module_form use_form loop_form command_form radix_form gather_form name_form part_form more_parts index expr term factor minus_expr more_terms more_factors
+radix_word = record { begins = begins; fitting = refl; needed = refl; feeding = λ k vs. refl; reading = radix_does }
+  where
+    begins : (l : Lexeme) → among (starts after_radix) l ≡ is_free l
+    begins (word w) = refl
+    begins (keyword j) = refl
+    begins (number x) = refl
+    begins (sign s) = refl
 
-radix_begins : (l : Lexeme) → among (starts after_radix) l ≡ is_free l
-unfolding name_form part_form
-radix_begins (word w) = refl
-radix_begins (keyword j) = refl
-radix_begins (number x) = refl
-radix_begins (sign s) = refl
-
-radix_fits : fits after_radix ≡ true
-unfolding name_form part_form more_parts index expr term factor minus_expr more_terms more_factors
-radix_fits = refl
-
-radix_needed : may_skip after_radix ≡ false
-unfolding name_form part_form
-radix_needed = refl
-
-feeds_radix : (k : List Form) (vs : List Value) → feed (statement_form ∷ k) vs (word (codes "radix")) ≡ on (radix_rest ∷ k) vs
-unfolding statement_form plain_form agent_form vectors_form unit_form module_form use_form loop_form command_form radix_form name_form part_form
-feeds_radix k vs = refl
-
-command_word_first : (w : List ℕ) (t : Token) (ts : List Token) → t.lexeme ≡ word w → is_command_word w ≡ true → (line : ℕ) (k : List Form) (vs : List Value) → run (inside line 0 (statement_form ∷ k) vs) (t ∷ ts) ≡ run (inside line 0 (radix_rest ∷ k) vs) ts
-command_word_first w t ts e h line k vs =
-    ap (λ u. go (feed (statement_form ∷ k) vs u) line 0 u (suc (length ts)) (λ p. run p ts)) (e ∙ ap word ((bytes_eq-Decides w (codes "radix")).0 h))
-    ∙ ap (λ (x : Fed). go x line 0 (word (codes "radix")) (suc (length ts)) (λ p. run p ts)) (feeds_radix k vs)
-
-order_there : (ts : List Token) → begins_word ts ≡ true → (line : ℕ) (k : List Form) (vs : List Value) → run (inside line 0 (radix_rest ∷ k) vs) ts ≡ run (inside line 0 (after_radix ∷ k) vs) ts
-order_there [] b line k vs = cc
-order_there (u ∷ us) b line k vs =
-    let p = at_start after_radix radix_fits vs u.lexeme (radix_begins u.lexeme ∙ b) in
-    run_first line 0 after_radix radix_node k p.next vs p.values u us p.taking
-
-node_there : (ts : List Token) → begins_word ts ≡ false → (line : ℕ) (k : List Form) (vs : List Value) → run (inside line 0 (radix_rest ∷ k) vs) ts ≡ run (inside line 0 (after_first_word k) (text (codes "radix") ∷ vs)) ts
-node_there [] b line k vs = refl
-node_there (u ∷ us) b line k vs =
-    run_second line 0 after_radix radix_node k vs u us ((at_other after_radix radix_fits vs u.lexeme (radix_begins u.lexeme ∙ b)).refused radix_needed)
-    ∙ plain_parts (does (put_word (codes "radix"))) line k vs (u ∷ us)
-    ∙ run_does line 0 (put_word (codes "radix")) (after_first_word k) vs (u ∷ us)
+gather_word : CommandWord (codes "gather") after_gather gather_at
+unfolding statement_form plain_form agent_form vectors_form unit_form module_form use_form loop_form command_form radix_form gather_form piece_form more_pieces maybe_access access_form name_form part_form more_parts index expr term factor minus_expr more_terms more_factors
+gather_word = record { begins = begins; fitting = refl; needed = refl; feeding = λ k vs. refl; reading = gather_does }
+  where
+    begins : (l : Lexeme) → among (starts after_gather) l ≡ is_free l
+    begins (word w) = refl
+    begins (keyword j) = refl
+    begins (number x) = refl
+    begins (sign s) = refl
 
 abbrev plain_node : List Token → Read Statement
 plain_node ts = as_declared (node_at plain_role ts)
 
-word_token : (w : List ℕ) (t : Token) (ts : List Token) → t.lexeme ≡ word w → (c b : Bool) → is_command_word w ≡ c → begins_word ts ≡ b → Does statement_form 0 0 (t ∷ ts) [] statement (cond (c && b) (as_ordered (radix_at ts)) (plain_node (t ∷ ts)))
-word_token w t ts e false b h q = does_by statement_form (node_rest make_plain) 0 0 0 (t ∷ ts) (t ∷ ts) [] [] statement (plain_node (t ∷ ts)) (λ line k vs. node_word_first w t ts e h line k vs) (omega arith) (node_does plain_role make_plain (λ n s vs. refl) (t ∷ ts))
-word_token w t ts e true true h q = does_by statement_form after_radix 0 0 0 (t ∷ ts) ts [] [] statement (as_ordered (radix_at ts)) (λ line k vs. command_word_first w t ts e h line k vs ∙ order_there ts q line k vs) (omega arith) (mapped statement orders (radix_at ts) (radix_does ts))
-word_token w t ts e true false h q =
-    let word_is : w ≡ codes "radix" = (bytes_eq-Decides w (codes "radix")).0 h in
-    does_by statement_form (node_rest make_plain) 0 0 0 (t ∷ ts) (t ∷ ts) [] [] statement (plain_node (t ∷ ts)) (λ line k vs. command_word_first w t ts e h line k vs ∙ node_there ts q line k vs ∙ sym (node_first (codes "radix") t ts (e ∙ ap word word_is) line k vs)) (omega arith) (node_does plain_role make_plain (λ n s vs. refl) (t ∷ ts))
+module _ (w : List ℕ) (f : Form) (reader : Reader Order) (c : CommandWord w f reader) where
+  abbrev node_instead : Form
+  node_instead = plain_by (does (put_word w))
+
+  command_word_first : (t : Token) (ts : List Token) → t.lexeme ≡ word w → (line : ℕ) (k : List Form) (vs : List Value) → run (inside line 0 (statement_form ∷ k) vs) (t ∷ ts) ≡ run (inside line 0 (either f node_instead ∷ k) vs) ts
+  command_word_first t ts e line k vs =
+      ap (λ u. go (feed (statement_form ∷ k) vs u) line 0 u (suc (length ts)) (λ p. run p ts)) e
+      ∙ ap (λ (x : Fed). go x line 0 (word w) (suc (length ts)) (λ p. run p ts)) (c.feeding k vs)
+
+  order_there : (ts : List Token) → begins_word ts ≡ true → (line : ℕ) (k : List Form) (vs : List Value) → run (inside line 0 (either f node_instead ∷ k) vs) ts ≡ run (inside line 0 (f ∷ k) vs) ts
+  order_there [] b line k vs = cc
+  order_there (u ∷ us) b line k vs =
+      let p = at_start f c.fitting vs u.lexeme (c.begins u.lexeme ∙ b) in
+      run_first line 0 f node_instead k p.next vs p.values u us p.taking
+
+  node_there : (ts : List Token) → begins_word ts ≡ false → (line : ℕ) (k : List Form) (vs : List Value) → run (inside line 0 (either f node_instead ∷ k) vs) ts ≡ run (inside line 0 (after_first_word k) (text w ∷ vs)) ts
+  node_there [] b line k vs = refl
+  node_there (u ∷ us) b line k vs =
+      run_second line 0 f node_instead k vs u us ((at_other f c.fitting vs u.lexeme (c.begins u.lexeme ∙ b)).refused c.needed)
+      ∙ plain_parts (does (put_word w)) line k vs (u ∷ us)
+      ∙ run_does line 0 (put_word w) (after_first_word k) vs (u ∷ us)
+
+  command_token : (t : Token) (ts : List Token) → t.lexeme ≡ word w → (b : Bool) → begins_word ts ≡ b → Does statement_form 0 0 (t ∷ ts) [] statement (cond b (as_ordered (reader ts)) (plain_node (t ∷ ts)))
+  command_token t ts e true q = does_by statement_form f 0 0 0 (t ∷ ts) ts [] [] statement (as_ordered (reader ts)) (λ line k vs. command_word_first t ts e line k vs ∙ order_there ts q line k vs) (omega arith) (mapped statement orders (reader ts) (c.reading ts))
+  command_token t ts e false q = does_by statement_form (node_rest make_plain) 0 0 0 (t ∷ ts) (t ∷ ts) [] [] statement (plain_node (t ∷ ts)) (λ line k vs. command_word_first t ts e line k vs ∙ node_there ts q line k vs ∙ sym (node_first w t ts e line k vs)) (omega arith) (node_does plain_role make_plain (λ n s vs. refl) (t ∷ ts))
+
+word_token : (w : List ℕ) (t : Token) (ts : List Token) → t.lexeme ≡ word w → (r g : Bool) → bytes_eq w (codes "radix") ≡ r → bytes_eq w (codes "gather") ≡ g → Does statement_form 0 0 (t ∷ ts) [] statement (cond ((r || g) && begins_word ts) (as_ordered (cond r (radix_at ts) (gather_at ts))) (plain_node (t ∷ ts)))
+word_token w t ts e true g p q = command_token (codes "radix") after_radix radix_at radix_word t ts (e ∙ ap word ((bytes_eq-Decides w (codes "radix")).0 p)) (begins_word ts) refl
+word_token w t ts e false true p q = command_token (codes "gather") after_gather gather_at gather_word t ts (e ∙ ap word ((bytes_eq-Decides w (codes "gather")).0 q)) (begins_word ts) refl
+word_token w t ts e false false p q = does_by statement_form (node_rest make_plain) 0 0 0 (t ∷ ts) (t ∷ ts) [] [] statement (plain_node (t ∷ ts)) (λ line k vs. node_word_first w t ts e (none_of (bytes_eq w (codes "radix")) (bytes_eq w (codes "gather")) p q) line k vs) (omega arith) (node_does plain_role make_plain (λ n s vs. refl) (t ∷ ts))
 
 by_token : (l : Lexeme) (t : Token) (ts : List Token) → t.lexeme ≡ l → Does statement_form 0 0 (t ∷ ts) [] statement (statement_by l (t ∷ ts) ts)
-unfolding word_statement_at
-by_token (word w) t ts e = word_token w t ts e (is_command_word w) (begins_word ts) refl refl
+unfolding word_statement_at word_order_at
+by_token (word w) t ts e = word_token w t ts e (bytes_eq w (codes "radix")) (bytes_eq w (codes "gather")) refl refl
 by_token (keyword j) t ts e = keyword_token j t ts e
 by_token (number x) t ts e = refused_word (number x) t ts e (feeds_number x)
 by_token (sign s) t ts e = refused_word (sign s) t ts e (feeds_sign s)

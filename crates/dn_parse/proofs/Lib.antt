@@ -21,3 +21,4 @@ pub mod Heads
 pub mod Judge
 pub mod Scripts
 pub mod PlainOnes
+pub mod Gathers

@@ -7,7 +7,7 @@ use Rattle.dn_token.specs.declared.token.Sign.TheVariants.{Semicolon, Comma, Ope
 use Rattle.dn_token.specs.Token.{Lexeme, Token, word, keyword, number, sign}
 use Rattle.dn_parse.specs.Tree.{Expression, minus, Block, Dest, Entry}
 use Rattle.dn_parse.specs.Actions.{sum_of_members, product_of_members, Value, Action, perform, text, expression, members, perhaps, part, name, perhaps_name, block, blocks, dest, dests, entry, entries, spec, make_variable, first_item, next_item, make_sum, make_product, make_difference, no_expression, some_expression, make_part, no_name, some_name, make_block, no_blocks, make_dest, make_entry, no_entries, make_spec, keep}
-use Rattle.dn_parse.specs.Forms.{Form, does, either, many, the_keyword, the_sign, is_sign}
+use Rattle.dn_parse.specs.Forms.{Form, does, either, many, the_keyword, the_sign, is_keyword, is_sign}
 use Rattle.dn_parse.specs.Forms.{and_then as both}
 use Rattle.dn_parse.specs.Syntax.{mark, factor, more_factors, term, more_terms, expr, minus_expr, after_open, index, part_form, more_parts, name_form, upper_bound, block_form, at_addr, dest_form, more_dests, entry_form, more_blocks, accept, more_entries, map_form, over, spec_form}
 use Rattle.dn_parse.specs.Machine.{Stop, inside, run, go, go_in, feed, is_deep, parentheses}
@@ -43,6 +43,15 @@ sign_row s f n valX acc reader next p d nexts h e = record {
   keeps = λ l vs. refl;
   nexts = nexts;
   steps = step_does f n valX acc reader h e;
+}
+
+-- the same by a reserved word, with no parenthesis open
+pub keyword_row : {X : Type 0} (j : Keyword) (f : Form) (valX : X → Value) (acc : List X → Value) (reader : Reader X) (next : List Token → Next X) → ((ts : List Token) → next ts ≡ if_there (after (is_keyword j) ts) (λ rest. one_more (reader rest)) (Ok None)) → ((ts : List Token) → Does f 0 0 ts [] valX (reader ts)) → ((es : List X) (x : X) (vs : List Value) → perform next_item (valX x ∷ acc es ∷ vs) ≡ acc (es ++ x ∷ []) ∷ vs) → Row (the_keyword j) (both f (does next_item)) 0 acc reader next
+keyword_row j f valX acc reader next nexts h e = record {
+  counts = keyword_counts j 0;
+  keeps = λ l vs. refl;
+  nexts = nexts;
+  steps = step_does f 0 valX acc reader h e;
 }
 
 -- the first part, and then the row
@@ -186,12 +195,7 @@ dest_does ts = seq (name_at 32 ts) _ (name_does ts) (λ n rest. seq (addr_at res
 
 dest_row : Row (the_keyword And) (both dest_form (does next_item)) 0 dests dest_at next_dest_at
 unfolding next_dest_at after_keyword
-dest_row = record {
-  counts = keyword_counts And 0;
-  keeps = λ l vs. refl;
-  nexts = λ ts. refl;
-  steps = step_does dest_form 0 dest dests dest_at dest_does (λ es x vs. refl);
-}
+dest_row = keyword_row And dest_form dest dests dest_at next_dest_at (λ ts. refl) dest_does (λ es x vs. refl)
 
 abbrev entry_with : Block → List Dest × List Token → Read Entry
 entry_with b ds = let e : Entry = record { block = b; dests = ds.0 } in Ok (e, ds.1)

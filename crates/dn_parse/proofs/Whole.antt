@@ -4,7 +4,7 @@ use Rattle.dn_token.specs.declared.token.Sign.TheVariants.{Semicolon}
 use Rattle.dn_token.specs.Token.{Token, sign}
 use Rattle.dn_parse.specs.Tree.{Placed, Statement}
 use Rattle.dn_parse.specs.Forms.{is_sign}
-use Rattle.dn_parse.specs.Syntax.{statement_form, statement_of, SpellsStatement, SpellsText, expr, term, factor, minus_expr, more_terms, more_factors, index, part_form, more_parts, name_form, upper_bound, block_form, at_addr, dest_form, more_dests, entry_form, more_blocks, accept, more_entries, map_form, over, spec_form, plain_form, agent_form, vectors_form, more_names, unit_form, param_form, more_params, params_form, module_form, arg_form, more_args, args_form, use_form, loop_form, access_form, maybe_access, command_form, radix_form}
+use Rattle.dn_parse.specs.Syntax.{statement_form, statement_of, SpellsStatement, SpellsText, expr, term, factor, minus_expr, more_terms, more_factors, index, part_form, more_parts, name_form, upper_bound, block_form, at_addr, dest_form, more_dests, entry_form, more_blocks, accept, more_entries, map_form, over, spec_form, plain_form, agent_form, vectors_form, more_names, unit_form, param_form, more_params, params_form, module_form, arg_form, more_args, args_form, use_form, loop_form, access_form, maybe_access, command_form, radix_form, piece_form, more_pieces, gather_form}
 use Rattle.dn_parse.specs.Machine.{whole, Outcome, with_statement, between, inside, run, go, fed_at_end}
 use Rattle.dn_parse.specs.Laws.{IsDeep}
 use Rattle.dn_parse.proofs.Sets.{may_skip, goes_on, fits, among}
@@ -13,15 +13,15 @@ use Rattle.dn_parse.proofs.Turns.{Upto, upto_then}
 use Rattle.dn_parse.proofs.Spelled.{Calm, form_read}
 
 pub statement_fits : fits statement_form ≡ true
-unfolding expr term factor minus_expr more_terms more_factors index part_form more_parts name_form upper_bound block_form at_addr dest_form more_dests entry_form more_blocks accept more_entries map_form over spec_form plain_form agent_form vectors_form more_names unit_form param_form more_params params_form module_form arg_form more_args args_form use_form loop_form access_form maybe_access command_form radix_form statement_form
+unfolding expr term factor minus_expr more_terms more_factors index part_form more_parts name_form upper_bound block_form at_addr dest_form more_dests entry_form more_blocks accept more_entries map_form over spec_form plain_form agent_form vectors_form more_names unit_form param_form more_params params_form module_form arg_form more_args args_form use_form loop_form access_form maybe_access command_form radix_form piece_form more_pieces gather_form statement_form
 statement_fits = refl
 
 pub statement_needed : may_skip statement_form ≡ false
-unfolding expr term factor minus_expr more_terms more_factors index part_form more_parts name_form upper_bound block_form at_addr dest_form more_dests entry_form more_blocks accept more_entries map_form over spec_form plain_form agent_form vectors_form more_names unit_form param_form more_params params_form module_form arg_form more_args args_form use_form loop_form access_form maybe_access command_form radix_form statement_form
+unfolding expr term factor minus_expr more_terms more_factors index part_form more_parts name_form upper_bound block_form at_addr dest_form more_dests entry_form more_blocks accept more_entries map_form over spec_form plain_form agent_form vectors_form more_names unit_form param_form more_params params_form module_form arg_form more_args args_form use_form loop_form access_form maybe_access command_form radix_form piece_form more_pieces gather_form statement_form
 statement_needed = refl
 
 pub semicolon_ends : among (goes_on statement_form) (sign Semicolon) ≡ false
-unfolding expr term factor minus_expr more_terms more_factors index part_form more_parts name_form upper_bound block_form at_addr dest_form more_dests entry_form more_blocks accept more_entries map_form over spec_form plain_form agent_form vectors_form more_names unit_form param_form more_params params_form module_form arg_form more_args args_form use_form loop_form access_form maybe_access command_form radix_form statement_form
+unfolding expr term factor minus_expr more_terms more_factors index part_form more_parts name_form upper_bound block_form at_addr dest_form more_dests entry_form more_blocks accept more_entries map_form over spec_form plain_form agent_form vectors_form more_names unit_form param_form more_params params_form module_form arg_form more_args args_form use_form loop_form access_form maybe_access command_form radix_form piece_form more_pieces gather_form statement_form
 semicolon_ends = refl
 
 -- one statement, with its `;`

@@ -2,7 +2,7 @@
 use Rattle.std.specs.Prelude.{ℕ, List, [], ◌∷◌, ◌++◌, Option, Some, None}
 use Rattle.dn_parse.specs.declared.syntax.Mode.{Mode}
 use Rattle.dn_parse.specs.declared.syntax.Mode.TheVariants.{Unsaid, Read, Write}
-use Rattle.dn_parse.specs.Tree.{Expression, variable, sum, product, minus, expressions, Part, Block, Dest, Entry, plain_role, agent_role, vectors_role, Spec, Param, number_param, node_param, Arg, number_arg, node_arg, node, unit, resolve, lookup, view, grant, route, revoke, dump, split, absorb, radix, Statement, declares, heads_module, uses, heads_loop, ends, begins, orders}
+use Rattle.dn_parse.specs.Tree.{Expression, variable, sum, product, minus, expressions, Part, Block, Dest, Entry, plain_role, agent_role, vectors_role, Spec, Param, number_param, node_param, Arg, number_arg, node_arg, node, unit, resolve, lookup, view, grant, route, revoke, dump, split, absorb, radix, gather, Piece, Statement, declares, heads_module, uses, heads_loop, ends, begins, orders}
 
 -- a value: a part of the tree, or the list of such parts so far
 pub data Value : Type 0 where
@@ -26,6 +26,8 @@ pub data Value : Type 0 where
   arg : Arg → Value
   args : List Arg → Value
   mode : Mode → Value
+  piece : Piece → Value
+  pieces : List Piece → Value
   statement : Statement → Value
 
 -- a sum or a product of one member is that member
@@ -87,6 +89,8 @@ pub data Action : Type 0 where
   make_split : Action
   make_absorb : Action
   make_radix : Action
+  make_piece : Action
+  make_gather : Action
 
 -- the list of this part alone
 abbrev pub list_of_one : Value → Value
@@ -98,6 +102,7 @@ list_of_one (dest d) = dests (d ∷ [])
 list_of_one (entry e) = entries (e ∷ [])
 list_of_one (param p) = params (p ∷ [])
 list_of_one (arg a) = args (a ∷ [])
+list_of_one (piece p) = pieces (p ∷ [])
 list_of_one v = v
 
 -- a list with this part behind it
@@ -110,6 +115,7 @@ with_last (dests ds) (dest d) = dests (ds ++ d ∷ [])
 with_last (entries es) (entry e) = entries (es ++ e ∷ [])
 with_last (params ps) (param p) = params (ps ++ p ∷ [])
 with_last (args xs) (arg a) = args (xs ++ a ∷ [])
+with_last (pieces ps) (piece p) = pieces (ps ++ p ∷ [])
 with_last list v = list
 
 -- what an action makes of the values on top, which are as it wants them in every spelling
@@ -161,4 +167,6 @@ perform make_dump vs = statement (orders dump) ∷ vs
 perform make_split vs = statement (orders split) ∷ vs
 perform make_absorb (name n ∷ vs) = statement (orders (absorb n)) ∷ vs
 perform make_radix (expression pool ∷ name n ∷ vs) = statement (orders (radix n pool)) ∷ vs
+perform make_piece (expression size ∷ expression base ∷ name n ∷ text w ∷ vs) = piece (record { id = w; node = n; base = base; size = size }) ∷ vs
+perform make_gather (mode m ∷ pieces ps ∷ name agent ∷ vs) = statement (orders (gather agent ps m)) ∷ vs
 perform a vs = vs

@@ -8,7 +8,8 @@ use Rattle.dn_token.specs.declared.token.Sign.{Sign}
 use Rattle.dn_token.specs.declared.token.Sign.TheVariants.{Semicolon, Comma, OpenBracket, CloseBracket, OpenParenthesis, CloseParenthesis, Minus, Plus, Times, Dot, Dots}
 use Rattle.dn_token.specs.Token.{Lexeme, Token, word, keyword, number, sign}
 use Rattle.dn_token.specs.Words.{spelling}
-use Rattle.dn_parse.specs.Tree.{Expression, constant, variable, minus, Part, Block, Dest, Entry, Role, plain_role, agent_role, vectors_role, Spec, Param, number_param, node_param, Arg, number_arg, node_arg, Declaration, node, unit, Order, resolve, lookup, view, grant, route, revoke, dump, split, absorb, radix, Statement, declares, heads_module, uses, heads_loop, ends, begins, orders}
+use Rattle.std.specs.Str.{bytes_eq}
+use Rattle.dn_parse.specs.Tree.{Expression, constant, variable, minus, Part, Block, Dest, Entry, Role, plain_role, agent_role, vectors_role, Spec, Param, number_param, node_param, Arg, number_arg, node_arg, Declaration, node, unit, Order, resolve, lookup, view, grant, route, revoke, dump, split, absorb, radix, gather, Piece, Statement, declares, heads_module, uses, heads_loop, ends, begins, orders}
 use Rattle.dn_parse.specs.Actions.{sum_of_members, product_of_members}
 use Rattle.dn_parse.specs.Forms.{is_sign, is_keyword, is_the_word, is_command_word}
 use Rattle.dn_parse.specs.Machine.{Stop, refused, deep}
@@ -476,6 +477,35 @@ radix_at ts = do
   pool ← expr_at 32 name.1
   Ok (radix name.0 pool.0, pool.1)
 
+-- word name expr expr
+unfoldable pub piece_at : Reader Piece
+piece_at ts = do
+  id ← word_at ts
+  name ← name_at 32 id.1
+  base ← expr_at 32 name.1
+  size ← expr_at 32 base.1
+  Ok (record { id = id.0; node = name.0; base = base.0; size = size.0 }, size.1)
+
+-- [ "and" piece ]
+unfoldable pub next_piece_at : List Token → Next Piece
+next_piece_at ts = if_there (after_keyword And ts) (λ rest. one_more (piece_at rest)) (Ok None)
+
+-- piece { "and" piece }, at most eight
+unfoldable pub pieces_at : Reader (List Piece)
+pieces_at ts = first_and_most 7 piece_at next_piece_at ts
+
+-- name piece { "and" piece } [ access ]
+unfoldable pub gather_at : Reader Order
+gather_at ts = do
+  agent ← name_at 32 ts
+  pieces ← pieces_at agent.1
+  access ← access_at pieces.1
+  Ok (gather agent.0 pieces.0 access.0, access.1)
+
+-- the command that this word begins, which is not reserved and is the word of one
+unfoldable pub word_order_at : List ℕ → Reader Order
+word_order_at w ts = if bytes_eq w (codes "radix") then radix_at ts else gather_at ts
+
 -- the command that this reserved word begins
 unfoldable pub order_at : Keyword → List Token → Reader Order
 order_at Resolve ts rest = resolve_at rest
@@ -527,7 +557,7 @@ begins_order w rest = is_command_word w && begins_word rest
 
 -- the statement that this word begins, which is not reserved: a command, or the declaration of a node
 unfoldable pub word_statement_at : List ℕ → List Token → Reader Statement
-word_statement_at w ts rest = if begins_order w rest then as_ordered (radix_at rest) else as_declared (node_at plain_role ts)
+word_statement_at w ts rest = if begins_order w rest then as_ordered (word_order_at w rest) else as_declared (node_at plain_role ts)
 
 -- the statement that begins with this lexeme
 abbrev pub statement_by : Lexeme → List Token → Reader Statement

@@ -1,5 +1,5 @@
 -- What a grammar is made of, and what it is to spell a form: the tokens, and what they add to the values of the tree.
-use Rattle.std.specs.Prelude.{◌≡◌, ◌⊎◌, ℕ, zero, suc, Bool, true, false, not, List, [], ◌∷◌, ◌++◌, codes}
+use Rattle.std.specs.Prelude.{◌≡◌, ◌⊎◌, ℕ, zero, suc, Bool, true, false, not, ◌||◌, List, [], ◌∷◌, ◌++◌, codes}
 use Rattle.std.specs.Str.{bytes_eq}
 use Rattle.dn_token.specs.declared.token.Keyword.{Keyword}
 use Rattle.dn_token.specs.declared.token.Sign.{Sign}
@@ -10,7 +10,7 @@ use Rattle.dn_parse.specs.Tree.{constant}
 
 -- a word that is not reserved and that begins a command where a word follows it
 abbrev pub is_command_word : List ℕ → Bool
-is_command_word w = bytes_eq w (codes "radix")
+is_command_word w = bytes_eq w (codes "radix") || bytes_eq w (codes "gather")
 
 -- the sorts of tokens: a word that is not reserved, such a word that begins no command, a word of either sort, a number,
 -- one word that is not reserved, one reserved word, one sign

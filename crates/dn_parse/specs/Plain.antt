@@ -1,7 +1,7 @@
 -- Commands whose parts have their values as they stand.
 use Rattle.std.specs.Prelude.{Bool, true, false, ◌&&◌, List, Option, None, Some}
 use Rattle.std.specs.List.{list_all}
-use Rattle.dn_parse.specs.Tree.{Command, Expression, constant, variable, sum, product, minus, Part, Order, resolve, lookup, view, grant, route, revoke, dump, split, absorb, radix}
+use Rattle.dn_parse.specs.Tree.{Command, Expression, constant, variable, sum, product, minus, Part, Order, resolve, lookup, view, grant, route, revoke, dump, split, absorb, radix, gather, Piece}
 
 -- an expression that is a number
 abbrev pub is_constant : Expression → Bool
@@ -20,6 +20,10 @@ is_constant_index (Some e) = is_constant e
 abbrev pub is_constant_name : List Part → Bool
 is_constant_name ps = list_all (λ p. is_constant_index p.index) ps
 
+-- a piece of which each expression is a number, indices of its name among them
+abbrev pub is_plain_piece : Piece → Bool
+is_plain_piece p = is_constant_name p.node && (is_constant p.base && is_constant p.size)
+
 -- a command of which each expression is a number, indices of names among them
 abbrev pub is_plain_order : Order → Bool
 is_plain_order (resolve name e m) = is_constant_name name && is_constant e
@@ -32,6 +36,7 @@ is_plain_order dump = true
 is_plain_order split = true
 is_plain_order (absorb name) = is_constant_name name
 is_plain_order (radix name e) = is_constant_name name && is_constant e
+is_plain_order (gather agent pieces m) = is_constant_name agent && list_all is_plain_piece pieces
 
 -- commands that are all plain
 abbrev pub are_plain : List Command → Bool

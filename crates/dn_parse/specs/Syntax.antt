@@ -6,7 +6,7 @@ use Rattle.dn_token.specs.declared.token.Sign.{Sign}
 use Rattle.dn_token.specs.declared.token.Sign.TheVariants.{Semicolon, Comma, OpenBracket, CloseBracket, OpenParenthesis, CloseParenthesis, Minus, Plus, Times, Dot, Dots}
 use Rattle.dn_token.specs.Token.{Token, sign}
 use Rattle.dn_parse.specs.Tree.{Statement, Placed, ends}
-use Rattle.dn_parse.specs.Actions.{Value, statement, keep, make_variable, first_item, next_item, put_word, make_sum, make_product, make_difference, no_expression, some_expression, make_part, no_name, some_name, make_block, no_blocks, make_dest, make_entry, no_entries, make_spec, make_number_param, make_node_param, no_params, make_number_arg, make_node_arg, no_args, make_plain, make_agent, make_vectors, make_unit, make_module, make_use, make_loop, make_end, make_begin, no_access, for_read, for_write, make_resolve, make_lookup, make_view, make_grant, make_route, make_revoke, make_dump, make_split, make_absorb, make_radix}
+use Rattle.dn_parse.specs.Actions.{Value, statement, keep, make_variable, first_item, next_item, put_word, make_sum, make_product, make_difference, no_expression, some_expression, make_part, no_name, some_name, make_block, no_blocks, make_dest, make_entry, no_entries, make_spec, make_number_param, make_node_param, no_params, make_number_arg, make_node_arg, no_args, make_plain, make_agent, make_vectors, make_unit, make_module, make_use, make_loop, make_end, make_begin, no_access, for_read, for_write, make_resolve, make_lookup, make_view, make_grant, make_route, make_revoke, make_dump, make_split, make_absorb, make_radix, make_piece, make_gather}
 use Rattle.dn_parse.specs.Forms.{Form, takes, does, many, parenthesised, either, and_then, a_word, a_node_word, any_word, a_number, the_word, the_keyword, the_sign, forms_in_order, one_of, Spells}
 
 -- one reserved word
@@ -215,6 +215,18 @@ after_command_word w f = forms_in_order (this w) (one_of f (plain_by (does (put_
 unfoldable pub radix_form : Form
 radix_form = after_command_word (codes "radix") (forms_in_order name_form (expr ∷ does make_radix ∷ []))
 
+-- piece = word name expr expr
+unfoldable pub piece_form : Form
+piece_form = forms_in_order (takes a_word) (name_form ∷ expr ∷ expr ∷ does make_piece ∷ [])
+
+-- { "and" piece }, at most so many times
+unfoldable pub more_pieces : ℕ → Form
+more_pieces n = at_most n (forms_in_order (the And) (piece_form ∷ does next_item ∷ []))
+
+-- "gather" name piece { "and" piece } [ access ]          (1 to 8 pieces)
+unfoldable pub gather_form : Form
+gather_form = after_command_word (codes "gather") (forms_in_order name_form (piece_form ∷ does first_item ∷ more_pieces 7 ∷ maybe_access ∷ does make_gather ∷ []))
+
 -- command = "resolve" name expr [ access ] | "lookup" name expr [ access ]
 --         | "view" name [ access ]
 --         | "grant" word name name expr expr [ access ]
@@ -235,7 +247,7 @@ command_form =
 
 -- statement = plain | agent | vectors | unit | module | instance | loop
 --           | "end" | "begin" | command
--- radix_form is the command whose word is not reserved
+-- radix_form and gather_form are the commands whose words are not reserved
 unfoldable pub statement_form : Form
 statement_form =
     one_of plain_form
@@ -244,6 +256,7 @@ statement_form =
     ∷ forms_in_order (the Begin) (does make_begin ∷ [])
     ∷ command_form
     ∷ radix_form
+    ∷ gather_form
     ∷ [])
 
 -- an expression in parentheses, with fewer than so many open at once in it

@@ -62,7 +62,14 @@ pub data Arg : Type 0 where
   number_arg : Expression → Arg
   node_arg : List Part → Arg
 
--- what a command asks for, and in the first four the access that it says
+-- a piece of memory that a gather asks for: its id, and addresses of a node
+pub record Piece : Type 0 where
+  pub id : List ℕ
+  pub node : List Part
+  pub base : Expression
+  pub size : Expression
+
+-- what a command asks for, and the access that it says, where it may say one
 pub data Order : Type 0 where
   resolve : List Part → Expression → Mode → Order
   lookup : List Part → Expression → Mode → Order
@@ -74,6 +81,7 @@ pub data Order : Type 0 where
   split : Order
   absorb : List Part → Order
   radix : List Part → Expression → Order
+  gather : List Part → List Piece → Mode → Order
 
 -- the declaration of a node, or of a unit with its kind, page, slots, reach and ports
 pub data Declaration : Type 0 where

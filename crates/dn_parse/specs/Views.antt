@@ -12,6 +12,7 @@ use Rattle.dn_parse.specs.declared.syntax.Spec.{Spec as CodeSpec}
 use Rattle.dn_parse.specs.declared.syntax.UnitExpr.{UnitExpr}
 use Rattle.dn_parse.specs.declared.syntax.GrantExpr.{GrantExpr}
 use Rattle.dn_parse.specs.declared.syntax.RouteExpr.{RouteExpr}
+use Rattle.dn_parse.specs.declared.syntax.PieceExpr.{PieceExpr}
 use Rattle.dn_parse.specs.declared.syntax.Param.{Param as CodeParam}
 use Rattle.dn_parse.specs.declared.syntax.Param.TheVariants.{Num as NumParam, Node as NodeParam}
 use Rattle.dn_parse.specs.declared.syntax.Arg.{Arg as CodeArg}
@@ -21,7 +22,7 @@ use Rattle.dn_parse.specs.declared.syntax.DeclRole.TheVariants.{Plain, Agent, Ve
 use Rattle.dn_parse.specs.declared.syntax.Decl.{Decl as CodeDeclaration}
 use Rattle.dn_parse.specs.declared.syntax.Decl.TheVariants.{Node, Unit as UnitCase}
 use Rattle.dn_parse.specs.declared.syntax.Order.{Order as CodeOrder}
-use Rattle.dn_parse.specs.declared.syntax.Order.TheVariants.{Resolve, Lookup, View, Grant, Route, Revoke, Dump, Split, Absorb, Radix}
+use Rattle.dn_parse.specs.declared.syntax.Order.TheVariants.{Resolve, Lookup, View, Grant, Route, Revoke, Dump, Split, Absorb, Radix, Gather}
 use Rattle.dn_parse.specs.declared.statements.Statement.{Statement as CodeStatement}
 use Rattle.dn_parse.specs.declared.statements.Statement.TheVariants.{Decl as DeclCase, Module as ModuleCase, Instance as InstanceCase, Loop as LoopCase, End as EndCase, Begin as BeginCase, Order as OrderCase}
 use Rattle.dn_parse.specs.declared.syntax.Stmt.{Stmt}
@@ -35,7 +36,7 @@ use Rattle.dn_parse.specs.declared.blocks.Opener.TheVariants.{Module as OpenerMo
 use Rattle.dn_parse.specs.declared.blocks.Frame.{Frame as CodeFrame}
 use Rattle.dn_parse.specs.declared.blocks.Blocks.{Blocks as CodeBlocks}
 use Rattle.dn_parse.specs.Whole.{Opener, opens_module, opens_loop, Frame, Blocks}
-use Rattle.dn_parse.specs.Tree.{Expression, constant, variable, sum, product, minus, expressions, Part, Block, Dest, Entry, Role, plain_role, agent_role, vectors_role, Spec, Param, number_param, node_param, Arg, number_arg, node_arg, Declaration, node, unit, Order, resolve, lookup, view, grant, route, revoke, dump, split, absorb, radix, Statement, declares, heads_module, uses, heads_loop, ends, begins, orders, Item, declared, module_of, instance, loop, items, Command, Tree}
+use Rattle.dn_parse.specs.Tree.{Expression, constant, variable, sum, product, minus, expressions, Part, Block, Dest, Entry, Role, plain_role, agent_role, vectors_role, Spec, Param, number_param, node_param, Arg, number_arg, node_arg, Declaration, node, unit, Order, resolve, lookup, view, grant, route, revoke, dump, split, absorb, radix, gather, Piece, Statement, declares, heads_module, uses, heads_loop, ends, begins, orders, Item, declared, module_of, instance, loop, items, Command, Tree}
 
 -- one level of an expression, with its parts in their places
 abbrev pub expr_step : Expr-F Expression → Expression
@@ -119,6 +120,10 @@ grant_view g = grant g.id.now (name_view g.agent) (name_view g.node) (expr_view 
 abbrev pub route_view : RouteExpr → Order
 route_view r = route r.id.now (name_view r.agent) (expr_view r.line) (name_view r.node)
 
+-- a piece that a gather asks for
+abbrev pub piece_view : PieceExpr → Piece
+piece_view p = record { id = p.id.now; node = name_view p.node; base = expr_view p.base; size = expr_view p.size }
+
 -- what a command asks for
 abbrev pub order_view : CodeOrder → Order
 order_view (Resolve n e m) = resolve (name_view n) (expr_view e) m
@@ -131,6 +136,7 @@ order_view Dump = dump
 order_view Split = split
 order_view (Absorb n) = absorb (name_view n)
 order_view (Radix n e) = radix (name_view n) (expr_view e)
+order_view (Gather a ps m) = gather (name_view a) (map piece_view ps) m
 
 -- one statement
 abbrev pub statement_view : CodeStatement → Statement

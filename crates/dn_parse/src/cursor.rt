@@ -3,7 +3,7 @@
 ghost use Rattle.std.specs.Prelude.{◌≡◌, ◌<◌, length, true, Ok, Err, IfOk};
 ghost use Rattle.dn_token.specs.Terms.{cursor_view};
 ghost use Rattle.dn_parse.specs.declared.cursor.Halt.TheVariants.{Refused};
-ghost use Rattle.dn_parse.specs.Terms.{GoesOn, IsShorter, Reads, after_keyword, after_sign, after_word, begins_node, begins_order, begins_word, first_line, halt_view, keyword_at, sign_at, the_word_at, word_at};
+ghost use Rattle.dn_parse.specs.Terms.{GoesOn, IsShorter, Reads, after_keyword, after_sign, after_word, begins_node, begins_order, begins_word, first_line, halt_view, is_command_word, keyword_at, sign_at, the_word_at, word_at};
 ghost use Rattle.dn_base.specs.Terms.{Answers};
 
 use dn_token::cursor::Cursor;
@@ -62,12 +62,19 @@ fn at_word<'a>(tokens: &Cursor<'a>) -> bool
     matches!(token.lexeme, Lexeme::Word(_))
 }
 
+/// Whether this word, which is not reserved, is that of a command.
+fn is_command_word(word: &str) -> bool
+    ensures { result ≡ is_command_word word.now }
+{
+    word == "radix" || word == "gather"
+}
+
 /// Whether a command begins with this word, which is not reserved: it is the word of one, and a word
 /// follows it.
 pub fn begins_order<'a>(word: &str, tokens: &Cursor<'a>) -> bool
     ensures { result ≡ begins_order word.now (cursor_view tokens.now) }
 {
-    word == "radix" && at_word(tokens)
+    is_command_word(word) && at_word(tokens)
 }
 
 /// Whether the declaration of a node begins here, as its name does: with a word that is not reserved and
@@ -81,7 +88,7 @@ pub fn at_node<'a>(tokens: &Cursor<'a>) -> bool
     let Lexeme::Word(word) = token.lexeme else {
         return false;
     };
-    !(word == "radix" && at_word(&tokens.advance()))
+    !(is_command_word(word) && at_word(&tokens.advance()))
 }
 
 /// Whether this sign is the next token; it goes on behind it where it is.

@@ -1,9 +1,10 @@
 //! Commands whose parts have their values as they stand.
 
-ghost use Rattle.std.specs.Prelude.{◌≡◌};
-ghost use Rattle.dn_parse.specs.Terms.{expr_view, index_view, is_constant, is_constant_index, is_constant_name, is_plain_order, name_view, order_view};
+ghost use Rattle.std.specs.Prelude.{◌≡◌, map};
+ghost use Rattle.std.specs.List.{list_all};
+ghost use Rattle.dn_parse.specs.Terms.{expr_view, index_view, is_constant, is_constant_index, is_constant_name, is_plain_order, is_plain_piece, name_view, order_view, piece_view};
 
-use crate::syntax::{Expr, Order, PartExpr};
+use crate::syntax::{Expr, Order, PartExpr, PieceExpr};
 
 /// Whether an expression is a number.
 fn is_constant(expr: &Expr) -> bool
@@ -37,6 +38,25 @@ fn is_constant_name(name: &[PartExpr]) -> bool
     true
 }
 
+/// Whether each expression of a piece is a number, indices of its name among them.
+fn is_plain_piece(piece: &PieceExpr) -> bool
+    ensures { result ≡ is_plain_piece (piece_view piece.now) }
+{
+    is_constant_name(piece.node.as_slice()) && is_constant(&piece.base) && is_constant(&piece.size)
+}
+
+/// Whether each expression of the pieces is a number.
+fn are_plain_pieces(pieces: &[PieceExpr]) -> bool
+    ensures { result ≡ list_all is_plain_piece (map piece_view pieces.now) }
+{
+    for piece in pieces {
+        if !is_plain_piece(piece) {
+            return false;
+        }
+    }
+    true
+}
+
 /// Whether each expression of a command is a number, indices of names among them.
 pub fn is_plain(order: &Order) -> bool
     ensures { result ≡ is_plain_order (order_view order.now) }
@@ -61,5 +81,8 @@ pub fn is_plain(order: &Order) -> bool
         Order::Split => true,
         Order::Absorb(name) => is_constant_name(name.as_slice()),
         Order::Radix { node, pool } => is_constant_name(node.as_slice()) && is_constant(pool),
+        Order::Gather { agent, pieces, .. } => {
+            is_constant_name(agent.as_slice()) && are_plain_pieces(pieces.as_slice())
+        }
     }
 }

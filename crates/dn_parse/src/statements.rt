@@ -2,7 +2,7 @@
 
 ghost use Rattle.std.specs.Prelude.{◌≡◌, ◌<◌, true, length, map, IfOk, IfSome};
 ghost use Rattle.dn_token.specs.Terms.{cursor_view};
-ghost use Rattle.dn_parse.specs.Terms.{IsShorter, Reads, ReadsNext, Shortens, access_at, any_word_at, arg_at, arg_view, args_at, as_declared, begins_node, closed_args_at, closed_params_at, command_at, command_view, declaration_view, declares, expr_view, grant_at, keyword_statement_at, lookup_at, loop_at, measure_at, mode_at, module_at, name_view, next_arg_at, next_param_at, next_port_at, node_at, order_at, order_view, param_at, param_view, params_at, ports_at, radix_at, resolve_at, role_view, route_at, statement_at, statement_view, unit_declaration_at, use_at, view_at, whole_statement_at, word_statement_at};
+ghost use Rattle.dn_parse.specs.Terms.{IsShorter, Reads, ReadsNext, Shortens, access_at, any_word_at, arg_at, arg_view, args_at, as_declared, begins_node, closed_args_at, closed_params_at, command_at, command_view, declaration_view, declares, expr_view, gather_at, grant_at, keyword_statement_at, lookup_at, loop_at, measure_at, mode_at, module_at, name_view, next_arg_at, next_param_at, next_piece_at, next_port_at, node_at, order_at, order_view, param_at, param_view, params_at, piece_at, piece_view, pieces_at, ports_at, radix_at, resolve_at, role_view, route_at, statement_at, statement_view, unit_declaration_at, use_at, view_at, whole_statement_at, word_order_at, word_statement_at};
 ghost use Rattle.dn_parse.specs.declared.cursor.Halt.TheVariants.{Refused};
 
 use crate::cursor::{
@@ -13,7 +13,8 @@ use crate::expressions::expr;
 use crate::listed::{Member, eight_members, members};
 use crate::nodes::{name, spec};
 use crate::syntax::{
-    Arg, Cmd, Decl, DeclRole, Expr, GrantExpr, Mode, NameExpr, Order, Param, RouteExpr, UnitExpr,
+    Arg, Cmd, Decl, DeclRole, Expr, GrantExpr, Mode, NameExpr, Order, Param, PieceExpr, RouteExpr,
+    UnitExpr,
 };
 use dn_base::items::Items;
 use dn_token::cursor::Cursor;
@@ -468,7 +469,97 @@ fn radix<'a>(alloc: Global, tokens: &mut Cursor<'a>) -> Result<Order<'a>, Halt>
     Ok(Order::Radix { node, pool })
 }
 
-/// What follows the word of a command; `whole` begins with the word.
+/// `word name expr expr`
+#[tactic(auto, unfolding(crate::specs::Descent::piece_at))]
+fn piece<'a>(alloc: Global, tokens: &mut Cursor<'a>) -> Result<PieceExpr<'a>, Halt>
+    ensures gives { Reads piece_view result tokens.new (piece_at (cursor_view tokens.old)) }
+    ensures shorter { IfOk result (λ _. IsShorter tokens.new tokens.old) }
+{
+    let id = word(tokens)?;
+    let node = name(alloc, tokens, MOST_OPEN)?;
+    let base = expr(alloc, tokens, MOST_OPEN)?;
+    let size = expr(alloc, tokens, MOST_OPEN)?;
+    Ok(PieceExpr {
+        id,
+        node,
+        base,
+        size,
+    })
+}
+
+/// `[ "and" piece ]`
+#[tactic(auto, unfolding(crate::specs::Descent::next_piece_at))]
+fn next_piece<'a>(alloc: Global, tokens: &mut Cursor<'a>) -> Result<Option<PieceExpr<'a>>, Halt>
+    ensures gives { ReadsNext piece_view result tokens.new
+        (next_piece_at (cursor_view tokens.old)) }
+    ensures shorter { IfOk result (λ o. Shortens o tokens.new tokens.old) }
+{
+    if !after_keyword(tokens, Keyword::And) {
+        return Ok(None);
+    }
+    let piece = piece(alloc, tokens)?;
+    Ok(Some(piece))
+}
+
+impl<'a> Member<'a> for PieceExpr<'a> {
+    ghost use Rattle.dn_parse.specs.Tree.{Piece};
+    ghost use Rattle.dn_parse.specs.Views.{piece_view};
+    ghost use Rattle.dn_parse.specs.Descent.{piece_at, next_piece_at};
+
+    ghost Tree = { Piece };
+
+    ghost view = { piece_view };
+
+    ghost first_at = { piece_at };
+
+    ghost next_at = { next_piece_at };
+
+    fn first(alloc: Global, tokens: &mut Cursor<'a>) -> Result<PieceExpr<'a>, Halt> {
+        piece(alloc, tokens)
+    }
+
+    fn next(alloc: Global, tokens: &mut Cursor<'a>) -> Result<Option<PieceExpr<'a>>, Halt> {
+        next_piece(alloc, tokens)
+    }
+}
+
+/// `piece { "and" piece }`, at most eight: a ninth is left where it stands.
+#[tactic(auto, unfolding(crate::specs::Descent::pieces_at))]
+fn pieces<'a>(alloc: Global, tokens: &mut Cursor<'a>) -> Result<Items<PieceExpr<'a>>, Halt>
+    ensures gives { Reads (map piece_view) result tokens.new
+        (pieces_at (cursor_view tokens.old)) }
+{
+    eight_members(alloc, tokens)
+}
+
+/// `name piece { "and" piece } [ access ]`, of `gather`
+#[tactic(auto, unfolding(crate::specs::Descent::gather_at))]
+fn gather<'a>(alloc: Global, tokens: &mut Cursor<'a>) -> Result<Order<'a>, Halt>
+    ensures gives { Reads order_view result tokens.new (gather_at (cursor_view tokens.old)) }
+{
+    let agent = name(alloc, tokens, MOST_OPEN)?;
+    let pieces = pieces(alloc, tokens)?;
+    let mode = access(tokens)?;
+    Ok(Order::Gather {
+        agent,
+        pieces,
+        mode,
+    })
+}
+
+/// What follows the word of a command that is not reserved.
+#[tactic(auto, unfolding(crate::specs::Descent::word_order_at))]
+fn word_order<'a>(alloc: Global, word: &str, tokens: &mut Cursor<'a>) -> Result<Order<'a>, Halt>
+    ensures gives { Reads order_view result tokens.new
+        (word_order_at word.now (cursor_view tokens.old)) }
+{
+    if word == "radix" {
+        return radix(alloc, tokens);
+    }
+    gather(alloc, tokens)
+}
+
+/// What follows the reserved word of a command; `whole` begins with the word.
 #[tactic(auto, unfolding(crate::specs::Descent::order_at))]
 fn order<'a>(
     alloc: Global,
@@ -542,7 +633,7 @@ fn word_statement<'a>(
         (word_statement_at word.now (cursor_view whole.now) (cursor_view tokens.old)) }
 {
     if begins_order(word, tokens) {
-        let order = radix(alloc, tokens)?;
+        let order = word_order(alloc, word, tokens)?;
         return Ok(Statement::Order(order));
     }
     *tokens = *whole;

@@ -154,7 +154,24 @@ pub enum Order<'a> {
     Dump,
     Split,
     Absorb(NameExpr<'a>),
-    Radix { node: NameExpr<'a>, pool: Expr<'a> },
+    Radix {
+        node: NameExpr<'a>,
+        pool: Expr<'a>,
+    },
+    Gather {
+        agent: NameExpr<'a>,
+        pieces: Items<PieceExpr<'a>>,
+        mode: Mode,
+    },
+}
+
+/// A piece of memory that a gather asks for: addresses of a node. There are one to eight.
+#[derive(Drop)]
+pub struct PieceExpr<'a> {
+    pub id: &'a str,
+    pub node: NameExpr<'a>,
+    pub base: Expr<'a>,
+    pub size: Expr<'a>,
 }
 
 /// What a grant asks for: that an agent reaches addresses of a node.

@@ -1,5 +1,6 @@
 -- What is read from proper tokens is well formed.
 use Rattle.std.proofs.Common.{inl, ℕ, zero, suc, ◌≤◌, Bool, true, false, cond, List, [], ◌∷◌, length, codes, Option, Some, None, Result, Ok, Err, arith}
+use Rattle.std.specs.Str.{bytes_eq}
 use Rattle.dn_base.proofs.Lists.{Each}
 use Rattle.dn_token.specs.declared.token.Keyword.{Keyword}
 use Rattle.dn_token.specs.declared.token.Keyword.TheVariants.{Agent, Vectors, Unit as UnitWord, Module, Use, For, In, End, Begin, Is, Accept, Map, To, And, At, Over, Kind, Page, Slots, Reach, As, Num, Node, Resolve, Lookup, View, Grant, Route, Revoke, Dump, Split, Absorb}
@@ -10,7 +11,7 @@ use Rattle.dn_parse.specs.Tree.{Expression, expressions, Role, plain_role, agent
 use Rattle.dn_parse.specs.Actions.{sum_of_members, product_of_members}
 use Rattle.dn_parse.specs.Forms.{is_sign, is_the_word}
 use Rattle.dn_parse.specs.Machine.{Stop}
-use Rattle.dn_parse.specs.Descent.{and_then, word_of, any_of, Read, Next, Reader, if_there, after, after_sign, after_keyword, after_word, or_refused, sign_at, keyword_at, the_word_at, word_at, any_word_at, value_or_refused, value_at, with_front, row, row_from, row_at, one_more, after_comma, first_and, next_by, term_with, expr_with, after_open_with, at_sign, factor_of, factor_with, nested_at, factor_at, next_factor_at, factors_at, term_at, next_term_at, terms_at, expr_at, first_and_most, expr_after, in_brackets, index_at, part_at, next_part_at, name_at, upper_at, block_at, next_block_at, blocks_at, addr_at, dest_at, next_dest_at, dests_at, entry_at, next_entry_at, entries_at, accept_at, map_at, over_at, spec_at, param_at, next_param_at, params_at, closed_params_at, arg_at, next_arg_at, args_at, closed_args_at, next_port_at, ports_at, node_at, measure_at, unit_declaration_at, module_at, use_at, loop_at, mode_at, access_at, resolve_at, lookup_at, view_at, grant_at, route_at, radix_at, order_at, as_declared, as_ordered, keyword_statement_at, begins_order, word_statement_at, statement_by, statement_at, whole_statement_at}
+use Rattle.dn_parse.specs.Descent.{and_then, word_of, any_of, Read, Next, Reader, if_there, after, after_sign, after_keyword, after_word, or_refused, sign_at, keyword_at, the_word_at, word_at, any_word_at, value_or_refused, value_at, with_front, row, row_from, row_at, one_more, after_comma, first_and, next_by, term_with, expr_with, after_open_with, at_sign, factor_of, factor_with, nested_at, factor_at, next_factor_at, factors_at, term_at, next_term_at, terms_at, expr_at, first_and_most, expr_after, in_brackets, index_at, part_at, next_part_at, name_at, upper_at, block_at, next_block_at, blocks_at, addr_at, dest_at, next_dest_at, dests_at, entry_at, next_entry_at, entries_at, accept_at, map_at, over_at, spec_at, param_at, next_param_at, params_at, closed_params_at, arg_at, next_arg_at, args_at, closed_args_at, next_port_at, ports_at, node_at, measure_at, unit_declaration_at, module_at, use_at, loop_at, mode_at, access_at, resolve_at, lookup_at, view_at, grant_at, route_at, radix_at, piece_at, next_piece_at, pieces_at, gather_at, word_order_at, order_at, as_declared, as_ordered, keyword_statement_at, begins_order, word_statement_at, statement_by, statement_at, whole_statement_at}
 use Rattle.dn_print.proofs.Titles.{Title}
 use Rattle.dn_print.proofs.Words.{IsWord, title_word, keyword_word}
 use Rattle.dn_print.proofs.Formed.{Maybe}
@@ -260,13 +261,12 @@ dest_reads : (ts : List Token) → Proper ts → Reads NamedDest (dest_at ts)
 unfolding dest_at addr_at
 dest_reads ts h = bind (name_at 32 ts) _ (name_reads 32 ts h) (λ n r p q. bind (addr_at r) _ (maybe_reads (expr_at 32) (expr_reads 32) (after_keyword At r) r (keyword_left At r q) q) (λ a r' p' q'. given (p, p') q'))
 
-next_dest_reads : (ts : List Token) → Proper ts → Nexts NamedDest (next_dest_at ts)
-unfolding next_dest_at
-next_dest_reads ts h = optional_next (after_keyword And ts) _ (keyword_left And ts h) (λ rest p. more_next (dest_at rest) (dest_reads rest p))
+and_nexts : {X : Type 0} {P : X → Type 0} (reader : Reader X) → ((ts : List Token) → Proper ts → Reads P (reader ts)) → (ts : List Token) → Proper ts → Nexts P (if_there (after_keyword And ts) (λ rest. one_more (reader rest)) (Ok None))
+and_nexts reader good ts h = optional_next (after_keyword And ts) _ (keyword_left And ts h) (λ rest p. more_next (reader rest) (good rest p))
 
 dests_reads : (ts : List Token) → Proper ts → Reads (λ ds. Some1 NamedDest ds × (1 ≤ length ds) × (length ds ≤ 8)) (dests_at ts)
-unfolding dests_at
-dests_reads ts h = most_reads 7 dest_at next_dest_at dest_reads next_dest_reads ts h
+unfolding dests_at next_dest_at
+dests_reads ts h = most_reads 7 dest_at next_dest_at dest_reads (and_nexts dest_at dest_reads) ts h
 
 entry_reads : (ts : List Token) → Proper ts → Reads NamedEntry (entry_at ts)
 unfolding entry_at
@@ -381,6 +381,26 @@ radix_reads : (ts : List Token) → Proper ts → Reads Any (radix_at ts)
 unfolding radix_at
 radix_reads ts h = bind (name_at 32 ts) _ (name_reads 32 ts h) (λ n r p q. bind (expr_at 32 r) _ (expr_reads 32 r q) (λ e r1 p1 q1. given tt q1))
 
+piece_reads : (ts : List Token) → Proper ts → Reads Any (piece_at ts)
+unfolding piece_at
+piece_reads ts h = bind (word_at ts) _ (word_reads ts h) (λ w r p q. bind (name_at 32 r) _ (name_reads 32 r q) (λ n r1 p1 q1. bind (expr_at 32 r1) _ (expr_reads 32 r1 q1) (λ e r2 p2 q2. bind (expr_at 32 r2) _ (expr_reads 32 r2 q2) (λ f r3 p3 q3. given tt q3))))
+
+pieces_reads : (ts : List Token) → Proper ts → Reads Any (pieces_at ts)
+unfolding pieces_at next_piece_at
+pieces_reads ts h = only _ (λ ps p. tt) (most_reads 7 piece_at next_piece_at piece_reads (and_nexts piece_at piece_reads) ts h)
+
+gather_reads : (ts : List Token) → Proper ts → Reads Any (gather_at ts)
+unfolding gather_at
+gather_reads ts h = bind (name_at 32 ts) _ (name_reads 32 ts h) (λ n r p q. bind (pieces_at r) _ (pieces_reads r q) (λ ps r1 p1 q1. bind (access_at r1) _ (access_reads r1 q1) (λ m r2 p2 q2. given tt q2)))
+
+word_order_reads : (w : List ℕ) (ts : List Token) → Proper ts → Reads Any (word_order_at w ts)
+unfolding word_order_at
+word_order_reads w ts h = by (bytes_eq w (codes "radix"))
+  where
+    by : (b : Bool) → Reads Any (cond b (radix_at ts) (gather_at ts))
+    by true = radix_reads ts h
+    by false = gather_reads ts h
+
 order_reads : (k : Keyword) (ts rest : List Token) → Proper rest → Reads Any (order_at k ts rest)
 unfolding order_at
 order_reads Resolve ts rest h = resolve_reads rest h
@@ -413,13 +433,13 @@ keyword_reads End ts rest h = given tt h
 keyword_reads Begin ts rest h = given tt h
 keyword_reads k ts rest h = ordered_reads (order_at k ts rest) (order_reads k ts rest h)
 
-word_reads_by : (b : Bool) (ts rest : List Token) → Proper ts → Proper rest → Reads GoodStatement (cond b (as_ordered (radix_at rest)) (as_declared (node_at plain_role ts)))
-word_reads_by true ts rest h p = ordered_reads (radix_at rest) (radix_reads rest p)
-word_reads_by false ts rest h p = declared_reads (node_at plain_role ts) (node_reads plain_role ts h)
+word_reads_by : (w : List ℕ) (b : Bool) (ts rest : List Token) → Proper ts → Proper rest → Reads GoodStatement (cond b (as_ordered (word_order_at w rest)) (as_declared (node_at plain_role ts)))
+word_reads_by w true ts rest h p = ordered_reads (word_order_at w rest) (word_order_reads w rest p)
+word_reads_by w false ts rest h p = declared_reads (node_at plain_role ts) (node_reads plain_role ts h)
 
 statement_by_reads : (l : Lexeme) (ts rest : List Token) → Proper ts → Proper rest → Reads GoodStatement (statement_by l ts rest)
 unfolding word_statement_at
-statement_by_reads (word w) ts rest h p = word_reads_by (begins_order w rest) ts rest h p
+statement_by_reads (word w) ts rest h p = word_reads_by w (begins_order w rest) ts rest h p
 statement_by_reads (keyword k) ts rest h p = keyword_reads k ts rest p
 statement_by_reads (number n) ts rest h p = record { it = tt }
 statement_by_reads (sign s) ts rest h p = record { it = tt }
