@@ -6,3 +6,4 @@ pub mod Read
 pub mod Steps
 pub mod Walks
 pub mod Words
+pub mod Zeros

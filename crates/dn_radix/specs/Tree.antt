@@ -1,5 +1,5 @@
 -- Trees of pages: a list of words kept in pages of 512 words, of which the upper ones lead to those below.
-use Rattle.std.specs.Prelude.{ℕ, zero, suc, ◌+◌, ◌-◌, ◌*◌, ◌^◌, Bool, if◌then◌else◌, ◌==◌, nat_le, List, [], ◌∷◌, ◌++◌, take, drop, length, replicate}
+use Rattle.std.specs.Prelude.{◌≡◌, ℕ, zero, suc, ◌+◌, ◌-◌, ◌*◌, ◌^◌, Bool, if◌then◌else◌, ◌==◌, nat_le, List, [], ◌∷◌, ◌++◌, take, drop, get_or, length, replicate}
 use Rattle.std.specs.List.{list_all, flat_map}
 use Rattle.byteorder.specs.Endian.{little_bytes}
 
@@ -66,3 +66,8 @@ tree_bytes ws = word_bytes (tree (level_of (length ws)) 0 ws)
 -- how many pages it has
 abbrev pub tree_pages : List ℕ → ℕ
 tree_pages ws = page_count (level_of (length ws)) ws
+
+-- a mark for each 512 words, which is 0 exactly where all of these are 0; after the last mark all words
+-- are 0
+abbrev pub AreMarks : List ℕ → List ℕ → Type 0
+AreMarks ws marks = (page : ℕ) → is_zero (take 512 (drop (page * 512) ws)) ≡ (get_or marks page 0 == 0)

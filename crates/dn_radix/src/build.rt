@@ -1,18 +1,17 @@
 //! The tree of a list of words.
 
-ghost use Rattle.std.specs.Prelude.{◌≡◌, ℕ, ◌+◌, ◌*◌, ◌^◌, ◌<◌, ◌≤◌, ◌++◌, drop, length, take, IfOk, OnOk};
+ghost use Rattle.std.specs.Prelude.{◌≡◌, ℕ, ◌+◌, ◌^◌, ◌≤◌, ◌++◌, length, IfOk, OnOk};
 ghost use Rattle.dn_base.specs.Terms.{Answers};
-ghost use Rattle.dn_radix.specs.Terms.{built, entries, is_zero, level_of, page_count, pages_of, pieces, radix_fault_view, room, tree, tree_bytes, word_bytes};
+ghost use Rattle.dn_radix.specs.Terms.{built, entries, level_of, page_count, pages_of, pieces, radix_fault_view, room, tree, tree_bytes, word_bytes};
 
 use crate::OutOfMemory;
 use crate::fault::RadixFault;
-use crate::find::room;
+use crate::leaves::{Leaves, are_zero, marks_of, piece};
 use byteorder::{ByteOrder, LittleEndian};
 use std::alloc::Global;
-use std::cmp::min;
 
 /// The bytes of the tree of at most 1,048,576 words, in a pool of so many pages of 4,096 bytes. The
-/// pages are counted first, so that a pool that is too small costs no memory.
+/// pages are counted first, so that a pool that is too small costs the memory of a word for each 512.
 ///
 /// # Errors
 ///
@@ -22,44 +21,16 @@ pub fn build(alloc: Global, words: &[u64], pool: u64) -> Result<Vec<u8>, RadixFa
     requires { length words.now ≤ 1048576 }
     ensures { Answers (λ bytes. bytes.items) radix_fault_view result (built words.now pool) }
 {
-    let need = count_pages(level_of(words.len()), words);
+    let Ok(marks) = marks_of(alloc, words) else {
+        return Err(RadixFault::OutOfMemory);
+    };
+    let marks = marks.as_slice();
+    let leaves = Leaves { words, marks };
+    let need = count_pages(level_of(words.len()), leaves);
     if u64::from(need) > pool {
         return Err(RadixFault::Pool { need });
     }
-    tree_of(alloc, words, 4096 * need as usize).or(Err(RadixFault::OutOfMemory))
-}
-
-/// Whether each of the words is 0.
-fn is_zero(words: &[u64]) -> bool
-    ensures { result ≡ is_zero words.now }
-{
-    for word in words {
-        if *word != 0 {
-            return false;
-        }
-    }
-    true
-}
-
-/// The piece of a number, of the 512 that are below an entry, where so many levels of entries are below it.
-fn piece(words: &[u64], below: u32, k: usize) -> &[u64]
-    requires level { below ≤ 1 }
-    requires few { k < 512 }
-    ensures { result.now ≡ take (room below) (drop (k * room below) words.now) }
-{
-    cut(words, room(below), k)
-}
-
-/// The piece of a number, of pieces of so many words.
-#[tactic(auto, using(crate::proofs::Cut::cut_is))]
-fn cut(words: &[u64], size: usize, k: usize) -> &[u64]
-    requires size { size ≤ 2 ^ 27 }
-    requires few { k < 512 }
-    ensures { result.now ≡ take size (drop (k * size) words.now) }
-{
-    let from = min(k * size, words.len());
-    let to = min(k * size + size, words.len());
-    &words[from..to]
+    tree_over(alloc, leaves, 4096 * need as usize).or(Err(RadixFault::OutOfMemory))
 }
 
 /// The least number of levels of entries above so many words.
@@ -76,9 +47,9 @@ pub(crate) fn level_of(count: usize) -> u32
 }
 
 /// How many pages the tree of words has, with so many levels of entries. It calls itself as deep as there are levels.
-fn count_pages(level: u32, words: &[u64]) -> u32
+fn count_pages(level: u32, leaves: Leaves) -> u32
     requires { level ≤ 2 }
-    ensures { result ≡ page_count level words.now }
+    ensures { result ≡ page_count level leaves.entry.words.now }
 {
     if level == 0 {
         return 1;
@@ -86,8 +57,8 @@ fn count_pages(level: u32, words: &[u64]) -> u32
     let below = level - 1;
     let mut count = 1;
     for k in 0..512 {
-        let part = piece(words, below, k);
-        if !is_zero(part) {
+        let part = piece(leaves, below, k);
+        if !are_zero(part) {
             count += count_pages(below, part);
         }
     }
@@ -100,23 +71,24 @@ fn push_tree(
     out: &mut Vec<u8>,
     level: u32,
     at: u32,
-    words: &[u64],
+    leaves: Leaves,
 ) -> Result<(), OutOfMemory>
     requires level { level ≤ 2 }
-    requires fits { length words.now ≤ room level }
-    requires few { at + page_count level words.now ≤ 2 ^ 24 }
-    ensures { OnOk result (out.new.items ≡ out.old.items ++ word_bytes (tree level at words.now)) }
+    requires fits { length leaves.words.now ≤ room level }
+    requires few { at + page_count level leaves.words.now ≤ 2 ^ 24 }
+    ensures { OnOk result (out.new.items
+        ≡ out.old.items ++ word_bytes (tree level at leaves.entry.words.now)) }
 {
     if level == 0 {
-        return push_page(out, words);
+        return push_page(out, leaves.words);
     }
     let below = level - 1;
-    let entries = entries_of(alloc, below, at + 1, words)?;
+    let entries = entries_of(alloc, below, at + 1, leaves)?;
     push_page(out, entries.as_slice())?;
     let mut next = at + 1;
     for k in 0..512 {
-        let part = piece(words, below, k);
-        if !is_zero(part) {
+        let part = piece(leaves, below, k);
+        if !are_zero(part) {
             push_tree(alloc, out, below, next, part)?;
             next += count_pages(below, part);
         }
@@ -150,18 +122,23 @@ fn push_words(out: &mut Vec<u8>, words: &[u64]) -> Result<(), OutOfMemory>
 }
 
 /// The entries of the pieces of words, whose trees stand from a page on.
-fn entries_of(alloc: Global, below: u32, first: u32, words: &[u64]) -> Result<Vec<u64>, OutOfMemory>
+fn entries_of(
+    alloc: Global,
+    below: u32,
+    first: u32,
+    leaves: Leaves,
+) -> Result<Vec<u64>, OutOfMemory>
     requires level { below ≤ 1 }
-    requires few { first + pages_of (page_count below) (pieces 512 (room below) words.now)
+    requires few { first + pages_of (page_count below) (pieces 512 (room below) leaves.words.now)
         ≤ 2 ^ 24 }
     ensures { IfOk result (λ list. list.items
-        ≡ entries (page_count below) first (pieces 512 (room below) words.now)) }
+        ≡ entries (page_count below) first (pieces 512 (room below) leaves.entry.words.now)) }
 {
     let mut list = Vec::with_capacity(alloc, 512)?;
     let mut next = first;
     for k in 0..512 {
-        let part = piece(words, below, k);
-        if is_zero(part) {
+        let part = piece(leaves, below, k);
+        if are_zero(part) {
             list.push(0)?;
         } else {
             list.push(4096 * u64::from(next) + 1)?;
@@ -176,7 +153,17 @@ pub(crate) fn tree_of(alloc: Global, words: &[u64], size: usize) -> Result<Vec<u
     requires { length words.now ≤ 1048576 }
     ensures { IfOk result (λ bytes. bytes.items ≡ tree_bytes words.now) }
 {
+    let marks = marks_of(alloc, words)?;
+    let marks = marks.as_slice();
+    tree_over(alloc, Leaves { words, marks }, size)
+}
+
+/// The same, of words with their marks.
+fn tree_over(alloc: Global, leaves: Leaves, size: usize) -> Result<Vec<u8>, OutOfMemory>
+    requires { length leaves.words.now ≤ 1048576 }
+    ensures { IfOk result (λ bytes. bytes.items ≡ tree_bytes leaves.entry.words.now) }
+{
     let mut bytes = Vec::with_capacity(alloc, size)?;
-    push_tree(alloc, &mut bytes, level_of(words.len()), 0, words)?;
+    push_tree(alloc, &mut bytes, level_of(leaves.words.len()), 0, leaves)?;
     Ok(bytes)
 }

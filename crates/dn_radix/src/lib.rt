@@ -12,6 +12,7 @@ pub mod build;
 pub mod fault;
 mod find;
 pub mod laws;
+mod leaves;
 pub mod linear;
 pub mod walk;
 

@@ -7,6 +7,6 @@ decreases-push_tree l = l.level
 
 abbrev pub invariant-loop-k : goal.invariant-loop-k
 invariant-loop-k l = record {
-  pages : l.next + pages_of (page_count l.below) (pieces (512 - l.k) (room l.below) (drop (l.k * room l.below) l.words)) ≡ l.at + page_count l.level l.words;
-  made : l.out.items ++ word_bytes (trees (page_count l.below) (tree l.below) l.next (pieces (512 - l.k) (room l.below) (drop (l.k * room l.below) l.words))) ≡ l.fn.out.items ++ word_bytes (tree l.level l.at l.words);
+  pages : l.next + pages_of (page_count l.below) (pieces (512 - l.k) (room l.below) (drop (l.k * room l.below) l.leaves.words.now)) ≡ l.at + page_count l.level l.leaves.words.now;
+  made : l.out.items ++ word_bytes (trees (page_count l.below) (tree l.below) l.next (pieces (512 - l.k) (room l.below) (drop (l.k * room l.below) l.leaves.words.now))) ≡ l.fn.out.items ++ word_bytes (tree l.level l.at l.leaves.words.now);
 }
