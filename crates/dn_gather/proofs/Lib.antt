@@ -1,6 +1,7 @@
 pub mod Apart
 pub mod Chosen
 pub mod Coming
+pub mod Refused
 pub mod Scattering
 pub mod Slots
 pub mod Whole

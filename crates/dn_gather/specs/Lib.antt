@@ -1,5 +1,9 @@
+pub mod Commits
+pub mod Faults
 pub mod Firsts
+pub mod Gather
 pub mod Grants
 pub mod Parts
+pub mod Refusal
 pub mod Scattered
 pub mod Terms
