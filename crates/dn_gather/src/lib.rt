@@ -4,6 +4,7 @@
 //! placement of pieces is admissible.
 #![tactic(auto)]
 
+mod commits;
 pub mod fault;
 pub mod laws;
 pub mod piece;
