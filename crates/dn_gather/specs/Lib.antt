@@ -3,7 +3,10 @@ pub mod Faults
 pub mod Firsts
 pub mod Gather
 pub mod Grants
+pub mod Grounds
+pub mod Outputs
 pub mod Parts
 pub mod Refusal
 pub mod Scattered
+pub mod Stands
 pub mod Terms
