@@ -4,3 +4,4 @@ pub mod Numbers
 pub mod Places
 pub mod Sized
 pub mod Told
+pub mod Zeros

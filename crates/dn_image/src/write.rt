@@ -1,6 +1,6 @@
 //! The image of a set of tables.
 
-ghost use Rattle.std.specs.Prelude.{◌≡◌, ◌++◌, ◌+◌, ◌*◌, ◌-◌, ◌<◌, ◌≤◌, ◌^◌, List, length, map, min, Some, IfOk, OnOk, IsTrue};
+ghost use Rattle.std.specs.Prelude.{◌≡◌, ◌++◌, ◌+◌, ◌*◌, ◌-◌, ◌<◌, ◌≤◌, ◌^◌, List, length, map, min, replicate, Some, IfOk, OnOk, IsTrue};
 ghost use Rattle.std.specs.Option.{option_copied};
 ghost use Rattle.byteorder.specs.Endian.{little_bytes};
 ghost use Rattle.dn_kind.specs.Terms.{AreKinds, Meaning, kinds_of};
@@ -26,6 +26,9 @@ pub const VERSION: u16 = 2;
 
 /// How many bytes stand before the units.
 pub(crate) const HEADER: usize = 8;
+
+/// How many words that are 0 are appended at once.
+const ZEROS: usize = 256;
 
 /// How many bytes the head of a unit has.
 pub(crate) const HEAD: usize = 8;
@@ -133,15 +136,31 @@ fn push_unit(
     push_words(out, words)
 }
 
-/// Appends words.
+/// Appends words: each up to the last page of them that was made, and then bytes that are 0.
 fn push_words(out: &mut Vec<u8>, words: &Filled<u64>) -> Result<(), OutOfMemory>
     ensures { OnOk result (out.new.items ≡ out.old.items ++ word_bytes words.now) }
 {
-    for at in 0..words.len() {
+    let count = words.len();
+    let end = words.zeros_from().min(count);
+    for at in 0..end {
         let word = words.get(at);
         let mut bytes = [0u8; 8];
         LittleEndian::write_u64(&mut bytes, word);
         out.extend_from_slice(&bytes)?;
+    }
+    push_zeros(out, count - end)
+}
+
+/// Appends so many words that are 0, many at once.
+fn push_zeros(out: &mut Vec<u8>, count: usize) -> Result<(), OutOfMemory>
+    ensures { OnOk result (out.new.items ≡ out.old.items ++ replicate (8 * count) 0) }
+{
+    let zeros = [0u8; 8 * ZEROS];
+    let mut left = count;
+    'parts: while left > 0 {
+        let part = left.min(ZEROS);
+        out.extend_from_slice(&zeros[..8 * part])?;
+        left -= part;
     }
     Ok(())
 }
