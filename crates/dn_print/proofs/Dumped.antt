@@ -1,10 +1,19 @@
 -- The lines of bytes, piece by piece.
-use Rattle.std.proofs.Common.{◌≡◌, ◌∙◌, ap, sym, arith, ℕ, zero, suc, ◌+◌, ◌*◌, ◌/◌, ◌<◌, ◌≤◌, ◌⊎◌, inl, inr, min, List, [], ◌++◌, take, drop, length, append_assoc, append-nil, length-append}
+use Rattle.std.proofs.Common.{◌≡◌, ◌∙◌, ap, sym, arith, ℕ, zero, suc, ◌+◌, ◌*◌, ◌/◌, ◌<◌, ◌≤◌, ◌⊎◌, inl, inr, min, List, [], ◌++◌, take, drop, length, append_assoc, append-nil, codes, length-append, refl, replicate}
 use Rattle.std.proofs.Math.Nat.{min-eq_left, min-eq_right}
 use Rattle.std.proofs.Math.Seq.{take-append_seam, drop-append_seam}
 use Rattle.std.proofs.lemmas.List.{take-append-drop, length-take-le, length-drop}
+use Rattle.hex.specs.Hex.{encode_with}
 use Rattle.dn_base.proofs.Lists.{take_past, nil_from_length}
 use Rattle.dn_print.specs.Dump.{line_text, lines_of, lines_text}
+
+zeros : codes "0000000000000000000000000000000000000000000000000000000000000000\n" ≡ line_text (replicate 32 0)
+unfolding encode_with
+zeros = refl
+
+-- the line of 32 bytes that are 0
+pub zero_line : (line : List ℕ) → length line ≡ 32 → line ≡ replicate (length line) 0 → codes "0000000000000000000000000000000000000000000000000000000000000000\n" ≡ line_text line
+zero_line line long none = zeros ∙ ap line_text (sym (none ∙ ap (λ n. replicate n 0) long))
 
 -- a line of 32 bytes, and then the lines of the rest
 full_line : (rest line later : List ℕ) → rest ≡ line ++ later → length line ≡ 32 → lines_text rest ≡ line_text line ++ lines_text later

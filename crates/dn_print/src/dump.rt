@@ -1,6 +1,6 @@
 //! The text of an image.
 
-ghost use Rattle.std.specs.Prelude.{◌≡◌, ◌≤◌, ◌++◌, length, take, IfOk, OnOk, is_ok};
+ghost use Rattle.std.specs.Prelude.{◌≡◌, ◌≤◌, ◌++◌, length, replicate, take, IfOk, OnOk, IsTrue, is_ok};
 ghost use Rattle.std.specs.String.{string_bytes};
 ghost use Rattle.dn_print.specs.Terms.{Appended, dump_text, heading_text, line_text, lines_text};
 
@@ -9,6 +9,9 @@ use std::alloc::Global;
 
 /// How many bytes of the image stand in a line.
 pub const LINE: usize = 32;
+
+/// The line of 32 bytes that are 0.
+const ZERO_LINE: &[u8; 65] = b"0000000000000000000000000000000000000000000000000000000000000000\n";
 
 /// A heading with the number of bytes of an image, and the bytes in lower-case hexadecimal, 32 in a
 /// line and in the last as many as are left. `Err` is want of memory.
@@ -58,10 +61,26 @@ fn write_line(out: &mut Vec<u8>, line: &[u8]) -> Result<(), OutOfMemory>
     ensures line { OnOk result (out.new.items ≡ out.old.items ++ line_text line.now) }
     ensures kept { take (length out.old.items) out.new.items ≡ out.old.items }
 {
+    if line.len() == LINE && is_zero(line) {
+        out.extend_from_slice(ZERO_LINE)?;
+        return Ok(());
+    }
     let mut digits = [0u8; 2 * LINE];
     let size = 2 * line.len();
     hex::encode_to_slice(line, &mut digits[..size]).unwrap();
     out.extend_from_slice(&digits[..size])?;
     out.push(b'\n')?;
     Ok(())
+}
+
+/// Whether each byte of a line is 0.
+fn is_zero(line: &[u8]) -> bool
+    requires { length line.now ≤ 32 }
+    ensures { IsTrue result → line.now ≡ replicate (length line.now) 0 }
+{
+    let mut sum = 0;
+    for byte in line {
+        sum += u64::from(*byte);
+    }
+    sum == 0
 }
