@@ -17,7 +17,7 @@ use Rattle.dn_net.specs.declared.node.Role.{Role}
 use Rattle.dn_net.specs.Decode.{is_agent, is_agent_at, StopsAt}
 use Rattle.dn_flat.specs.declared.crowds.Way.{Way}
 use Rattle.dn_flat.specs.declared.levels.Levels.{Levels}
-use Rattle.dn_flat.specs.Crowds.{AreCrowded, IsCrowded, IsWay}
+use Rattle.dn_flat.specs.Crowds.{AreAgentStops, AreCrowded, IsAgentStop, IsCrowded, IsWay}
 use Rattle.dn_flat.specs.Levels.{IsLevels, levels_give}
 use Rattle.dn_flat.specs.Views.{StopsFrom}
 
@@ -67,6 +67,24 @@ whole_stops net agent levels layers w segs are same base lo hi gives a z e = by 
         let at : levels_give layers (w.base + (a - w.span.lo)) z ≡ true = ap (λ t. t && levels_give layers (w.base + (a - w.span.lo)) z) (sym f) ∙ both in
         (are.stops a z low).0 (ap (λ ls. levels_give ls a z) (sym same) ∙ ap (λ n. levels_give layers n z) (sym there) ∙ at)
 
+-- a way leads to each of its names from an address of its agent
+way_stops : (net : List NodeDecl) (t : Way) (unit a : ℕ) → t.seg.node ≡ unit → t.seg.base ≤ a → a ≤ t.seg.base + (t.seg.span.hi - t.seg.span.lo) → IsWay net t → StopsAt net (record { node = t.agent; addr = t.seg.span.lo + (a - t.seg.base) }) (record { node = unit; addr = a })
+way_stops net t unit a u from to is_way =
+    let here : in_span t.seg.span (t.seg.span.lo + (a - t.seg.base)) ≡ true = in_from t.seg.span (t.seg.span.lo + (a - t.seg.base)) (omega arith) (omega (arith, to, from, t.seg.span.ordered)) in
+    let back : t.seg.base + ((t.seg.span.lo + (a - t.seg.base)) - t.seg.span.lo) ≡ a = omega (arith, from) in
+    subst (λ (n : Name). StopsAt net (record { node = t.agent; addr = t.seg.span.lo + (a - t.seg.base) }) n) (made t.seg.node unit (t.seg.base + ((t.seg.span.lo + (a - t.seg.base)) - t.seg.span.lo)) a u back) (is_way.stops (t.seg.span.lo + (a - t.seg.base)) here)
+  where
+    made : (m n b c : ℕ) → m ≡ n → b ≡ c → ◌≡◌ {A = Name} (record { node = m; addr = b }) (record { node = n; addr = c })
+    made m n b c p q = cc
+
+-- names that a way gives an address of an agent reaches
+pub stops_given : (net : List NodeDecl) (way : Way) (s : Span) → way.seg.base ≤ s.lo → s.hi ≤ way.seg.base + (way.seg.span.hi - way.seg.span.lo) → IsWay net way → AreAgentStops net way.seg.node s
+stops_given net way s lo hi v a is = record {
+  from = record { node = way.agent; addr = way.seg.span.lo + (a - way.seg.base) };
+  agent = v.agent;
+  stops = way_stops net way way.seg.node a refl (omega (arith, lo, lo_of s a is)) (omega (arith, hi, hi_of s a is)) v;
+}
+
 -- what two ways give at different addresses two addresses of agents reach
 pub crowd_met : (net : List NodeDecl) (one other : Way) (s : Span) → one.seg.node ≡ other.seg.node → (nat_eq one.agent other.agent && nat_eq (one.seg.span.lo + other.seg.base) (other.seg.span.lo + one.seg.base)) ≡ false → one.seg.base ≤ s.lo → other.seg.base ≤ s.lo → s.hi ≤ one.seg.base + (one.seg.span.hi - one.seg.span.lo) → s.hi ≤ other.seg.base + (other.seg.span.hi - other.seg.span.lo) → IsWay net one → IsWay net other → AreCrowded net other.seg.node s
 crowd_met net one other s same apart one_lo other_lo one_hi other_hi v w a is = record {
@@ -74,8 +92,8 @@ crowd_met net one other s same apart one_lo other_lo one_hi other_hi v w a is = 
   other = record { node = other.agent; addr = other.seg.span.lo + (a - other.seg.base) };
   one_agent = v.agent;
   other_agent = w.agent;
-  one_stops = reaches one other.seg.node same one_lo one_hi v;
-  other_stops = reaches other other.seg.node refl other_lo other_hi w;
+  one_stops = way_stops net one other.seg.node a same (omega (arith, one_lo, from)) (omega (arith, one_hi, to)) v;
+  other_stops = way_stops net other other.seg.node a refl (omega (arith, other_lo, from)) (omega (arith, other_hi, to)) w;
   differ = λ e. false≢true (sym apart ∙ alike (ap (λ (x : Name). x.node) e) (ap (λ (x : Name). x.addr) e));
 }
   where
@@ -84,15 +102,6 @@ crowd_met net one other s same apart one_lo other_lo one_hi other_hi v w a is = 
 
     to : a ≤ s.hi
     to = hi_of s a is
-
-    reaches : (t : Way) (unit : ℕ) → t.seg.node ≡ unit → t.seg.base ≤ s.lo → s.hi ≤ t.seg.base + (t.seg.span.hi - t.seg.span.lo) → IsWay net t → StopsAt net (record { node = t.agent; addr = t.seg.span.lo + (a - t.seg.base) }) (record { node = unit; addr = a })
-    reaches t unit u lo hi is_way =
-        let here : in_span t.seg.span (t.seg.span.lo + (a - t.seg.base)) ≡ true = in_from t.seg.span (t.seg.span.lo + (a - t.seg.base)) (omega arith) (omega (arith, to, hi, t.seg.span.ordered)) in
-        let back : t.seg.base + ((t.seg.span.lo + (a - t.seg.base)) - t.seg.span.lo) ≡ a = omega (arith, from, lo) in
-        subst (λ (n : Name). StopsAt net (record { node = t.agent; addr = t.seg.span.lo + (a - t.seg.base) }) n) (made t.seg.node unit (t.seg.base + ((t.seg.span.lo + (a - t.seg.base)) - t.seg.span.lo)) a u back) (is_way.stops (t.seg.span.lo + (a - t.seg.base)) here)
-      where
-        made : (m n b c : ℕ) → m ≡ n → b ≡ c → ◌≡◌ {A = Name} (record { node = m; addr = b }) (record { node = n; addr = c })
-        made m n b c p q = cc
 
     alike : one.agent ≡ other.agent → one.seg.span.lo + (a - one.seg.base) ≡ other.seg.span.lo + (a - other.seg.base) → (nat_eq one.agent other.agent && nat_eq (one.seg.span.lo + other.seg.base) (other.seg.span.lo + one.seg.base)) ≡ true
     alike p q = and_from (nat_eq one.agent other.agent) (nat_eq (one.seg.span.lo + other.seg.base) (other.seg.span.lo + one.seg.base)) (eq-eqb one.agent other.agent p) (eq-eqb (one.seg.span.lo + other.seg.base) (other.seg.span.lo + one.seg.base) (omega (arith, q, from, one_lo, other_lo)))

@@ -11,10 +11,10 @@ use Rattle.dn_net.specs.declared.node.NodeDecl.{NodeDecl}
 use Rattle.dn_net.specs.Chain.{ReachesWithin}
 use Rattle.dn_net.specs.Decode.{Step, step_limit}
 use Rattle.dn_walk.specs.Ends.{name_of_end}
-use Rattle.dn_flat.specs.declared.crowds.Crowd.{Crowd}
+use Rattle.dn_flat.specs.declared.crowds.UnitSpan.{UnitSpan}
 use Rattle.dn_flat.specs.declared.levels.Levels.{Levels}
 use Rattle.dn_flat.specs.declared.reach.Reach.{Reach}
-use Rattle.dn_flat.specs.Crowds.{AreCrowds}
+use Rattle.dn_flat.specs.Crowds.{AreCrowds, ListAgentStops}
 use Rattle.dn_flat.specs.Onward.{levels_lead}
 use Rattle.dn_flat.specs.Stages.{AreReaches, StageRows}
 use Rattle.dn_flat.specs.Views.{ResolvesFrom, StopsFrom}
@@ -55,18 +55,22 @@ pub record AreLevelsBelow (net : List NodeDecl) (node : ℕ) (nodes : List Level
   pub every : length nodes ≡ node
   pub each : (m : ℕ) (levels : Levels) → slice_get nodes m ≡ Some levels → IsLevels net m levels
 
--- what nodes reach, what they come to in one step, and names in units that two addresses of agents reach
+-- what nodes reach, what they come to in one step, and names in units that two addresses of agents reach,
+-- or one
 pub record FlatsView : Type 0 where
   pub nodes : List Levels
   pub stage : StageRows
-  pub crowds : List Crowd
+  pub crowds : List UnitSpan
+  pub agent_stops : List UnitSpan
 
--- it is what the nodes of the net reach, and what they come to, and two addresses of agents reach the names
+-- it is what the nodes of the net reach, and what they come to, and two addresses of agents reach the names,
+-- or one does
 pub record AreFlats (net : List NodeDecl) (flats : FlatsView) : Type 0 where
   pub every : length flats.nodes ≡ length net
   pub each : (node : ℕ) (levels : Levels) → slice_get flats.nodes node ≡ Some levels → IsLevels net node levels
   pub steps : AreReaches net 1 flats.stage.nodes
   pub crowded : AreCrowds net flats.crowds
+  pub stopped : ListAgentStops net flats.agent_stops
 
 -- the levels of what a node reaches; of one that is not there they are none
 abbrev pub reached_of : Option Levels → List (List Row)

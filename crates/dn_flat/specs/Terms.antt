@@ -1,5 +1,5 @@
 -- The words of the crate that clauses cite, from one place.
-pub use Rattle.dn_flat.specs.Crowds.{AreCrowded, AreCrowds, AreWays, IsCrowded, IsWay}
+pub use Rattle.dn_flat.specs.Crowds.{AreAgentStops, AreCrowded, AreCrowds, AreWays, IsAgentStop, IsCrowded, IsWay, ListAgentStops}
 pub use Rattle.dn_flat.specs.Firsts.{is_same, stays}
 pub use Rattle.dn_flat.specs.Levels.{AreFlats, AreLevels, AreLevelsBelow, AreStops, IsLevels, NearFrom, NodesReachTheirNames, ResolvesWhole, is_among, levels_give, levels_show, shows, stops_in}
 pub use Rattle.dn_flat.specs.Onward.{has_rows, leads_by, levels_lead, reach_leads, seg_leads, segs_lead}

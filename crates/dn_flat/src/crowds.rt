@@ -1,11 +1,11 @@
-//! Names in units that two addresses of agents reach: what a slot leads to there is seen from both.
+//! Names in units that addresses of agents reach: what a slot leads to there is seen from each of them.
 
 ghost use Rattle.std.specs.Prelude.{◌≡◌, ℕ, ◌+◌, ◌<◌, ◌≤◌, ◌&&◌, nat_eq, nat_le, true, false, List, length, slice_get, IfOk, IfSome, OnOk, IsTrue};
 ghost use Rattle.dn_interval.specs.declared.row.End.{End};
 ghost use Rattle.dn_interval.specs.Terms.{segs_give};
 ghost use Rattle.dn_net.specs.declared.node.NodeDecl.{NodeDecl};
 ghost use Rattle.dn_net.specs.Terms.{is_agent, is_agent_at};
-ghost use Rattle.dn_flat.specs.Terms.{AreCrowded, AreCrowds, AreLevelsBelow, AreWays, IsWay, StopsFrom};
+ghost use Rattle.dn_flat.specs.Terms.{AreAgentStops, AreCrowded, AreCrowds, AreLevelsBelow, AreWays, IsWay, ListAgentStops, StopsFrom};
 
 use crate::found::whole;
 use crate::levels::push_given;
@@ -24,25 +24,24 @@ pub(crate) struct Way {
     pub(crate) seg: Seg,
 }
 
-/// Names of a unit, one after another, each of which two addresses of agents reach.
+/// Names of a unit, one after another.
 #[derive(Clone, Copy)]
-pub(crate) struct Crowd {
+pub(crate) struct UnitSpan {
     pub(crate) unit: u16,
     pub(crate) span: Span,
 }
 
-/// The names in units that two addresses of agents reach, unit by unit as spans that ascend: those that are found
-/// where the stops of all agents are sorted and each is held against the one before it that goes furthest.
-pub(crate) fn crowds_of(alloc: Global, net: &Net, nodes: &Shared) -> Result<Vec<Crowd>, OutOfMemory>
+/// The addresses of all agents with their stops, unit by unit by their first names.
+pub(crate) fn ways_of(alloc: Global, net: &Net, nodes: &Shared) -> Result<Vec<Way>, OutOfMemory>
     requires { AreLevelsBelow net.now (length net.now) nodes.now }
-    ensures { IfOk result (λ crowds. AreCrowds net.now crowds.items) }
+    ensures { IfOk result (λ ways. AreWays net.now ways.items) }
 {
     let mut ways = Vec::new(alloc);
     for node in 0..net.nodes() {
         add_ways(alloc, net, nodes, node, &mut ways)?;
     }
     ways.sort_unstable_by_key(|way| (way.seg.node, way.seg.base));
-    crowds_between(alloc, &ways)
+    Ok(ways)
 }
 
 /// Adds the addresses of a node and their stops, if it is an agent.
@@ -94,9 +93,9 @@ fn push_ways(ways: &mut Vec<Way>, agent: u16, segs: &[Seg]) -> Result<(), OutOfM
     Ok(())
 }
 
-/// The names that two of the ways give at different addresses: each is held against the one before it that goes
-/// furthest.
-fn crowds_between(alloc: Global, ways: &[Way]) -> Result<Vec<Crowd>, OutOfMemory>
+/// The names that two of the ways give at different addresses, as spans that ascend where the ways do: each way is
+/// held against the one before it that goes furthest.
+pub(crate) fn crowds_between(alloc: Global, ways: &[Way]) -> Result<Vec<UnitSpan>, OutOfMemory>
     ensures { IfOk result (λ crowds. (net : List NodeDecl) → AreWays net ways.now →
         AreCrowds net crowds.items) }
 {
@@ -123,24 +122,66 @@ fn further(ways: &[Way], top: usize, at: usize) -> usize
     }
 }
 
-/// Adds the names that two ways give at different addresses, and that come behind those that are listed.
-fn push_crowd(crowds: &mut Vec<Crowd>, one: Way, other: Way) -> Result<(), OutOfMemory>
-    ensures { OnOk result ((net : List NodeDecl) → IsWay net one → IsWay net other →
-        AreCrowds net crowds.old.items → AreCrowds net crowds.new.items) }
+/// The names that the ways give, as spans that ascend where the ways do.
+pub(crate) fn agent_stops(alloc: Global, ways: &[Way]) -> Result<Vec<UnitSpan>, OutOfMemory>
+    ensures { IfOk result (λ stops. (net : List NodeDecl) → AreWays net ways.now →
+        ListAgentStops net stops.items) }
 {
-    let from = first_left(crowds.as_slice(), other.seg);
-    match met(one, other, from) {
+    let mut stops = Vec::new(alloc);
+    for way in ways {
+        push_stops(&mut stops, *way)?;
+    }
+    Ok(stops)
+}
+
+/// Adds the names that a way gives, and that come after those that are listed.
+fn push_stops(stops: &mut Vec<UnitSpan>, way: Way) -> Result<(), OutOfMemory>
+    ensures { OnOk result ((net : List NodeDecl) → IsWay net way →
+        ListAgentStops net stops.old.items → ListAgentStops net stops.new.items) }
+{
+    let from = first_left(stops.as_slice(), way.seg);
+    push_span(stops, way.seg.node, given(way, from))
+}
+
+/// Adds names of a unit, one after another, if there are some.
+fn push_span(spans: &mut Vec<UnitSpan>, unit: u16, found: Option<Span>) -> Result<(), OutOfMemory>
+    ensures crowds { OnOk result ((net : List NodeDecl) →
+        IfSome found (λ s. AreCrowded net unit s) →
+        AreCrowds net spans.old.items → AreCrowds net spans.new.items) }
+    ensures stops { OnOk result ((net : List NodeDecl) →
+        IfSome found (λ s. AreAgentStops net unit s) →
+        ListAgentStops net spans.old.items → ListAgentStops net spans.new.items) }
+{
+    match found {
         Some(span) => {
-            let unit = other.seg.node;
-            crowds.push(Crowd { unit, span })?;
+            spans.push(UnitSpan { unit, span })?;
             Ok(())
         }
         None => Ok(()),
     }
 }
 
-/// The first name of a segment that comes behind those that are listed. They ascend, so the last ones tell it.
-fn first_left(crowds: &[Crowd], seg: Seg) -> u64 {
+/// The names from one on that a way gives.
+fn given(way: Way, from: u64) -> Option<Span>
+    ensures { IfSome result (λ s. (net : List NodeDecl) → IsWay net way →
+        AreAgentStops net way.seg.node s) }
+{
+    let lo = way.seg.base.max(from);
+    let hi = last_out(way.seg);
+    Span::new(lo, hi)
+}
+
+/// Adds the names that two ways give at different addresses, and that come after those that are listed.
+fn push_crowd(crowds: &mut Vec<UnitSpan>, one: Way, other: Way) -> Result<(), OutOfMemory>
+    ensures { OnOk result ((net : List NodeDecl) → IsWay net one → IsWay net other →
+        AreCrowds net crowds.old.items → AreCrowds net crowds.new.items) }
+{
+    let from = first_left(crowds.as_slice(), other.seg);
+    push_span(crowds, other.seg.node, met(one, other, from))
+}
+
+/// The first name of a segment that comes after those that are listed. They ascend, so the last ones tell it.
+fn first_left(crowds: &[UnitSpan], seg: Seg) -> u64 {
     let Some(last) = crowds.last() else {
         return seg.base;
     };
@@ -176,31 +217,33 @@ fn is_one_way(one: Way, other: Way) -> bool
 }
 
 /// Listed names of a unit, one after another, of which some are among so many names from one on.
-pub(crate) fn crowd_among(crowds: &[Crowd], unit: u16, first: u64, size: u64) -> Option<Span>
-    ensures crowded { IfSome result (λ s. (net : List NodeDecl) → AreCrowds net crowds.now →
+pub(crate) fn span_among(spans: &[UnitSpan], unit: u16, first: u64, size: u64) -> Option<Span>
+    ensures crowded { IfSome result (λ s. (net : List NodeDecl) → AreCrowds net spans.now →
         AreCrowded net unit s) }
+    ensures stopped { IfSome result (λ s. (net : List NodeDecl) → ListAgentStops net spans.now →
+        AreAgentStops net unit s) }
     ensures from { IfSome result (λ s. first ≤ s.hi) }
     ensures to { IfSome result (λ s. s.lo < first + size) }
 {
-    let place = crowds.partition_point(|crowd| ends_before(*crowd, unit, first));
-    let Some(crowd) = crowds.get(place) else {
+    let place = spans.partition_point(|names| ends_before(*names, unit, first));
+    let Some(names) = spans.get(place) else {
         return None;
     };
-    if crowd.unit != unit {
+    if names.unit != unit {
         return None;
     }
-    if crowd.span.hi < first {
+    if names.span.hi < first {
         return None;
     }
-    if begins_past(crowd.span, first, size) {
+    if begins_past(names.span, first, size) {
         return None;
     }
-    Some(crowd.span)
+    Some(names.span)
 }
 
 /// Whether all names are in a unit before this one, or before a name of it.
-fn ends_before(crowd: Crowd, unit: u16, first: u64) -> bool {
-    crowd.unit < unit || (crowd.unit == unit && crowd.span.hi < first)
+fn ends_before(names: UnitSpan, unit: u16, first: u64) -> bool {
+    names.unit < unit || (names.unit == unit && names.span.hi < first)
 }
 
 /// Whether a span begins past so many addresses from one on.

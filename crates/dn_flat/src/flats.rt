@@ -9,9 +9,9 @@ ghost use Rattle.dn_net.specs.declared.node.NodeDecl.{NodeDecl};
 ghost use Rattle.dn_net.specs.Terms.{IsLegalNet};
 ghost use Rattle.dn_walk.specs.Terms.{AreWalksOf};
 ghost use Rattle.dn_flat.specs.declared.flat.Flat.{Flat};
-ghost use Rattle.dn_flat.specs.Terms.{AreCrowded, AreFlats, AreLevelsBelow, IsFlat, IsStage, ResolvesFrom, ResolvesWhole, StopsFrom, levels_give, shows, stops_in};
+ghost use Rattle.dn_flat.specs.Terms.{AreAgentStops, AreCrowded, AreFlats, AreLevelsBelow, IsFlat, IsStage, ResolvesFrom, ResolvesWhole, StopsFrom, levels_give, shows, stops_in};
 
-use crate::crowds::{Crowd, crowd_among, crowds_of};
+use crate::crowds::{UnitSpan, agent_stops, crowds_between, span_among, ways_of};
 use crate::found::whole;
 use crate::levels::{Levels, push_given, push_shown, shown_segs};
 use crate::shared::Shared;
@@ -31,7 +31,9 @@ pub struct Flats {
     nodes: Shared,
     stage: Stage,
     /// Names in units that two addresses of agents reach.
-    crowds: Vec<Crowd>,
+    crowds: Vec<UnitSpan>,
+    /// Names in units that an address of an agent reaches.
+    agent_stops: Vec<UnitSpan>,
 }
 
 impl Model for Flats {
@@ -39,7 +41,12 @@ impl Model for Flats {
 
     ghost Value = { FlatsView };
 
-    ghost view = { λ s. record { nodes = s.nodes; stage = s.stage; crowds = s.crowds.items } };
+    ghost view = { λ s. record {
+      nodes = s.nodes;
+      stage = s.stage;
+      crowds = s.crowds.items;
+      agent_stops = s.agent_stops.items;
+    } };
 }
 
 impl Flats {
@@ -70,7 +77,18 @@ impl Flats {
         ensures from { IfSome result (λ s. first ≤ s.hi) }
         ensures to { IfSome result (λ s. s.lo < first + size) }
     {
-        crowd_among(&self.crowds, unit, first, size)
+        span_among(&self.crowds, unit, first, size)
+    }
+
+    /// Names of a unit, one after another, that an address of an agent reaches, of which some are among so many names
+    /// from one on. `None` says nothing. Time of a binary search.
+    pub fn agent_stop_among(&self, unit: u16, first: u64, size: u64) -> Option<Span>
+        ensures stopped { IfSome result (λ s. (net : List NodeDecl) → AreFlats net self.now
+            → AreAgentStops net unit s) }
+        ensures from { IfSome result (λ s. first ≤ s.hi) }
+        ensures to { IfSome result (λ s. s.lo < first + size) }
+    {
+        span_among(&self.agent_stops, unit, first, size)
     }
 
     /// Adds the accepted names to which the names of a segment come. `mid` is room for names on the way: one that is
@@ -175,11 +193,14 @@ pub fn flatten_all(alloc: Global, net: &Net, walks: &WalkTable) -> Result<Flats,
     for node in 0..net.nodes() {
         add(alloc, net, &stage, &mut nodes, node)?;
     }
-    let crowds = crowds_of(alloc, net, &nodes)?;
+    let ways = ways_of(alloc, net, &nodes)?;
+    let crowds = crowds_between(alloc, &ways)?;
+    let agent_stops = agent_stops(alloc, &ways)?;
     Ok(Flats {
         nodes,
         stage,
         crowds,
+        agent_stops,
     })
 }
 

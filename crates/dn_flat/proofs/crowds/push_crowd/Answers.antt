@@ -1,14 +1,12 @@
--- One span more.
-use Rattle.std.proofs.Common.{List, sym, subst}
-use Rattle.std.proofs.lemmas.List.Elements.{All-push}
-use Rattle.dn_flat.specs.declared.crowds.Crowd.{Crowd}
-use Rattle.dn_flat.specs.Crowds.{AreCrowded, AreCrowds}
+-- The span that both ways give.
+use Rattle.std.proofs.Common.{List}
+use Rattle.dn_base.proofs.Told.{if_some_then, on_ok_then}
+use Rattle.dn_interval.specs.declared.span.Span.{Span}
+use Rattle.dn_net.specs.declared.node.NodeDecl.{NodeDecl}
+use Rattle.dn_flat.specs.Crowds.{AreCrowded, IsWay}
 use Rattle.dn_flat.proofs.crowds.push_crowd.Goals as goal
 
-pub returns-in_ok-push-in-Some : goal.returns-in_ok-push-in-Some
-returns-in_ok-push-in-Some c = λ net one other old.
-    subst (λ (cs : List Crowd). AreCrowds net cs) (sym c.in_ok-push-in-Some.ensures.items)
-    (All-push (λ (k : Crowd). AreCrowded net k.unit k.span) c.args.crowds.now.items (record { unit = c.args.other.seg.node; span = c.in-Some.span }) old (c.in-Some.ensures net one other))
-
-pub returns-in-None : goal.returns-in-None
-returns-in-None c = λ net one other old. old
+pub returns : goal.returns
+returns c = on_ok_then c.push_span.result _ _
+    (λ f net v w old. f net (if_some_then c.met.result (λ (s : Span). (net : List NodeDecl) → IsWay net c.args.one → IsWay net c.args.other → AreCrowded net c.args.other.seg.node s) (λ (s : Span). AreCrowded net c.args.other.seg.node s) (λ s g. g net v w) c.met.ensures) old)
+    c.push_span.ensures.crowds

@@ -1,5 +1,7 @@
 -- One node more.
-use Rattle.std.proofs.Common.{◌≡◌, ◌∙◌, sym, subst, arith, length}
+use Rattle.std.proofs.Common.{◌≡◌, ◌∙◌, List, sym, subst, arith, length}
+use Rattle.dn_flat.specs.declared.crowds.Way.{Way}
+use Rattle.dn_flat.specs.Crowds.{AreWays}
 use Rattle.dn_flat.specs.Levels.{AreLevelsBelow}
 use Rattle.dn_flat.specs.Stages.{AreReaches}
 use Rattle.dn_flat.proofs.Led.{none_below}
@@ -19,9 +21,11 @@ returns c =
     let below = c.loop-node.invariant.below in
     let all : c.loop-node.node ≡ length c.args.net.now = omega (arith, c.loop-node-test.false, c.loop-node.auto.node-end, c.nodes-node-end.ensures) in
     let stage = c.in_ok-stage.stage in
+    let ways : (ws : List Way) → ws ≡ c.in_ok-ways.ways.items → AreWays c.args.net.now ws = λ ws e. subst (λ (l : List Way). AreWays c.args.net.now l) (sym e) c.in_ok-ways.ensures in
     record {
       every = below.every ∙ all;
       each = below.each;
       steps = subst (λ k. AreReaches c.args.net.now k stage.nodes) c.in_ok-stage.ensures.steps c.in_ok-stage.ensures.stage;
-      crowded = c.in_ok-crowds.ensures;
+      crowded = c.in_ok-crowds.ensures c.args.net.now (ways c.deref.result.now c.deref.ensures.value);
+      stopped = c.in_ok-agent_stops.ensures c.args.net.now (ways c.deref-2.result.now c.deref-2.ensures.value);
     }
