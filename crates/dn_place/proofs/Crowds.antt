@@ -10,6 +10,14 @@ use Rattle.dn_place.specs.Slots.{HasCrowd}
 use Rattle.dn_place.specs.Sought.{Sought}
 use Rattle.dn_place.proofs.Nexts.{between}
 
+-- of the inputs from one on, and before the next in its place in a slot, one alone is in its place
+pub own_input : (x j page : ℕ) → x ≤ j → j < x + 2 ^ page → j % 2 ^ page ≡ x % 2 ^ page → x ≡ j
+own_input x j page from to same = by (cases_lt x j)
+  where
+    by : (x < j) ⊎ (j ≤ x) → x ≡ j
+    by (inl l) = absurd (between x j (2 ^ page) (pow_pos page) (omega arith) to same)
+    by (inr l) = omega (arith, from, l)
+
 add_one_mul : (a p : ℕ) → (a + 1) * p ≡ a * p + p
 add_one_mul a p = omega arith
 

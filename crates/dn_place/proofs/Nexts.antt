@@ -1,5 +1,5 @@
 -- The next hop of placements that end with some hops.
-use Rattle.std.proofs.Common.{◌≡◌, ℕ, suc, ◌+◌, ◌-◌, ◌*◌, ◌/◌, ◌%◌, ◌^◌, ◌<◌, ◌≤◌, ◌⊎◌, inl, inr, Bool, false, List, [], ◌∷◌, ◌++◌, length, slice_get, get_or, Option, Some, None, refl, sym, ap, ◌∙◌, subst, arith, append_assoc, length-append}
+use Rattle.std.proofs.Common.{◌≡◌, ℕ, suc, ◌+◌, ◌-◌, ◌*◌, ◌/◌, ◌%◌, ◌^◌, ◌<◌, ◌≤◌, ◌⊎◌, inl, inr, Bool, false, List, [], ◌∷◌, ◌++◌, length, slice_get, get_or, Option, Some, None, IsTrue, refl, sym, ap, ◌∙◌, subst, arith, append_assoc, length-append}
 use Rattle.std.proofs.lemmas.Bool.{cases_lt, cases_order, false≢true}
 use Rattle.std.proofs.lemmas.Option.{slice_get_within, slice_get-get_or, get_or_from_slice_get}
 use Rattle.std.proofs.lemmas.Nat.{pow_pos, le-div}
@@ -14,9 +14,9 @@ use Rattle.dn_placement.specs.Order.{IsAt, hop_page, hops_key, key_of}
 use Rattle.dn_placement.specs.Placement.{Joins, Leads, Meets, name_on}
 use Rattle.dn_placement.proofs.Hops.{numbers}
 use Rattle.dn_placement.proofs.Keys.{append_none, cancel, one_more}
-use Rattle.dn_flat.specs.Crowds.{IsCrowded}
+use Rattle.dn_flat.specs.Crowds.{IsAgentStop, IsCrowded}
 use Rattle.dn_place.specs.Blocks.{HasBlocks}
-use Rattle.dn_place.specs.Slots.{AreBarred, AreShut, AreUsable, AreUseless, HasCrowd, IsUseless, slot_of}
+use Rattle.dn_place.specs.Slots.{AreBarred, AreShut, AreUsable, AreUseless, HasAgentStop, HasCrowd, IsUseless, slot_of}
 use Rattle.dn_place.specs.Rows.{AreToward, wanted_name}
 use Rattle.dn_place.proofs.Stretches.{GivesOnly}
 use Rattle.dn_place.specs.Candidates.{IsUnder, NoneUnder, IsFirstOrNone, IsChosen, key_of_hops, to_unit, to_port, to_output}
@@ -303,16 +303,20 @@ ends_with s count hops q l u = go (cases_lt (length hops) count)
     go (inl m) = let w = next_of s count hops q [] m (subst (λ f. IsUnder s f q) (sym (append_none (key_of_hops count hops))) u) in (w.opens.before ++ w.opens.hop ∷ [], w.opens.ends ∙ sym (append_assoc w.opens.before (w.opens.hop ∷ []) hops))
     go (inr m) = ([], all (omega arith))
 
--- the hop of a placement before all others that are chosen, where it is the first from the agent's end
-pub first_hop : (s : Sought) (count : ℕ) (hops : List Hop) (q : Place) (given : List ℕ) → count ≡ suc (length hops) → (w : Next s count hops q given) → q.hops ≡ w.opens.hop ∷ hops
-first_hop s count hops q given one w =
-    let number : length q.hops ≡ count = key_head (length q.hops) count (hops_key q.hops ++ (q.v ∷ hop_page s.net (slice_get q.hops q.own) ∷ (length q.hops - q.own) ∷ [])) (hops_key hops ++ numbers w.opens.hop w.opens.rest) w.opens.key in
-    let long : length q.hops ≡ length w.opens.before + suc (length hops) = ap length w.opens.ends ∙ length-append w.opens.before (w.opens.hop ∷ hops) in
-    w.opens.ends ∙ ap (λ (b : List Hop). b ++ (w.opens.hop ∷ hops)) (bare w.opens.before (omega arith))
+-- the placement has so many hops
+hops_counted : (s : Sought) (count : ℕ) (hops : List Hop) (q : Place) (given : List ℕ) → (w : Next s count hops q given) → length q.hops ≡ count
+hops_counted s count hops q given w = key_head (length q.hops) count (hops_key q.hops ++ (q.v ∷ hop_page s.net (slice_get q.hops q.own) ∷ (length q.hops - q.own) ∷ [])) (hops_key hops ++ numbers w.opens.hop w.opens.rest) w.opens.key
   where
     key_head : (a d : ℕ) (m r : List ℕ) → (a ∷ m) ≡ (d ∷ r) → a ≡ d
     key_head a d m r p = cc
 
+-- the hop of a placement before all others that are chosen, where it is the first from the agent's end
+pub first_hop : (s : Sought) (count : ℕ) (hops : List Hop) (q : Place) (given : List ℕ) → count ≡ suc (length hops) → (w : Next s count hops q given) → q.hops ≡ w.opens.hop ∷ hops
+first_hop s count hops q given one w =
+    let number : length q.hops ≡ count = hops_counted s count hops q given w in
+    let long : length q.hops ≡ length w.opens.before + suc (length hops) = ap length w.opens.ends ∙ length-append w.opens.before (w.opens.hop ∷ hops) in
+    w.opens.ends ∙ ap (λ (b : List Hop). b ++ (w.opens.hop ∷ hops)) (bare w.opens.before (omega arith))
+  where
     bare : (before : List Hop) → length before ≡ 0 → before ≡ []
     bare [] p = refl
     bare (h ∷ before) p = absurd (omega arith)
@@ -412,10 +416,46 @@ crowd_bars s count hops unit port y x ready l one crowd = record { none = λ q v
         let is_other : c.other ≡ name_on s.request.agent q.v i = ready.alone q i (record { node = unit; addr = x + i }) c.other v.is crowd.1 stop c.other_agent c.other_stops in
         c.differ (is_one ∙ sym is_other)
 
+-- an input of a later hop, of which an address of an agent reaches a name in a free slot
+pub stop_bars : (s : Sought) (count : ℕ) (hops : List Hop) (unit port y x : ℕ) (u : UnitPart) → IsSearchReady s → length hops < count → (count ≡ suc (length hops) → ⊥) → unit_at s.net unit ≡ Some u → HasAgentStop s u unit x → NoneUnder s (to_output count hops unit port y ++ x ∷ [])
+stop_bars s count hops unit port y x u ready l more e seen = record { none = λ q v. absurd (go q v) }
+  where
+    given : List ℕ
+    given = unit ∷ port ∷ y ∷ x ∷ []
+
+    nested : to_output count hops unit port y ++ x ∷ [] ≡ key_of_hops count hops ++ given
+    nested = one_more (to_port count hops unit port) y (x ∷ []) ∙ one_more (to_unit count hops unit) port (y ∷ x ∷ []) ∙ one_more (key_of_hops count hops) unit (port ∷ y ∷ x ∷ [])
+
+    ends : (a b c d a' b' c' d' : ℕ) (m r : List ℕ) → (a ∷ b ∷ c ∷ d ∷ m) ≡ (a' ∷ b' ∷ c' ∷ d' ∷ r) → (a ≡ a') × (d ≡ d')
+    ends a b c d a' b' c' d' m r p = (cc, cc)
+
+    go : (q : Place) → IsUnder s (to_output count hops unit port y ++ x ∷ []) q → ⊥
+    go q v = by w.opens.before w.opens.ends
+      where
+        w : Next s count hops q given
+        w = next_of s count hops q given l (subst (λ f. IsUnder s f q) nested v)
+
+        same : (w.opens.hop.unit ≡ unit) × (w.opens.hop.x ≡ x)
+        same = ends w.opens.hop.unit w.opens.hop.port w.opens.hop.y w.opens.hop.x unit port y x w.opens.rest w.rest w.split
+
+        stop : IsAgentStop s.net (name_on w.opens.hop.unit w.opens.hop.x seen.0)
+        stop = subst (λ (n : ℕ). IsAgentStop s.net (name_on n w.opens.hop.x seen.0)) (sym same.0) (subst (λ (n : ℕ). IsAgentStop s.net (name_on unit n seen.0)) (sym same.1) seen.2)
+
+        free : IsTrue (s.slots.is_free w.opens.hop.unit ((w.opens.hop.x + seen.0) / 2 ^ u.page))
+        free = subst (λ (n : ℕ). IsTrue (s.slots.is_free n ((w.opens.hop.x + seen.0) / 2 ^ u.page))) (sym same.0) (subst (λ (n : ℕ). IsTrue (s.slots.is_free unit ((n + seen.0) / 2 ^ u.page))) (sym same.1) seen.3)
+
+        by : (before : List Hop) → q.hops ≡ before ++ (w.opens.hop ∷ hops) → ⊥
+        by [] f = more (sym (hops_counted s count hops q given w) ∙ ap length f)
+        by (first ∷ ahead) f = ready.leaves q first w.opens.hop ahead hops u seen.0 v.is f (ap (λ (n : ℕ). unit_at s.net n) same.0 ∙ e) seen.1 free stop
+
 -- an input that serves no hop
 pub not_served : (s : Sought) (count : ℕ) (hops : List Hop) (unit port y x place from : ℕ) (u : UnitPart) → IsSearchReady s → length hops < count → place ≡ count - length hops → unit_at s.net unit ≡ Some u → IsUseless s u place (record { unit = unit; port = port; x = from; y = y }) x → NoneUnder s (to_output count hops unit port y ++ x ∷ [])
 not_served s count hops unit port y x place from u ready l here e (inl bars) = not_joined s count hops unit port y x u l e (λ j. bars j.usable)
-not_served s count hops unit port y x place from u ready l here e (inr crowd) = crowd_bars s count hops unit port y x ready l (let k : place ≡ 1 = crowd.0 in omega arith) crowd.1
+not_served s count hops unit port y x place from u ready l here e (inr (inl crowd)) = crowd_bars s count hops unit port y x ready l (let k : place ≡ 1 = crowd.0 in omega arith) crowd.1
+not_served s count hops unit port y x place from u ready l here e (inr (inr seen)) = stop_bars s count hops unit port y x u ready l (λ k. seen.0 (here ∙ one_left count (length hops) k)) e seen.1
+  where
+    one_left : (m n : ℕ) → m ≡ suc n → m - n ≡ 1
+    one_left m n k = omega arith
 
 -- inputs that serve no hop
 pub inputs_useless : (s : Sought) (count : ℕ) (hops : List Hop) (unit port y x to place : ℕ) (u : UnitPart) → IsSearchReady s → length hops < count → place ≡ count - length hops → unit_at s.net unit ≡ Some u → x % 2 ^ u.page ≡ y % 2 ^ u.page → AreUseless s u place (record { unit = unit; port = port; x = x; y = y }) to → NoneBelow s (to_output count hops unit port y) x → NoneBelow s (to_output count hops unit port y) to

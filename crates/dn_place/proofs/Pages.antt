@@ -29,6 +29,10 @@ input_bound slots page p s = mul-le-mul s (pow-le-pow_right {n = 2} (omega arith
 pub last_within : (x size slots page : ℕ) → x + size ≤ slots * 2 ^ page → 1 ≤ size → (x + size - 1) / 2 ^ page < slots
 last_within x size slots page f s = (div-lt_iff_lt-mul {k = 2 ^ page} {x = x + size - 1} {y = slots} (pow_pos page)).1 (omega arith)
 
+-- a name within the slots of a unit is in one of them
+pub name_slot : (name slots page w : ℕ) → w ≡ 2 ^ page → name < slots * 2 ^ page → name / w < slots
+name_slot name slots page w is l = subst (λ v. name / v < slots) (sym is) ((div-lt_iff_lt-mul {k = 2 ^ page} {x = name} {y = slots} (pow_pos page)).1 l)
+
 pub quotient_within : (y p : ℕ) → y / p ≤ y
 quotient_within y p = div-le_self y p
 

@@ -1,10 +1,11 @@
--- Where windows keep blocks whole, an admissible placement gives nothing beside its buffer in the blocks of the buffer.
+-- What an admissible placement gives: where windows keep blocks whole, nothing beside its buffer in the blocks of the
+-- buffer; and no name of a later hop, in a free slot, that an address of an agent reaches.
 use Rattle.std.proofs.Common.{◌≡◌, ℕ, zero, suc, ◌+◌, ◌-◌, ◌*◌, ◌/◌, ◌%◌, ◌^◌, ◌<◌, ◌≤◌, ◌⊎◌, inl, inr, Bool, true, false, if◌then◌else◌, ◌&&◌, nat_eq, nat_le, List, [], ◌∷◌, ◌++◌, length, slice_get, Option, Some, None, IsSome, IsTrue, refl, sym, ap, ◌∙◌, subst, arith, pow_pos, pow-add, mod-lt, le-leb, eq-eqb, eqb-true}
 use Rattle.std.proofs.Math.Nat.{add-mul, div-add-mod', div-lt_iff_lt-mul, mul-le-mul_right, mul_assoc, mul_comm}
 use Rattle.std.proofs.lemmas.Bool.{and_from}
 use Rattle.std.proofs.lemmas.Nat.{div-mul-add, mod-mul-add}
 use Rattle.std.proofs.lemmas.Option.{same_Some}
-use Rattle.dn_base.proofs.Members.{member_at}
+use Rattle.dn_base.proofs.Members.{member_at, member_right}
 use Rattle.dn_net.specs.declared.node.Name.{Name}
 use Rattle.dn_net.specs.declared.node.NodeDecl.{NodeDecl}
 use Rattle.dn_net.specs.declared.node.Unit.{Unit as UnitPart}
@@ -13,6 +14,7 @@ use Rattle.dn_net.specs.Decode.{is_agent_at, is_stop, unit_at, Resolves, StopsAt
 use Rattle.dn_net.specs.Legal.{IsLegalNet}
 use Rattle.dn_net.specs.UnitRules.{LeadsTo}
 use Rattle.dn_net.proofs.Chains.{chain_join}
+use Rattle.dn_flat.specs.Crowds.{IsAgentStop}
 use Rattle.dn_kind.specs.declared.rights.Access.{Access}
 use Rattle.dn_kind.specs.declared.rights.Rights.{Rights}
 use Rattle.dn_kind.specs.declared.unit_kind.Record.{Record}
@@ -34,9 +36,10 @@ use Rattle.dn_view.proofs.Exposed.{placement_fits}
 use Rattle.dn_view.proofs.Newly.{blocked}
 use Rattle.dn_view.proofs.Pages.{offset_is, output_of_hop, page_is, pages_ascend}
 use Rattle.dn_view.proofs.Taken.{or_is, placed_are_held}
-use Rattle.dn_view.proofs.Ways.{net_chain, step_stop, stop_step}
+use Rattle.dn_view.proofs.Ways.{net_chain, step_stop, stop_step, up_resolves}
 use Rattle.dn_place.specs.Blocks.{SendsBlocks, moved}
 use Rattle.dn_place.specs.Sought.{ReachOneStop}
+use Rattle.dn_place.proofs.Openings.{leads_on}
 
 -- blocks of 2 to this power addresses are kept whole by an agent and by the nodes of all ports, and no
 -- page of a unit is smaller
@@ -416,7 +419,22 @@ module _ (net : List NodeDecl) (legal : IsLegalNet net) (one : ReachOneStop net)
 
 -- What an admissible placement gives.
 
-module _ (net : List NodeDecl) (legal : IsLegalNet net) (one : ReachOneStop net) (slots : Slots) (rq : Request) (p : Place) (held : AreHeld net slots.held) (are : IsTrue (are_rights rq.rights)) (empty : (node slot : ℕ) → IsTrue (slots.is_free node slot) → slots.held node slot ≡ None) (agent : IsTrue (is_agent_at (slice_get net rq.agent))) (is : IsPlacement net slots rq p) (gives : IsAdmissible net slots.held rq p) (block : ℕ) (blocks : KeepsWhole net rq.agent block) where
+-- where a slot of a hop has its record, its names are passed on to the hop's port
+pub passes_at : (net : List NodeDecl) (h : Held) (hop : Hop) (u : UnitPart) (node x q : ℕ) (r : Rights) → unit_at net hop.unit ≡ Some u → slice_get u.ports hop.port ≡ Some node → x / 2 ^ u.page ≡ q → h hop.unit q ≡ Some (slot_record u r hop q) → Member (record { node = node; addr = (hop.y / 2 ^ u.page + (x / 2 ^ u.page - hop.x / 2 ^ u.page)) * 2 ^ u.page + x % 2 ^ u.page }) (outputs net h (record { node = hop.unit; addr = x }))
+passes_at net h hop u node x q r e port same holds =
+    let out : ℕ = (hop.y / 2 ^ u.page + (x / 2 ^ u.page - hop.x / 2 ^ u.page)) * 2 ^ u.page + x % 2 ^ u.page in
+    let to : Name = record { node = node; addr = out } in
+    let held : h hop.unit (x / 2 ^ u.page) ≡ Some (slot_record u r hop (x / 2 ^ u.page)) = subst (λ n. h hop.unit n ≡ Some (slot_record u r hop n)) (sym same) holds in
+    let here : Member to (name_at_port (Some node) out) = inl refl in
+    let sent : Member to (output u (Some (slot_record u r hop (x / 2 ^ u.page))) x) = subst (λ o. Member to (name_at_port o out)) (sym port) here in
+    let by_slot : Member to (outputs_by h (record { node = hop.unit; addr = x }) (Some u)) = subst (λ o. Member to (output u o x)) (sym held) sent in
+    subst (λ o. Member to (outputs_by h (record { node = hop.unit; addr = x }) o)) (sym e) by_slot
+
+-- where a hop's slot has its record, the names of the buffer are passed on to those of its port, each to its own place
+passes : (net : List NodeDecl) (h : Held) (hop : Hop) (u : UnitPart) (node i : ℕ) (r : Rights) → unit_at net hop.unit ≡ Some u → slice_get u.ports hop.port ≡ Some node → hop.x % 2 ^ u.page ≡ hop.y % 2 ^ u.page → h hop.unit ((hop.x + i) / 2 ^ u.page) ≡ Some (slot_record u r hop ((hop.x + i) / 2 ^ u.page)) → Member (name_on node hop.y i) (outputs net h (name_on hop.unit hop.x i))
+passes net h hop u node i r e port agree holds = subst (λ n. Member (record { node = node; addr = n }) (outputs net h (name_on hop.unit hop.x i))) (output_of_hop (2 ^ u.page) hop.x hop.y i (pow_pos u.page) agree) (passes_at net h hop u node (hop.x + i) ((hop.x + i) / 2 ^ u.page) r e port refl holds)
+
+module _ (net : List NodeDecl) (legal : IsLegalNet net) (one : ReachOneStop net) (slots : Slots) (rq : Request) (p : Place) (held : AreHeld net slots.held) (are : IsTrue (are_rights rq.rights)) (empty : (node slot : ℕ) → IsTrue (slots.is_free node slot) → slots.held node slot ≡ None) (agent : IsTrue (is_agent_at (slice_get net rq.agent))) (is : IsPlacement net slots rq p) (gives : IsAdmissible net slots.held rq p) where
   abbrev access : Access
   access = (some_allowed rq.rights are).0
 
@@ -432,64 +450,119 @@ module _ (net : List NodeDecl) (legal : IsLegalNet net) (one : ReachOneStop net)
   after_held : AreHeld net after
   after_held = allowing_held net (joined_records slots.held (placed_records net rq p)) access (λ node slot r e. or_is (slots.held node slot) (placed_records net rq p node slot) (λ u f. held node slot u f) (λ u f. placed_are_held net rq p legal.shapes (placement_fits net slots rq p are is) node slot u f) r e)
 
-  -- each slot of a hop has its record
-  holds_own : (hops : List Hop) (l : Leads net slots rq hops) → ((hop : Hop) → Member hop hops → Member hop p.hops) → (i : ℕ) → i < rq.size → Hold net legal one slots rq rq.agent block blocks after hops i
-  holds_own [] l all i few = tt
-  holds_own (hop ∷ hops) l all i few = (here, holds_own hops l.1 (λ k m. all k (inr m)) i few)
+  -- the slots of a hop have its records
+  own_held : (hop : Hop) → Member hop p.hops → (nearer : List Hop) (j : Joins net slots rq hop nearer) (i : ℕ) → i < rq.size → (u : UnitPart) → unit_at net hop.unit ≡ Some u → (r : Rights) × (after hop.unit ((hop.x + i) / 2 ^ u.page) ≡ Some (slot_record u r hop ((hop.x + i) / 2 ^ u.page)))
+  own_held hop m nearer j i few u e = by (slots.held hop.unit q) refl (subst (λ (v : UnitPart). IsUsable slots v hop ((hop.x + i) / 2 ^ v.page)) same (j.usable ((hop.x + i) / 2 ^ j.unit.page) inside.0 inside.1))
     where
-      here : (u : UnitPart) → unit_at net hop.unit ≡ Some u → (r : Rights) × (after hop.unit ((hop.x + i) / 2 ^ u.page) ≡ Some (slot_record u r hop ((hop.x + i) / 2 ^ u.page)))
-      here u e = by (slots.held hop.unit q) refl (subst (λ (v : UnitPart). IsUsable slots v hop ((hop.x + i) / 2 ^ v.page)) same (l.0.usable ((hop.x + i) / 2 ^ l.0.unit.page) inside.0 inside.1))
-        where
-          same : l.0.unit ≡ u
-          same = same_Some l.0.unit u (sym l.0.is_unit ∙ e)
+      same : j.unit ≡ u
+      same = same_Some j.unit u (sym j.is_unit ∙ e)
 
-          inside : (first_slot l.0.unit hop ≤ (hop.x + i) / 2 ^ l.0.unit.page) × ((hop.x + i) / 2 ^ l.0.unit.page ≤ last_slot l.0.unit rq.size hop)
-          inside = in_hop net legal one slots rq rq.agent block blocks hop l.0.unit i few
+      within : (v : UnitPart) → (first_slot v hop ≤ (hop.x + i) / 2 ^ v.page) × ((hop.x + i) / 2 ^ v.page ≤ last_slot v rq.size hop)
+      within v = (pages_ascend (2 ^ v.page) hop.x (hop.x + i) (pow_pos v.page) (omega arith), pages_ascend (2 ^ v.page) (hop.x + i) (hop.x + rq.size - 1) (pow_pos v.page) (omega arith))
 
-          q : ℕ
-          q = (hop.x + i) / 2 ^ u.page
+      inside : (first_slot j.unit hop ≤ (hop.x + i) / 2 ^ j.unit.page) × ((hop.x + i) / 2 ^ j.unit.page ≤ last_slot j.unit rq.size hop)
+      inside = within j.unit
 
-          there : (first_slot u hop ≤ q) × (q ≤ last_slot u rq.size hop)
-          there = in_hop net legal one slots rq rq.agent block blocks hop u i few
+      q : ℕ
+      q = (hop.x + i) / 2 ^ u.page
 
-          own : HasOwn (placed_records net rq p) access u hop q
-          own = hop_has net rq.size rq.rights p.own access allowed 0 p.hops (differ net legal slots rq is.some p.hops is.most is.leads) hop (all hop (inl refl)) u e q there.0 there.1
+      own : HasOwn (placed_records net rq p) access u hop q
+      own = hop_has net rq.size rq.rights p.own access allowed 0 p.hops (differ net legal slots rq is.some p.hops is.most is.leads) hop m u e q (within u).0 (within u).1
 
-          by : (o : Option Record) → slots.held hop.unit q ≡ o → IsUsable slots u hop q → (r : Rights) × (after hop.unit q ≡ Some (slot_record u r hop q))
-          by o f (is_free free) = (own.0, ap (λ a. record_allowing access (or_record a (placed_records net rq p hop.unit q))) (empty hop.unit q free) ∙ ap (record_allowing access) own.1 ∙ ap (λ c. if c then Some (slot_record u own.0 hop q) else None) own.2)
-          by o f (is_shared holds unowned) = (both_rights, ap (λ a. record_allowing access (or_record a (placed_records net rq p hop.unit q))) holds ∙ ap (λ c. if c then Some (slot_record u both_rights hop q) else None) (both_allow access))
+      by : (o : Option Record) → slots.held hop.unit q ≡ o → IsUsable slots u hop q → (r : Rights) × (after hop.unit q ≡ Some (slot_record u r hop q))
+      by o f (is_free free) = (own.0, ap (λ a. record_allowing access (or_record a (placed_records net rq p hop.unit q))) (empty hop.unit q free) ∙ ap (record_allowing access) own.1 ∙ ap (λ c. if c then Some (slot_record u own.0 hop q) else None) own.2)
+      by o f (is_shared holds unowned) = (both_rights, ap (λ a. record_allowing access (or_record a (placed_records net rq p hop.unit q))) holds ∙ ap (λ c. if c then Some (slot_record u both_rights hop q) else None) (both_allow access))
 
-  -- no address beside the buffer, in the block of one of its addresses behind the hops, resolves to anything
-  pub whole_blocks : (a i : ℕ) (z : Name) → i < rq.size → a / 2 ^ block ≡ (last_addr p.hops p.v + i) / 2 ^ block → ((j : ℕ) → j < rq.size → a ≡ last_addr p.hops p.v + j → ⊥) → Resolves net (record { node = last_node net slots rq p.hops is.leads rq.agent; addr = a }) z → ⊥
-  whole_blocks a i z few e beside r = by ((gives access x z agent).0 resolved)
+  -- an address whose stop is a name of a hop comes to what the hop's output comes to
+  through : (x z : Name) (hop : Hop) (nearer : List Hop) (j : Joins net slots rq hop nearer) (i : ℕ) → i < rq.size → Member hop p.hops → StopsAt net x (name_on hop.unit hop.x i) → ResolvesUnder net after (name_on j.fits.node hop.y i) z → ResolvesUnder net after x z
+  through x z hop nearer j i few m st later =
+      let s : Name = name_on hop.unit hop.x i in
+      let t : Name = name_on j.fits.node hop.y i in
+      let own = own_held hop m nearer j i few j.unit j.is_unit in
+      let passed : Member t (outputs net after s) = passes net after hop j.unit j.fits.node i own.0 j.is_unit j.fits.is_port j.fits.agree own.1 in
+      let first = net_chain net legal after st.1.0 x s st.1.2 in
+      (later.0, reach_under_is_within net after legal after_held x z (st.1.0 + suc later.1.0, chain_join (StepUnder net after) st.1.0 (suc later.1.0) x s z first (t, stop_step net legal after s t st.0 passed, later.1.2)))
+
+  -- from where hops are met the buffer is come to
+  onward : (hops : List Hop) → Leads net slots rq hops → ((k : Hop) → Member k hops → Member k p.hops) → (node addr i : ℕ) → i < rq.size → Meets net rq node addr hops → ResolvesUnder net after (name_on node addr i) (name_on rq.node rq.base i)
+  onward [] l all node addr i few m =
+      let r : Resolves net (name_on node addr i) (name_on rq.node rq.base i) = ((m i few).0 (name_on rq.node rq.base i)).1 refl in
+      up_resolves net legal after after_held 0 (name_on node addr i) (name_on rq.node rq.base i) (inl r)
+  onward (hop ∷ hops) l all node addr i few m = through (name_on node addr i) (name_on rq.node rq.base i) hop hops l.0 i few (all hop (inl refl)) (m i few) (onward hops l.1 (λ k n. all k (inr n)) l.0.fits.node hop.y i few l.0.meets)
+
+  -- no hop after the first stands, in a free slot, at a name that an address of an agent reaches
+  pub not_seen : (first hop : Hop) (ahead behind : List Hop) (u : UnitPart) (i : ℕ) → p.hops ≡ first ∷ (ahead ++ (hop ∷ behind)) → unit_at net hop.unit ≡ Some u → i < rq.size → IsTrue (slots.is_free hop.unit ((hop.x + i) / 2 ^ u.page)) → IsAgentStop net (name_on hop.unit hop.x i) → ⊥
+  not_seen first hop ahead behind u i split e few free seen = by ((gives access w z seen.agent).0 there)
     where
-      b : ℕ
-      b = moved (2 ^ block) (p.v + i) a
+      w : Name
+      w = seen.from
 
-      x : Name
-      x = record { node = rq.agent; addr = b }
+      t : Name
+      t = name_on hop.unit hop.x i
 
-      w : IsWalk net legal one slots rq rq.agent block blocks after rq.agent p.v b i (last_node net slots rq p.hops is.leads rq.agent) (last_addr p.hops p.v)
-      w = walk net legal one slots rq rq.agent block blocks after p.hops is.leads rq.agent p.v b i few (sym (moved_block (2 ^ block) (p.v + i) a (pow_pos block))) is.meets blocks.own (holds_own p.hops is.leads (λ hop m. m) i few)
+      z : Name
+      z = name_on rq.node rq.base i
 
-      to_is : w.to ≡ a
-      to_is = w.place ∙ moved_twice (2 ^ block) (last_addr p.hops p.v + i) (p.v + i) a (pow_pos block) ∙ moved_self (2 ^ block) (last_addr p.hops p.v + i) a (sym e)
+      last : Leads net slots rq (hop ∷ behind)
+      last = leads_on (record { net = net; slots = slots; request = rq; at = None }) (first ∷ ahead) (hop ∷ behind) (subst (λ (hs : List Hop). Leads net slots rq hs) split is.leads)
 
-      n : Name
-      n = record { node = last_node net slots rq p.hops is.leads rq.agent; addr = a }
+      listed : (k : Hop) → Member k (hop ∷ behind) → Member k p.hops
+      listed k m = subst (λ (hs : List Hop). Member k hs) (sym split) (member_right (first ∷ ahead) (hop ∷ behind) k m)
 
-      first : IsChain (StepUnder net after) w.steps x n
-      first = subst (λ k. IsChain (StepUnder net after) w.steps x (record { node = last_node net slots rq p.hops is.leads rq.agent; addr = k })) to_is w.chain
+      there : ResolvesUnder net after w z
+      there = through w z hop behind last.0 i few (listed hop (inl refl)) seen.stops (onward behind last.1 (λ k m. listed k (inr m)) last.0.fits.node hop.y i few last.0.meets)
 
-      resolved : ResolvesUnder net after x z
-      resolved = (r.0, reach_under_is_within net after legal after_held x z (w.steps + r.1.0, chain_join (StepUnder net after) w.steps r.1.0 x n z first (net_chain net legal after r.1.0 n z r.1.2)))
+      none : (v : Name) → StepUnder net before t v → ⊥
+      none v k =
+          let out : Member v (outputs_by before t (Some u)) = subst (λ o. Member v (outputs_by before t o)) e (step_stop net legal before t v u e k).1 in
+          absurd (subst (λ o. Member v (output u o t.addr)) (ap (record_allowing access) (empty hop.unit ((hop.x + i) / 2 ^ u.page) free)) out)
 
-      closed : IsShut net legal one slots rq rq.agent block blocks before x
-      closed = shut net legal one slots rq rq.agent block blocks access empty p.hops p.own is.own is.is_own is.free is.leads rq.agent p.v b i few (sym (moved_block (2 ^ block) (p.v + i) a (pow_pos block))) is.meets blocks.own
-
-      by : ResolvesUnder net before x z ⊎ (IsTrue (allows rq.rights access) × Adds rq p.v x z) → ⊥
-      by (inl old) = blocked slots.held (placed_records net rq p) access net legal after_held x closed.end z closed.stop (closed.steps, closed.chain) closed.none old
+      by : ResolvesUnder net before w z ⊎ (IsTrue (allows rq.rights access) × Adds rq p.v w z) → ⊥
+      by (inl old) = blocked slots.held (placed_records net rq p) access net legal after_held w t z seen.stops.0 (seen.stops.1.0, net_chain net legal before seen.stops.1.0 w t seen.stops.1.2) none old
       by (inr k) =
-          let d : Adds rq p.v x z = k.1 in
-          let at : b ≡ p.v + d.i = ap (λ (m : Name). m.addr) d.from in
-          beside d.i d.below (sym to_is ∙ w.exact d.i d.below at)
+          let d : Adds rq p.v w z = k.1 in
+          let met : StopsAt net (name_on rq.agent p.v d.i) (name_on first.unit first.x d.i) = (subst (λ (hs : List Hop). Meets net rq rq.agent p.v hs) split is.meets) d.i d.below in
+          let same : t ≡ name_on first.unit first.x d.i = one w t (name_on first.unit first.x d.i) seen.stops (subst (λ (n : Name). StopsAt net n (name_on first.unit first.x d.i)) (sym d.from) met) in
+          let apart : Differ (first ∷ (ahead ++ (hop ∷ behind))) = subst (λ (hs : List Hop). Differ hs) split (differ net legal slots rq is.some p.hops is.most is.leads) in
+          apart.0 hop (member_right ahead (hop ∷ behind) hop (inl refl)) (ap (λ (n : Name). n.node) same)
+
+  module _ (block : ℕ) (blocks : KeepsWhole net rq.agent block) where
+    -- each slot of a hop has its record
+    holds_own : (hops : List Hop) (l : Leads net slots rq hops) → ((hop : Hop) → Member hop hops → Member hop p.hops) → (i : ℕ) → i < rq.size → Hold net legal one slots rq rq.agent block blocks after hops i
+    holds_own [] l all i few = tt
+    holds_own (hop ∷ hops) l all i few = ((λ u e. own_held hop (all hop (inl refl)) hops l.0 i few u e), holds_own hops l.1 (λ k m. all k (inr m)) i few)
+
+    -- no address beside the buffer, in the block of one of its addresses behind the hops, resolves to anything
+    pub whole_blocks : (a i : ℕ) (z : Name) → i < rq.size → a / 2 ^ block ≡ (last_addr p.hops p.v + i) / 2 ^ block → ((j : ℕ) → j < rq.size → a ≡ last_addr p.hops p.v + j → ⊥) → Resolves net (record { node = last_node net slots rq p.hops is.leads rq.agent; addr = a }) z → ⊥
+    whole_blocks a i z few e beside r = by ((gives access x z agent).0 resolved)
+      where
+        b : ℕ
+        b = moved (2 ^ block) (p.v + i) a
+
+        x : Name
+        x = record { node = rq.agent; addr = b }
+
+        w : IsWalk net legal one slots rq rq.agent block blocks after rq.agent p.v b i (last_node net slots rq p.hops is.leads rq.agent) (last_addr p.hops p.v)
+        w = walk net legal one slots rq rq.agent block blocks after p.hops is.leads rq.agent p.v b i few (sym (moved_block (2 ^ block) (p.v + i) a (pow_pos block))) is.meets blocks.own (holds_own p.hops is.leads (λ hop m. m) i few)
+
+        to_is : w.to ≡ a
+        to_is = w.place ∙ moved_twice (2 ^ block) (last_addr p.hops p.v + i) (p.v + i) a (pow_pos block) ∙ moved_self (2 ^ block) (last_addr p.hops p.v + i) a (sym e)
+
+        n : Name
+        n = record { node = last_node net slots rq p.hops is.leads rq.agent; addr = a }
+
+        first : IsChain (StepUnder net after) w.steps x n
+        first = subst (λ k. IsChain (StepUnder net after) w.steps x (record { node = last_node net slots rq p.hops is.leads rq.agent; addr = k })) to_is w.chain
+
+        resolved : ResolvesUnder net after x z
+        resolved = (r.0, reach_under_is_within net after legal after_held x z (w.steps + r.1.0, chain_join (StepUnder net after) w.steps r.1.0 x n z first (net_chain net legal after r.1.0 n z r.1.2)))
+
+        closed : IsShut net legal one slots rq rq.agent block blocks before x
+        closed = shut net legal one slots rq rq.agent block blocks access empty p.hops p.own is.own is.is_own is.free is.leads rq.agent p.v b i few (sym (moved_block (2 ^ block) (p.v + i) a (pow_pos block))) is.meets blocks.own
+
+        by : ResolvesUnder net before x z ⊎ (IsTrue (allows rq.rights access) × Adds rq p.v x z) → ⊥
+        by (inl old) = blocked slots.held (placed_records net rq p) access net legal after_held x closed.end z closed.stop (closed.steps, closed.chain) closed.none old
+        by (inr k) =
+            let d : Adds rq p.v x z = k.1 in
+            let at : b ≡ p.v + d.i = ap (λ (m : Name). m.addr) d.from in
+            beside d.i d.below (sym to_is ∙ w.exact d.i d.below at)

@@ -4,6 +4,7 @@ use Rattle.dn_net.specs.declared.node.Name.{Name}
 use Rattle.dn_net.specs.declared.node.NodeDecl.{NodeDecl}
 use Rattle.dn_net.specs.declared.node.Unit.{Unit as UnitPart}
 use Rattle.dn_net.specs.Decode.{top, is_agent_at, unit_at, Resolves, StopsAt}
+use Rattle.dn_flat.specs.Crowds.{IsAgentStop}
 use Rattle.dn_kind.specs.Rights.{both_rights}
 use Rattle.dn_placement.specs.declared.request.Request.{Request}
 use Rattle.dn_placement.specs.Order.{IsSuited}
@@ -54,12 +55,22 @@ GivesWholeBlocks s = (q : Place) (block : ℕ) (before : List Hop) (hop : Hop) (
     a / 2 ^ block ≡ (hop.y + i) / 2 ^ block → ((j : ℕ) → j < s.request.size → a ≡ hop.y + j → ⊥) →
     Resolves s.net (record { node = node; addr = a }) z → ⊥
 
+-- no name of a hop after the first from the agent's end, in a slot that is free, is the stop of an address of an
+-- agent, in a placement that is looked for
+abbrev pub LeavesAgentStops : Sought → Type 0
+LeavesAgentStops s = (q : Place) (first hop : Hop) (ahead behind : List Hop) (u : UnitPart) (i : ℕ) →
+    IsSuited s.net s.slots s.request s.at q → q.hops ≡ first ∷ (ahead ++ (hop ∷ behind)) →
+    unit_at s.net hop.unit ≡ Some u → i < s.request.size →
+    IsTrue (s.slots.is_free hop.unit ((hop.x + i) / 2 ^ u.page)) →
+    IsAgentStop s.net (name_on hop.unit hop.x i) → ⊥
+
 -- what the search asks
 pub record IsSearchReady (s : Sought) : Type 0 where
   pub bounds : HaveUnitBounds s.net
   pub one_stop : ReachOneStop s.net
   pub alone : ReachAlone s
   pub whole : GivesWholeBlocks s
+  pub leaves : LeavesAgentStops s
   pub few : length s.net ≤ 1024
   pub agent : s.request.agent < length s.net
   pub some : 1 ≤ s.request.size

@@ -1,11 +1,12 @@
 //! Which input a hop can have next.
 
-ghost use Rattle.std.specs.Prelude.{◌≡◌, ℕ, ◌+◌, ◌-◌, ◌*◌, ◌/◌, ◌%◌, ◌^◌, ◌<◌, ◌≤◌};
+ghost use Rattle.std.specs.Prelude.{◌≡◌, ℕ, ◌+◌, ◌-◌, ◌*◌, ◌/◌, ◌%◌, ◌^◌, ◌<◌, ◌≤◌, Some, IsTrue};
 ghost use Rattle.dn_interval.specs.declared.span.TheConstants.{TOP};
-ghost use Rattle.dn_place.specs.Terms.{AreFreeTo, AreUsable, AreUseless, HasCrowd, IsSearchReady, IsWithin};
+ghost use Rattle.dn_net.specs.Terms.{unit_at};
+ghost use Rattle.dn_place.specs.Terms.{AreFreeTo, AreUsable, AreUseless, HasAgentStop, HasCrowd, IsSearchReady, IsWithin};
 
 use crate::quest::Quest;
-use crate::slots::{Input, next_input, power};
+use crate::slots::{Input, is_free_slot, next_input, power};
 use dn_net::node::Unit;
 use dn_tables::placement::Hop;
 
@@ -42,8 +43,40 @@ pub(crate) fn next_try<Q: Quest>(
         if past != hop.x {
             return Input { x: past, free };
         }
+    } else if is_agent_stop(quest, translator, hop) {
+        let x = hop.x + power(translator.page);
+        return Input { x, free };
     }
     next_input(quest, translator, hop, free)
+}
+
+/// Whether a name of a hop is known to be the stop of an address of an agent, and in a free slot.
+fn is_agent_stop<Q: Quest>(quest: &Q, translator: &Unit, hop: Hop) -> bool
+    requires consistent { Q.is_consistent quest.now }
+    requires ready { IsSearchReady (Q.sought quest.now) }
+    requires within { IsWithin (Q.sought quest.now) translator.now hop }
+    ensures { IsTrue result → HasAgentStop (Q.sought quest.now) translator.now hop.unit hop.x }
+{
+    match quest.agent_stop(hop.unit, hop.x, quest.request().size) {
+        Some(span) => {
+            let name = hop.x.max(span.lo);
+            is_free_at(quest, translator, hop.unit, name)
+        }
+        None => false,
+    }
+}
+
+/// Whether a name of a unit is in a free slot.
+fn is_free_at<Q: Quest>(quest: &Q, translator: &Unit, unit: u16, name: u64) -> bool
+    requires consistent { Q.is_consistent quest.now }
+    requires ready { IsSearchReady (Q.sought quest.now) }
+    requires unit { unit_at (Q.sought quest.now).net unit ≡ Some translator.now }
+    requires within { name < translator.now.slots * 2 ^ translator.now.page }
+    ensures { result ≡ (Q.sought quest.now).slots.is_free unit (name / 2 ^ translator.now.page) }
+{
+    let page = power(translator.page);
+    let at = (name / page) as u32;
+    is_free_slot(quest.slot(unit, at))
 }
 
 /// The first input of a unit from the hop's on, in its place in a slot, past names that are known to be

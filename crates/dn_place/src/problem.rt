@@ -92,6 +92,10 @@ impl<
         self.flats.crowd_among(unit, first, size)
     }
 
+    fn agent_stop(&self, unit: u16, first: u64, size: u64) -> Option<Span> {
+        self.flats.agent_stop_among(unit, first, size)
+    }
+
     fn slot(&self, unit: u16, slot: u32) -> SlotState {
         (self.met)(unit, slot)
     }

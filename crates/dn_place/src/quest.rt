@@ -22,7 +22,7 @@ pub(crate) trait Quest {
     ghost use Rattle.std.specs.Prelude.{◌≡◌, ◌+◌, ◌<◌, ◌≤◌, ◌↔◌, length, IfOk, IfSome, IsTrue};
     ghost use Rattle.std.specs.Option.{option_copied};
     ghost use Rattle.dn_net.specs.Decode.{unit_at};
-    ghost use Rattle.dn_flat.specs.Crowds.{AreCrowded};
+    ghost use Rattle.dn_flat.specs.Crowds.{AreAgentStops, AreCrowded};
     ghost use Rattle.dn_flat.specs.Levels.{IsLevels, ResolvesWhole};
     ghost use Rattle.dn_interval.specs.declared.span.TheConstants.{TOP};
     ghost use Rattle.dn_interval.specs.Rows.{AreNormal};
@@ -87,6 +87,14 @@ pub(crate) trait Quest {
     fn crowd(&self, unit: u16, first: u64, size: u64) -> Option<Span>
         requires { is_consistent self.now }
         ensures crowded { IfSome result (λ s. AreCrowded (sought self.now).net unit s) }
+        ensures from { IfSome result (λ s. first ≤ s.hi) }
+        ensures to { IfSome result (λ s. s.lo < first + size) };
+
+    /// Names of a unit, one after another, that an address of an agent reaches, of which some are among so many names
+    /// from one on. `None` says nothing.
+    fn agent_stop(&self, unit: u16, first: u64, size: u64) -> Option<Span>
+        requires { is_consistent self.now }
+        ensures stopped { IfSome result (λ s. AreAgentStops (sought self.now).net unit s) }
         ensures from { IfSome result (λ s. first ≤ s.hi) }
         ensures to { IfSome result (λ s. s.lo < first + size) };
 

@@ -21,7 +21,7 @@ fn is_usable_slot(slot: SlotState, port: u8, page: u64) -> bool
 }
 
 /// Whether a slot is free.
-fn is_free_slot(slot: SlotState) -> bool
+pub(crate) fn is_free_slot(slot: SlotState) -> bool
     ensures { result ≡ is_free_slot slot }
 {
     match slot {
