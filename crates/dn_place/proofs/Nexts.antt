@@ -1,5 +1,5 @@
 -- The next hop of placements that end with some hops.
-use Rattle.std.proofs.Common.{◌≡◌, ℕ, suc, ◌+◌, ◌-◌, ◌*◌, ◌/◌, ◌%◌, ◌^◌, ◌<◌, ◌≤◌, ◌⊎◌, inl, inr, Bool, false, List, [], ◌∷◌, ◌++◌, length, slice_get, get_or, Option, Some, None, IsTrue, refl, sym, ap, ◌∙◌, subst, arith, append_assoc, length-append}
+use Rattle.std.proofs.Common.{◌≡◌, ℕ, suc, ◌+◌, ◌-◌, ◌*◌, ◌/◌, ◌%◌, ◌^◌, ◌<◌, ◌≤◌, ◌⊎◌, inl, inr, Bool, true, false, List, [], ◌∷◌, ◌++◌, length, slice_get, get_or, Option, Some, None, IsTrue, refl, sym, ap, ◌∙◌, subst, arith, append_assoc, length-append}
 use Rattle.std.proofs.lemmas.Bool.{cases_lt, cases_order, false≢true}
 use Rattle.std.proofs.lemmas.Option.{slice_get_within, slice_get-get_or, get_or_from_slice_get}
 use Rattle.std.proofs.lemmas.Nat.{pow_pos, le-div}
@@ -16,7 +16,7 @@ use Rattle.dn_placement.proofs.Hops.{numbers}
 use Rattle.dn_placement.proofs.Keys.{append_none, cancel, one_more}
 use Rattle.dn_flat.specs.Crowds.{IsAgentStop, IsCrowded}
 use Rattle.dn_place.specs.Blocks.{HasBlocks}
-use Rattle.dn_place.specs.Slots.{AreBarred, AreShut, AreUsable, AreUseless, HasAgentStop, HasCrowd, IsUseless, slot_of}
+use Rattle.dn_place.specs.Slots.{AreBarred, AreRun, AreShut, AreUsable, AreUseless, HasAgentStop, HasCrowd, IsUseless, slot_of}
 use Rattle.dn_place.specs.Rows.{AreToward, wanted_name}
 use Rattle.dn_place.proofs.Stretches.{GivesOnly}
 use Rattle.dn_place.specs.Candidates.{IsUnder, NoneUnder, IsFirstOrNone, IsChosen, key_of_hops, to_unit, to_port, to_output}
@@ -24,7 +24,7 @@ use Rattle.dn_place.proofs.Levels.{NoneBelow, begun, found_first, leapt, next_on
 use Rattle.dn_place.proofs.Openings.{Opened, opened}
 use Rattle.dn_place.proofs.Wholes.{whole}
 use Rattle.dn_place.proofs.Meetings.{meets_gives}
-use Rattle.dn_place.proofs.Usable.{is_usable, usable_is}
+use Rattle.dn_place.proofs.Usable.{barred_unusable, is_usable, usable_is}
 use Rattle.dn_place.proofs.Walks.{Stretches}
 use Rattle.dn_place.specs.Marks.{mark_at, AreMarked, IsEntry}
 use Rattle.dn_interval.specs.declared.row.End.{End}
@@ -465,19 +465,20 @@ inputs_useless s count hops unit port y x to place u ready l here e agree useles
 pub answered_input : (s : Sought) (count : ℕ) (hops : List Hop) (unit port y x : ℕ) (found : Option Place) → IsFirstOrNone s (key_of_hops count (record { unit = unit; port = port; x = x; y = y } ∷ hops)) found → IsFirstOrNone s (to_output count hops unit port y ++ x ∷ []) found
 answered_input s count hops unit port y x found a = subst (λ f. IsFirstOrNone s f found) (sym (behind count hops unit port y x)) a
 
+-- an input before the one of a slot, in its place in a slot, is in a slot before
+quotient_below : (j r p t : ℕ) → 0 < p → j % p ≡ r → j < t * p + r → j / p < t
+quotient_below j r p t z e m = by (cases_lt (j / p) t)
+  where
+    by : (j / p < t) ⊎ (t ≤ j / p) → j / p < t
+    by (inl n) = n
+    by (inr n) = absurd (omega (arith, mul-le-mul_right p n, mod-add-div' j p))
+
 -- where the last slot that is not usable shuts the inputs up to a slot, the hops that begin before it are barred
 pub shut_bars : (s : Sought) (u : UnitPart) (hop : Hop) (q to : ℕ) → 1 ≤ s.request.size → hop.x / 2 ^ u.page ≤ q → q ≤ (hop.x + s.request.size - 1) / 2 ^ u.page → to ≤ q + 1 → AreShut (slot_of s.slots hop.unit q) q (hop.x / 2 ^ u.page) to hop.port (hop.y / 2 ^ u.page) → AreBarred s u hop (to * 2 ^ u.page + hop.x % 2 ^ u.page)
 shut_bars s u hop q to some a b most shut = λ j l m e usable. shut (j / 2 ^ u.page) (first j l) (before j m e) (usable q (low j m e) (high j l))
   where
-    quotient : (j r p t : ℕ) → 0 < p → j % p ≡ r → j < t * p + r → j / p < t
-    quotient j r p t z e m = by (cases_lt (j / p) t)
-      where
-        by : (j / p < t) ⊎ (t ≤ j / p) → j / p < t
-        by (inl n) = n
-        by (inr n) = absurd (omega (arith, mul-le-mul_right p n, mod-add-div' j p))
-
     before : (j : ℕ) → j < to * 2 ^ u.page + hop.x % 2 ^ u.page → j % 2 ^ u.page ≡ hop.x % 2 ^ u.page → j / 2 ^ u.page < to
-    before j m e = quotient j (hop.x % 2 ^ u.page) (2 ^ u.page) to (pow_pos u.page) e m
+    before j m e = quotient_below j (hop.x % 2 ^ u.page) (2 ^ u.page) to (pow_pos u.page) e m
 
     low : (j : ℕ) → j < to * 2 ^ u.page + hop.x % 2 ^ u.page → j % 2 ^ u.page ≡ hop.x % 2 ^ u.page → j / 2 ^ u.page ≤ q
     low j m e = let n = before j m e in omega arith
@@ -487,3 +488,16 @@ shut_bars s u hop q to some a b most shut = λ j l m e usable. shut (j / 2 ^ u.p
 
     high : (j : ℕ) → hop.x ≤ j → q ≤ (j + s.request.size - 1) / 2 ^ u.page
     high j l = le-div q (j + s.request.size - 1) (2 ^ u.page) (pow_pos u.page) (omega (arith, mul-le-mul_right (2 ^ u.page) b, div-mul-le_self (hop.x + s.request.size - 1) (2 ^ u.page)))
+
+-- and past barred slots after it
+pub barred_on : (s : Sought) (u : UnitPart) (hop : Hop) (past to : ℕ) → 1 ≤ s.request.size → AreBarred s u hop (past * 2 ^ u.page + hop.x % 2 ^ u.page) → AreRun true s.slots hop.unit past to → AreBarred s u hop (to * 2 ^ u.page + hop.x % 2 ^ u.page)
+barred_on s u hop past to some old run = λ j l m e usable. by j l m e usable (cases_lt j (past * 2 ^ u.page + hop.x % 2 ^ u.page))
+  where
+    by : (j : ℕ) → hop.x ≤ j → j < to * 2 ^ u.page + hop.x % 2 ^ u.page → j % 2 ^ u.page ≡ hop.x % 2 ^ u.page → AreUsable s.slots hop.unit (j / 2 ^ u.page) ((j + s.request.size - 1) / 2 ^ u.page) hop.port (hop.y / 2 ^ u.page) → (j < past * 2 ^ u.page + hop.x % 2 ^ u.page) ⊎ (past * 2 ^ u.page + hop.x % 2 ^ u.page ≤ j) → ⊥
+    by j l m e usable (inl n) = old j l n e usable
+    by j l m e usable (inr n) =
+        let q : ℕ = j / 2 ^ u.page in
+        let from : past ≤ q = le-div past j (2 ^ u.page) (pow_pos u.page) (omega (arith, n)) in
+        let below : q < to = quotient_below j (hop.x % 2 ^ u.page) (2 ^ u.page) to (pow_pos u.page) e m in
+        let last : q ≤ (j + s.request.size - 1) / 2 ^ u.page = le-div q (j + s.request.size - 1) (2 ^ u.page) (pow_pos u.page) (omega (arith, some, div-mul-le_self j (2 ^ u.page))) in
+        barred_unusable hop.port (hop.y / 2 ^ u.page + (q - q)) (slot_of s.slots hop.unit q) (run q from below) (usable q (omega arith) last)

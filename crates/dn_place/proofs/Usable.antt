@@ -12,7 +12,17 @@ use Rattle.dn_placement.specs.Records.{slot_record}
 use Rattle.dn_placement.specs.Slots.{Slots}
 use Rattle.dn_place.specs.declared.slot_state.SlotState.{SlotState}
 use Rattle.dn_place.specs.declared.slot_state.SlotState.TheVariants.{Free, Shared, Barred}
-use Rattle.dn_place.specs.Slots.{AreFreeTo, is_free_slot, is_usable_slot, shared_by, slot_of}
+use Rattle.dn_place.specs.Slots.{AreFreeTo, is_barred_slot, is_free_slot, is_usable_slot, shared_by, slot_of}
+
+-- a slot that no hop may take
+pub barred_is : (z : SlotState) → IsTrue (is_barred_slot z) → z ≡ Barred
+barred_is Free p = absurd (false≢true p)
+barred_is (Shared r) p = absurd (false≢true p)
+barred_is Barred p = refl
+
+-- is usable for none
+pub barred_unusable : (port page : ℕ) (z : SlotState) → IsTrue (is_barred_slot z) → IsTrue (is_usable_slot port page z) → ⊥
+barred_unusable port page z p q = false≢true (subst (λ (v : SlotState). IsTrue (is_usable_slot port page v)) (barred_is z p) q)
 
 -- a slot that a hop may take is usable
 pub usable_is : (slots : Slots) (u : UnitPart) (hop : Hop) (slot : ℕ) → IsUsable slots u hop slot → IsTrue (is_usable_slot hop.port (hop.y / 2 ^ u.page + (slot - hop.x / 2 ^ u.page)) (slot_of slots hop.unit slot))

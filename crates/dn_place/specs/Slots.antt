@@ -30,6 +30,17 @@ is_free_slot Free = true
 is_free_slot (Shared r) = false
 is_free_slot Barred = false
 
+-- no hop may take the slot
+abbrev pub is_barred_slot : SlotState → Bool
+is_barred_slot Free = false
+is_barred_slot (Shared r) = false
+is_barred_slot Barred = true
+
+-- the slot is free, or barred where that is asked
+abbrev pub is_in_run : Bool → SlotState → Bool
+is_in_run false slot = is_free_slot slot
+is_in_run true slot = is_barred_slot slot
+
 -- the slot is free, or has this record and may be shared
 abbrev pub is_usable_slot : ℕ → ℕ → SlotState → Bool
 is_usable_slot port page Free = true
@@ -55,6 +66,11 @@ AreFree slots unit first last = (slot : ℕ) → first ≤ slot → slot ≤ las
 abbrev pub AreFreeTo : Slots → ℕ → ℕ → ℕ → Type 0
 AreFreeTo slots unit first to = (slot : ℕ) → first ≤ slot → slot < to →
     IsTrue (is_free_slot (slot_of slots unit slot))
+
+-- each slot from a first one on and before another is free, or each is barred where that is asked
+abbrev pub AreRun : Bool → Slots → ℕ → ℕ → ℕ → Type 0
+AreRun barred slots unit first to = (slot : ℕ) → first ≤ slot → slot < to →
+    IsTrue (is_in_run barred (slot_of slots unit slot))
 
 -- no hop that begins in a slot from a first one on, and before another, can take a slot for the pages
 -- of a port that it would meet there

@@ -2,7 +2,7 @@
 
 ghost use Rattle.std.specs.Prelude.{◌≡◌, ◌<◌, ◌≤◌, ◌+◌, ◌-◌, ◌*◌, ◌/◌, ◌%◌, ◌^◌, IsTrue, ◌↔◌, IfSome, IfNone, false};
 ghost use Rattle.dn_net.specs.Terms.{unit_at};
-ghost use Rattle.dn_place.specs.Terms.{AreBarred, AreFree, AreFreeTo, AreShut, AreUsable, IsSearchReady, IsWithin, is_free_slot, is_usable_slot, slot_count, slot_of};
+ghost use Rattle.dn_place.specs.Terms.{AreBarred, AreFree, AreFreeTo, AreRun, AreShut, AreUsable, IsSearchReady, IsWithin, is_barred_slot, is_free_slot, is_in_run, is_usable_slot, slot_count, slot_of};
 
 use crate::quest::Quest;
 use crate::slot_state::SlotState;
@@ -47,21 +47,45 @@ fn are_free<Q: Quest>(quest: &Q, unit: u16, first: u32, last: u32) -> bool
     true
 }
 
-/// Before which slot those of a unit from one on are free, of those up to a last one.
-fn free_end<Q: Quest>(quest: &Q, unit: u16, from: u32, last: u32) -> u32
+/// Before which slot those of a unit from one on are free, or all barred, of those up to a last one.
+fn run_end<Q: Quest>(quest: &Q, unit: u16, from: u32, last: u32, barred: bool) -> u32
     requires consistent { Q.is_consistent quest.now }
     requires within { last < slot_count (unit_at (Q.sought quest.now).net unit) }
     requires few { last < 262144 }
-    ensures { AreFreeTo (Q.sought quest.now).slots unit from result }
+    ensures onward { from ≤ result }
+    ensures most { from ≤ last + 1 → result ≤ last + 1 }
+    ensures run { AreRun barred (Q.sought quest.now).slots unit from result }
 {
     let mut end = from;
     'slots: while end <= last {
-        if !is_free_slot(quest.slot(unit, end)) {
+        if !is_in_run(quest.slot(unit, end), barred) {
             return end;
         }
         end += 1;
     }
     end
+}
+
+/// Whether a slot is free, or barred where that is asked.
+fn is_in_run(slot: SlotState, barred: bool) -> bool
+    ensures { result ≡ is_in_run barred slot }
+{
+    if barred {
+        is_barred_slot(slot)
+    } else {
+        is_free_slot(slot)
+    }
+}
+
+/// Whether no hop may take a slot.
+pub(crate) fn is_barred_slot(slot: SlotState) -> bool
+    ensures { result ≡ is_barred_slot slot }
+{
+    match slot {
+        SlotState::Free => false,
+        SlotState::Shared(_) => false,
+        SlotState::Barred => true,
+    }
 }
 
 /// The last of the slots that is not usable for the pages of a port, the first of which is for the
@@ -186,7 +210,7 @@ pub(crate) struct Input {
 /// The first input of a unit from the hop's on, in its place in a slot, that may find its slots
 /// usable. Where it is the hop's own, it does. The slots from the first of the hop's on are known to be
 /// free before a slot, and are then known to be free before the one that is answered, so that inputs in
-/// turn look at each slot once.
+/// turn look at each slot once; and slots that follow one in the way, and that no hop may take, are passed at once.
 pub(crate) fn next_input<Q: Quest>(quest: &Q, translator: &Unit, hop: Hop, free: u32) -> Input
     requires consistent { Q.is_consistent quest.now }
     requires ready { IsSearchReady (Q.sought quest.now) }
@@ -207,7 +231,8 @@ pub(crate) fn next_input<Q: Quest>(quest: &Q, translator: &Unit, hop: Hop, free:
 {
     let slots = slots_of_hop(quest, translator, hop);
     let output = hop.y / slots.page;
-    let end = free_end(quest, hop.unit, slots.first.max(free), slots.last);
+    let from = slots.first.max(free);
+    let end = run_end(quest, hop.unit, from, slots.last, false);
     match last_unusable(
         quest,
         hop.unit,
@@ -219,7 +244,8 @@ pub(crate) fn next_input<Q: Quest>(quest: &Q, translator: &Unit, hop: Hop, free:
     ) {
         Some(slot) => {
             let found = quest.slot(hop.unit, slot);
-            let next = past_slot(found, slot, slots.first, hop.port, output);
+            let past = past_slot(found, slot, slots.first, hop.port, output);
+            let next = run_end(quest, hop.unit, past, translator.slots - 1, true);
             let x = u64::from(next) * slots.page + hop.x % slots.page;
             Input { x, free: end }
         }

@@ -8,7 +8,7 @@ ghost use Rattle.dn_view.specs.Terms.{IsSystem};
 ghost use Rattle.dn_place.specs.Terms.{IsBarred, shared_by, slot_of};
 
 use crate::slot_state::SlotState;
-use crate::slots::power;
+use crate::slots::{is_barred_slot, power};
 use crate::unit::unit_in;
 use dn_interval::End;
 use dn_kind::kinds::Kinds;
@@ -55,18 +55,7 @@ pub(crate) fn is_barred(system: System, tables: &TableSet, name: End) -> bool
     if slot >= u64::from(unit.slots) {
         return false;
     }
-    is_shut_slot(slot_at(system.on.kinds, tables, name.node, slot as u32))
-}
-
-/// Whether no hop may take a slot.
-fn is_shut_slot(slot: SlotState) -> bool
-    ensures { IsTrue result → slot ≡ SlotState.Barred }
-{
-    match slot {
-        SlotState::Free => false,
-        SlotState::Shared(_) => false,
-        SlotState::Barred => true,
-    }
+    is_barred_slot(slot_at(system.on.kinds, tables, name.node, slot as u32))
 }
 
 /// The record of a slot that has no owner, where a hop may share it.

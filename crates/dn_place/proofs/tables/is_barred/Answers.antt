@@ -3,6 +3,7 @@ use Rattle.dn_net.specs.declared.node.Unit.{Unit as UnitPart}
 use Rattle.dn_kind.specs.Kinded.{kinds_of}
 use Rattle.dn_place.proofs.Pages.{slot_there}
 use Rattle.dn_place.proofs.Readies.{slot_in_set}
+use Rattle.dn_place.proofs.Usable.{barred_is}
 use Rattle.dn_place.proofs.tables.is_barred.Goals as goal
 
 pub power-requires : goal.power-requires
@@ -17,7 +18,7 @@ pub returns : goal.returns
 returns g c = λ yes u e l.
     let same : c.in-Some.unit.now ≡ u = some _ u (sym c.in-Some.ensures.some ∙ e) in
     let page : c.args.name.base / c.power.result ≡ c.args.name.base / 2 ^ u.page = ap (λ n. c.args.name.base / n) c.power.ensures ∙ ap (λ (v : UnitPart). c.args.name.base / 2 ^ v.page) same in
-    rw page at (sym c.slot_at.ensures ∙ c.is_shut_slot.ensures yes)
+    rw page at (sym c.slot_at.ensures ∙ barred_is c.slot_at.result (sym c.is_barred_slot.ensures ∙ yes))
   where
     some : (a b : UnitPart) → Some a ≡ Some b → a ≡ b
     some a b p = cc
