@@ -19,7 +19,8 @@ use Rattle.dn_place.proofs.Walks.{Walked, Stretches, walked_on, walk_found, walk
 use Rattle.dn_place.proofs.Meetings.{meets_gives, walk_meets}
 use Rattle.dn_place.proofs.Wholes.{Whole, whole}
 
-v_of : (s : Sought) (hops : List Hop) (q : Place) (j : ℕ) → IsUnder s (key_of_hops (length hops) hops ++ j ∷ []) q → (q.v ≡ j) × (q.hops ≡ hops)
+-- its address, and its hops
+pub v_of : (s : Sought) (hops : List Hop) (q : Place) (j : ℕ) → IsUnder s (key_of_hops (length hops) hops ++ j ∷ []) q → (q.v ≡ j) × (q.hops ≡ hops)
 v_of s hops q j u = (heads q.v j (hop_page s.net (slice_get hops q.own) ∷ (length hops - q.own) ∷ []) w.rest w.tail, w.same)
   where
     w : Whole s hops q (j ∷ [])

@@ -1,4 +1,5 @@
 pub mod Agents
+pub mod Beside
 pub mod BlockRows
 pub mod WholeBlocks
 pub mod Crowds

@@ -23,7 +23,7 @@ use Rattle.dn_placement.specs.Slots.{Slots}
 use Rattle.dn_book.proofs.Hops.{has_bounds}
 use Rattle.dn_view.proofs.Alone.{reached_alone}
 use Rattle.dn_place.specs.Blocks.{HasBlocks}
-use Rattle.dn_place.proofs.WholeBlocks.{KeepsWhole, behind_at, not_seen, whole_blocks}
+use Rattle.dn_place.proofs.WholeBlocks.{KeepsWhole, behind_at, not_beside, not_seen, whole_blocks}
 use Rattle.dn_place.specs.Sought.{HaveUnitBounds, IsSearchReady, ReachOneStop, slot_count}
 
 -- the ports of a unit are nodes that are there
@@ -103,6 +103,7 @@ ready net slots rq at legal held empty rights agent some fits = record {
   whole = λ q block before hop u node i a z is ends blocks e port few same beside r.
       let k = behind_at net slots rq q.hops before hop ends is.is_placement.leads rq.agent q.v node u e port in
       whole_blocks net legal (one_stop net legal) slots rq q held rights empty agent is.is_placement is.admissible block (kept_whole net legal rq.agent block (agent_there net rq.agent agent) blocks) a i z few (same ∙ ap (λ n. (n + i) / 2 ^ block) (sym k.addr_is)) (λ j l f. beside j l (f ∙ ap (λ n. n + j) k.addr_is)) (subst (λ (n : ℕ). Resolves net (record { node = n; addr = a }) z) (sym k.node_is) r);
+  none_beside = λ q hop u node i a x z is split e port few same st beside r. not_beside net legal (one_stop net legal) slots rq q held rights empty agent is.is_placement is.admissible hop u node i a x z split e port few same st beside r;
   leaves = λ q first hop ahead behind u i is split e few free seen. not_seen net legal (one_stop net legal) slots rq q held rights empty agent is.is_placement is.admissible first hop ahead behind u i split e few free seen;
   few = legal.is_net.few;
   agent = agent_there net rq.agent agent;

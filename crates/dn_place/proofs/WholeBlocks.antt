@@ -1,5 +1,6 @@
 -- What an admissible placement gives: where windows keep blocks whole, nothing beside its buffer in the blocks of the
--- buffer; and no name of a later hop, in a free slot, that an address of an agent reaches.
+-- buffer; no name of a later hop, in a free slot, that an address of an agent reaches;
+-- and through a lone hop nothing beside the buffer.
 use Rattle.std.proofs.Common.{◌≡◌, ℕ, zero, suc, ◌+◌, ◌-◌, ◌*◌, ◌/◌, ◌%◌, ◌^◌, ◌<◌, ◌≤◌, ◌⊎◌, inl, inr, Bool, true, false, if◌then◌else◌, ◌&&◌, nat_eq, nat_le, List, [], ◌∷◌, ◌++◌, length, slice_get, Option, Some, None, IsSome, IsTrue, refl, sym, ap, ◌∙◌, subst, arith, pow_pos, pow-add, mod-lt, le-leb, eq-eqb, eqb-true}
 use Rattle.std.proofs.Math.Nat.{add-mul, div-add-mod', div-lt_iff_lt-mul, mul-le-mul_right, mul_assoc, mul_comm}
 use Rattle.std.proofs.lemmas.Bool.{and_from}
@@ -525,6 +526,58 @@ module _ (net : List NodeDecl) (legal : IsLegalNet net) (one : ReachOneStop net)
           let same : t ≡ name_on first.unit first.x d.i = one w t (name_on first.unit first.x d.i) seen.stops (subst (λ (n : Name). StopsAt net n (name_on first.unit first.x d.i)) (sym d.from) met) in
           let apart : Differ (first ∷ (ahead ++ (hop ∷ behind))) = subst (λ (hs : List Hop). Differ hs) split (differ net legal slots rq is.some p.hops is.most is.leads) in
           apart.0 hop (member_right ahead (hop ∷ behind) hop (inl refl)) (ap (λ (n : Name). n.node) same)
+
+  -- the slot of an address of a lone hop is free
+  lone_free : (hop : Hop) (u : UnitPart) (i : ℕ) → p.hops ≡ hop ∷ [] → unit_at net hop.unit ≡ Some u → i < rq.size → IsTrue (slots.is_free hop.unit ((hop.x + i) / 2 ^ u.page))
+  lone_free hop u i split e few = subst (λ (k : Hop). IsFreeHop net slots rq k) (own p.own (subst (λ (hs : List Hop). slice_get hs p.own ≡ Some is.own) split is.is_own)) is.free u e ((hop.x + i) / 2 ^ u.page) (pages_ascend (2 ^ u.page) hop.x (hop.x + i) (pow_pos u.page) (omega arith)) (pages_ascend (2 ^ u.page) (hop.x + i) (hop.x + rq.size - 1) (pow_pos u.page) (omega arith))
+    where
+      own : (n : ℕ) → slice_get (hop ∷ []) n ≡ Some is.own → is.own ≡ hop
+      own zero f = sym (same_Some hop is.own f)
+      own (suc n) f = cc
+
+  -- through a lone hop no address of the agent beside the buffer, in a slot of the hop, comes to a name
+  pub not_beside : (hop : Hop) (u : UnitPart) (node i a x : ℕ) (z : Name) → p.hops ≡ hop ∷ [] → unit_at net hop.unit ≡ Some u → slice_get u.ports hop.port ≡ Some node → i < rq.size → x / 2 ^ u.page ≡ (hop.x + i) / 2 ^ u.page → StopsAt net (record { node = rq.agent; addr = a }) (record { node = hop.unit; addr = x }) → ((j : ℕ) → j < rq.size → a ≡ p.v + j → ⊥) → Resolves net (record { node = node; addr = (hop.y / 2 ^ u.page + (x / 2 ^ u.page - hop.x / 2 ^ u.page)) * 2 ^ u.page + x % 2 ^ u.page }) z → ⊥
+  not_beside hop u node i a x z split e port few same st beside r = by ((gives access from z agent).0 there)
+    where
+      from : Name
+      from = record { node = rq.agent; addr = a }
+
+      s : Name
+      s = record { node = hop.unit; addr = x }
+
+      t : Name
+      t = record { node = node; addr = (hop.y / 2 ^ u.page + (x / 2 ^ u.page - hop.x / 2 ^ u.page)) * 2 ^ u.page + x % 2 ^ u.page }
+
+      leads : Leads net slots rq (hop ∷ [])
+      leads = subst (λ (hs : List Hop). Leads net slots rq hs) split is.leads
+
+      listed : Member hop p.hops
+      listed = subst (λ (hs : List Hop). Member hop hs) (sym split) (inl refl)
+
+      own : (k : Rights) × (after hop.unit ((hop.x + i) / 2 ^ u.page) ≡ Some (slot_record u k hop ((hop.x + i) / 2 ^ u.page)))
+      own = own_held hop listed [] leads.0 i few u e
+
+      passed : Member t (outputs net after s)
+      passed = passes_at net after hop u node x ((hop.x + i) / 2 ^ u.page) own.0 e port same own.1
+
+      first : IsChain (StepUnder net after) st.1.0 from s
+      first = net_chain net legal after st.1.0 from s st.1.2
+
+      last : IsChain (StepUnder net after) r.1.0 t z
+      last = net_chain net legal after r.1.0 t z r.1.2
+
+      there : ResolvesUnder net after from z
+      there = (r.0, reach_under_is_within net after legal after_held from z (st.1.0 + suc r.1.0, chain_join (StepUnder net after) st.1.0 (suc r.1.0) from s z first (t, stop_step net legal after s t st.0 passed, last)))
+
+      none : (v : Name) → StepUnder net before s v → ⊥
+      none v k =
+          let out : Member v (outputs_by before s (Some u)) = subst (λ o. Member v (outputs_by before s o)) e (step_stop net legal before s v u e k).1 in
+          let gone : before hop.unit (x / 2 ^ u.page) ≡ None = ap (before hop.unit) same ∙ ap (record_allowing access) (empty hop.unit ((hop.x + i) / 2 ^ u.page) (lone_free hop u i split e few)) in
+          absurd (subst (λ o. Member v (output u o x)) gone out)
+
+      by : ResolvesUnder net before from z ⊎ (IsTrue (allows rq.rights access) × Adds rq p.v from z) → ⊥
+      by (inl old) = blocked slots.held (placed_records net rq p) access net legal after_held from s z st.0 (st.1.0, net_chain net legal before st.1.0 from s st.1.2) none old
+      by (inr k) = let d : Adds rq p.v from z = k.1 in beside d.i d.below (ap (λ (n : Name). n.addr) d.from)
 
   module _ (block : ℕ) (blocks : KeepsWhole net rq.agent block) where
     -- each slot of a hop has its record

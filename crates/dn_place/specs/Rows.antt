@@ -43,6 +43,10 @@ pub record AreToward (net : List NodeDecl) (rq : Request) (hops : List Hop) (nod
   pub whole : (a : ℕ) → a + rq.size ≤ TOP + 1 → ComesOnly net rq hops node a → (i : ℕ) → i < rq.size →
       GivenBy rows (a + i) (further_end i (wanted_name rq hops))
 
+-- what the row gives to an address is a stop of the address of the node
+abbrev pub GivesStops : List NodeDecl → ℕ → Row → Type 0
+GivesStops net node r = (a : ℕ) (z : End) → GivenBy (r ∷ []) a z → StopsFrom net node a z
+
 -- the row has no address of the stretch
 abbrev pub is_past : ℕ → ℕ → Row → Bool
 is_past a size r = nat_lt r.span.hi a || nat_le (a + size) r.span.lo

@@ -1,5 +1,5 @@
 -- What the search looks for and where, and what it asks of that.
-use Rattle.std.specs.Prelude.{◌≡◌, ℕ, ◌+◌, ◌/◌, ◌^◌, ◌<◌, ◌≤◌, false, List, [], ◌∷◌, ◌++◌, length, slice_get, Option, Some, None, IsTrue}
+use Rattle.std.specs.Prelude.{◌≡◌, ℕ, ◌+◌, ◌-◌, ◌*◌, ◌/◌, ◌%◌, ◌^◌, ◌<◌, ◌≤◌, false, List, [], ◌∷◌, ◌++◌, length, slice_get, Option, Some, None, IsTrue}
 use Rattle.dn_net.specs.declared.node.Name.{Name}
 use Rattle.dn_net.specs.declared.node.NodeDecl.{NodeDecl}
 use Rattle.dn_net.specs.declared.node.Unit.{Unit as UnitPart}
@@ -55,6 +55,21 @@ GivesWholeBlocks s = (q : Place) (block : ℕ) (before : List Hop) (hop : Hop) (
     a / 2 ^ block ≡ (hop.y + i) / 2 ^ block → ((j : ℕ) → j < s.request.size → a ≡ hop.y + j → ⊥) →
     Resolves s.net (record { node = node; addr = a }) z → ⊥
 
+-- through a lone hop of a placement that is looked for no address of the agent beside the buffer, whose stop is in a
+-- slot of the hop, comes to a name that resolves to anything
+abbrev pub ShowsNoneBeside : Sought → Type 0
+ShowsNoneBeside s = (q : Place) (hop : Hop) (u : UnitPart) (node i a x : ℕ) (z : Name) →
+    IsSuited s.net s.slots s.request s.at q → q.hops ≡ hop ∷ [] → unit_at s.net hop.unit ≡ Some u →
+    slice_get u.ports hop.port ≡ Some node → i < s.request.size →
+    x / 2 ^ u.page ≡ (hop.x + i) / 2 ^ u.page →
+    StopsAt s.net (record { node = s.request.agent; addr = a }) (record { node = hop.unit; addr = x }) →
+    ((j : ℕ) → j < s.request.size → a ≡ q.v + j → ⊥) →
+    Resolves s.net (record {
+      node = node;
+      addr = (hop.y / 2 ^ u.page
+          + (x / 2 ^ u.page - hop.x / 2 ^ u.page)) * 2 ^ u.page + x % 2 ^ u.page;
+    }) z → ⊥
+
 -- no name of a hop after the first from the agent's end, in a slot that is free, is the stop of an address of an
 -- agent, in a placement that is looked for
 abbrev pub LeavesAgentStops : Sought → Type 0
@@ -70,6 +85,7 @@ pub record IsSearchReady (s : Sought) : Type 0 where
   pub one_stop : ReachOneStop s.net
   pub alone : ReachAlone s
   pub whole : GivesWholeBlocks s
+  pub none_beside : ShowsNoneBeside s
   pub leaves : LeavesAgentStops s
   pub few : length s.net ≤ 1024
   pub agent : s.request.agent < length s.net

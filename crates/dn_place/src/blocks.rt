@@ -187,7 +187,7 @@ pub(crate) fn is_alone<Q: Quest>(
 }
 
 /// Whether an address of a node from one on up to another is known to resolve to a name.
-fn shows_some<Q: Quest>(
+pub(crate) fn shows_some<Q: Quest>(
     quest: &Q,
     alloc: Global,
     node: u16,

@@ -1,16 +1,19 @@
 //! The search among the placements whose hops are all chosen: the agent's address, and the own hop.
 
-ghost use Rattle.std.specs.Prelude.{◌≡◌, ◌≤◌, ◌↔◌, false, Some, IfOk, IfSome, IfNone, IsTrue, length};
+ghost use Rattle.std.specs.Prelude.{◌≡◌, ◌∷◌, [], ◌≤◌, ◌↔◌, false, Some, IfOk, IfSome, IfNone, IsTrue, length, slice_get};
 ghost use Rattle.dn_kind.specs.Terms.{both_rights};
 ghost use Rattle.dn_placement.specs.Terms.{IsAt, Leads, hop_page};
-ghost use Rattle.dn_place.specs.Terms.{AreToward, CanOwn, IsAddressed, IsChosen, IsFirstOrNone, IsSearchReady, PagesBelow, PagesFrom, hops_view, key_of_hops, to_address, to_page};
+ghost use Rattle.dn_place.specs.Terms.{AreToward, CanOwn, GivesStops, InRow, IsAddressed, IsChosen, IsFirstOrNone, IsSearchReady, NoneUnder, PagesBelow, PagesFrom, hops_view, key_of_hops, to_address, to_page, wanted_name};
 
+use crate::OutOfMemory;
+use crate::blocks::shows_some;
 use crate::hops::Hops;
 use crate::quest::{FoundPlacement, Quest, unit_of};
 use crate::rows::{lent_rows, made_rows, output, wanted_name};
-use crate::slots::is_hop_free;
+use crate::slots::{is_hop_free, power};
 use dn_interval::Row;
 use dn_kind::rights::Rights;
+use dn_net::node::Unit;
 use dn_tables::placement::Hop;
 use std::alloc::Global;
 
@@ -49,13 +52,79 @@ fn by_rows<Q: Quest>(alloc: Global, quest: &Q, hops: Hops, rows: &[Row]) -> Foun
     'rows: for row in rows {
         if let Some(v) = output(row, target, size) {
             if is_at(quest.at(), v) {
-                if let Some(placement) = by_address(alloc, quest, hops, v)? {
+                if let Some(placement) = by_row(alloc, quest, hops, row, v)? {
                     return Ok(Some(placement));
                 }
             }
         }
     }
     Ok(None)
+}
+
+/// The same at the address that a row gives: with none where the row leads on to names beside the buffer.
+fn by_row<Q: Quest>(alloc: Global, quest: &Q, hops: Hops, row: &Row, v: u64) -> FoundPlacement
+    requires consistent { Q.is_consistent quest.now }
+    requires ready { IsSearchReady (Q.sought quest.now) }
+    requires addressed { IsAddressed (Q.sought quest.now) (hops_view hops) v }
+    requires row { GivesStops (Q.sought quest.now).net (Q.sought quest.now).request.agent row.now }
+    requires inside { InRow row.now (wanted_name (Q.sought quest.now).request (hops_view hops))
+        (Q.sought quest.now).request.size v }
+    ensures { IfOk result (λ found. IsFirstOrNone (Q.sought quest.now)
+        (to_address (length (hops_view hops)) (hops_view hops) v) found) }
+{
+    if let Hops::One(hop) = hops {
+        if shows_beside(alloc, quest, hop, row, v)? {
+            return Ok(None);
+        }
+    }
+    by_address(alloc, quest, hops, v)
+}
+
+/// Whether a row of the agent is known to lead on, through a lone hop, to a name beside the buffer: in a slot of its
+/// first or last address.
+fn shows_beside<Q: Quest>(
+    alloc: Global,
+    quest: &Q,
+    hop: Hop,
+    row: &Row,
+    v: u64,
+) -> Result<bool, OutOfMemory>
+    requires consistent { Q.is_consistent quest.now }
+    requires ready { IsSearchReady (Q.sought quest.now) }
+    requires addressed { IsAddressed (Q.sought quest.now) (hop ∷ []) v }
+    requires row { GivesStops (Q.sought quest.now).net (Q.sought quest.now).request.agent row.now }
+    requires inside { InRow row.now (wanted_name (Q.sought quest.now).request (hop ∷ []))
+        (Q.sought quest.now).request.size v }
+    ensures { IfOk result (λ more. IsTrue more → NoneUnder (Q.sought quest.now)
+        (to_address 1 (hop ∷ []) v)) }
+{
+    let Some(translator) = unit_of(quest, hop.unit) else {
+        return Ok(false);
+    };
+    let Some(node) = port_of(translator, hop.port) else {
+        return Ok(false);
+    };
+    let page = power(translator.page);
+    let size = quest.request().size;
+    let back = size - 1;
+    let last = hop.y + back;
+    let rest = page - 1 - (hop.x + back) % page;
+    let more = rest.min(row.span.hi - (v + back));
+    if shows_some(quest, alloc, node, last + 1, last + more)? {
+        return Ok(true);
+    }
+    let fewer = (hop.x % page).min(v - row.span.lo);
+    if fewer == 0 {
+        return Ok(false);
+    }
+    shows_some(quest, alloc, node, hop.y - fewer, hop.y - 1)
+}
+
+/// The node of a port of a unit, if it has the port.
+fn port_of(translator: &Unit, port: u8) -> Option<u16>
+    ensures { result ≡ slice_get translator.now.ports port }
+{
+    translator.ports.as_slice().get(usize::from(port)).copied()
 }
 
 /// Whether the address is the one that is asked for, if one is.

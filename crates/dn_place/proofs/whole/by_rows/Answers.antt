@@ -4,6 +4,7 @@ use Rattle.dn_placement.specs.Order.{IsAt}
 use Rattle.dn_place.specs.Hops.{hops_view}
 use Rattle.dn_place.specs.Rows.{wanted_name}
 use Rattle.dn_place.specs.Candidates.{key_of_hops}
+use Rattle.dn_place.proofs.Beside.{row_stops}
 use Rattle.dn_place.proofs.Walks.{set_out}
 use Rattle.dn_place.proofs.Agents.{agent_stretches, agent_goes, clear_of, not_asked, row_asked, step, step_found, step_done, step_meets, only_there, row_fits}
 use Rattle.dn_place.proofs.whole.by_rows.Goals as goal
@@ -12,8 +13,8 @@ use Rattle.dn_place.proofs.whole.by_rows.Goals.{in-Some+then-is_at+in_ok-placeme
 pub rows-init : goal.rows-init
 rows-init g c = set_out _ _ _ c.requires.toward.apart
 
-pub by_address-requires-clause-addressed : goal.by_address-requires-clause-addressed
-by_address-requires-clause-addressed g c =
+pub by_row-requires-clause-addressed : goal.by_row-requires-clause-addressed
+by_row-requires-clause-addressed g c =
     let hops = hops_view c.args.hops in
     let front = key_of_hops (length hops) hops in
     let here = (row_asked (g.Q.Quest.sought c.args.quest.now) hops c.row-item.result c.wanted_name-target.result c.request.result c.request-size.result c.in-Some.v c.wanted_name-target.ensures c.request.ensures c.request-size.ensures).0 c.in-Some.ensures.some in
@@ -24,6 +25,12 @@ by_address-requires-clause-addressed g c =
       at = subst (λ o. IsAt o c.in-Some.v) c.at.ensures (c.is_at.ensures.0 c.if-is_at.true);
       meets = step_meets (g.Q.Quest.sought c.args.quest.now) front (g.Q.Quest.sought c.args.quest.now).request.agent hops c.args.rows.now c.rows.row-index c.row-item.result c.in-Some.v c.requires.toward (row_fits _ _ _ _ here) c.rows-test.true c.row-item.is c.rows.invariant here (clear_of (g.Q.Quest.sought c.args.quest.now) (g.Q.Quest.sought c.args.quest.now).request.agent hops c.in-Some.v (g.Q.Quest.sought c.args.quest.now).request.size c.requires.some);
     }
+
+pub by_row-requires-clause-row : goal.by_row-requires-clause-row
+by_row-requires-clause-row g c = row_stops (g.Q.Quest.sought c.args.quest.now) (hops_view c.args.hops) c.args.rows.now c.rows.row-index c.row-item.result c.requires.some c.rows-test.true c.row-item.is c.requires.toward
+
+pub by_row-requires-clause-inside : goal.by_row-requires-clause-inside
+by_row-requires-clause-inside g c = (row_asked (g.Q.Quest.sought c.args.quest.now) (hops_view c.args.hops) c.row-item.result c.wanted_name-target.result c.request.result c.request-size.result c.in-Some.v c.wanted_name-target.ensures c.request.ensures c.request-size.ensures).0 c.in-Some.ensures.some
 
 pub returns-in-Some-2 : goal.returns-in-Some-2
 returns-in-Some-2 g c =
