@@ -1,6 +1,6 @@
 -- From what grants, routes and revokes say to the turns of a script.
 use Rattle.std.specs.Option.{IfSome, option_map}
-use Rattle.std.proofs.Common.{◌≡◌, ◌≢◌, ◌∙◌, ap, sym, subst, refl, arith, ℕ, ◌<◌, ◌⊎◌, inl, inr, Bool, true, false, List, [], ◌∷◌, take, length, Option, Some, None, Result, Ok, Err, is_ok, OnOk, ◌==◌, ◌||◌, eqb-true}
+use Rattle.std.proofs.Common.{◌≡◌, ◌≢◌, ◌∙◌, ap, sym, subst, refl, arith, ℕ, ◌<◌, ◌⊎◌, inl, inr, Bool, true, false, List, [], ◌∷◌, take, length, Option, IsSome, Some, None, Result, Ok, Err, is_ok, OnOk, ◌==◌, ◌||◌, eqb-true}
 use Rattle.std.proofs.Math.Seq.{take-length}
 use Rattle.dn_base.specs.declared.device.TableEvent.{TableEvent}
 use Rattle.dn_base.specs.Device.{Logged}
@@ -117,6 +117,20 @@ pub grant_stopped : (kinds : List Meaning) (net : List NodeDecl) (s next : State
 grant_stopped kinds net s next id rq r log log' words' e logged =
     stopped_inside (IsGrantTurn kinds net s id rq) (turn_with_grant net kinds s id (grant_of_request (id_number s.ids id) rq logged.place) (granted_text id logged.place.v)) r next log log' e (inl (record { place = logged.place; placed = logged.placed; is_turn = refl })) logged.added
 
+-- the turn of a refusal, whose reply is this text
+refused_turn : (P : Turn → Type 0) (s next : State) (id own text : List ℕ) (log log' : Option (List TableEvent)) → P (reply_turn own (state_with_id s id)) → text ≡ own → log' ≡ log → state_with_id s id ≡ next → IsChanged P next text log log'
+refused_turn P s next id own text log log' turn is same left = record {
+  turn = reply_turn own (state_with_id s id);
+  is_turn = turn;
+  logged = Logged-none log log' same;
+  replied = sym is;
+  left = left;
+}
+
+-- faults that differ are answers that differ
+pub err_differs : {A E : Type 0} (e f : E) → e ≢ f → ◌≢◌ {A = Result A E} (Err e) (Err f)
+err_differs e f other same = other (cc)
+
 -- a fault that comes neither of the device nor of want of memory says a refusal
 pub grant_said : (fault : GrantFault) → fault ≢ grant_fault.Device → fault ≢ grant_fault.OutOfMemory → (why : GrantRefusal) × (grant_fault_view fault ≡ Some why)
 grant_said grant_fault.IdUsed d m = (grant_refusal.id_used, refl)
@@ -128,20 +142,17 @@ grant_said grant_fault.NoPlacement d m = (grant_refusal.no_placement, refl)
 grant_said grant_fault.Device d m = absurd (d refl)
 grant_said grant_fault.OutOfMemory d m = absurd (m refl)
 
--- a grant is refused as its fault says
-pub grant_refused_so : (net : List NodeDecl) (book next : List Grant) (n : ℕ) (rq : Request) (fault : GrantFault) (why : GrantRefusal) → grant_fault_view fault ≡ Some why → IsGrantOutcome net book n rq (grant_answer_view (Err fault)) next → IsGrantRefused net book n rq why
-grant_refused_so net book next n rq fault why said outcome =
-    (subst (λ (o : Option GrantRefusal). IsGrantOutcome net book n rq (option_map (λ w. Err w) o) next) said outcome).0
+-- the fault says a refusal
+pub grant_told : (fault : GrantFault) → fault ≢ grant_fault.Device → fault ≢ grant_fault.OutOfMemory → IsSome (grant_fault_view fault)
+grant_told fault d m = subst (λ (o : Option GrantRefusal). IsSome o) (sym (grant_said fault d m).1) refl
 
--- a grant that was refused
-pub not_granted_turn : (kinds : List Meaning) (net : List NodeDecl) (s next : State) (id : List ℕ) (rq : Request) (why : GrantRefusal) (log log' : Option (List TableEvent)) → IsGrantRefused net s.book (id_number s.ids id) rq why → log' ≡ log → state_with_id s id ≡ next → IsChanged (IsGrantTurn kinds net s id rq) next (grant_refused_text id why) log log'
-not_granted_turn kinds net s next id rq why log log' refused same left = record {
-  turn = reply_turn (grant_refused_text id why) (state_with_id s id);
-  is_turn = inr (record { why = why; refused = refused; is_turn = refl });
-  logged = Logged-none log log' same;
-  replied = refl;
-  left = left;
-}
+-- a grant that was refused, under the number of its id, as its fault says
+pub not_granted_turn : (kinds : List Meaning) (net : List NodeDecl) (s next : State) (id : List ℕ) (rq : Request) (n : ℕ) (fault : GrantFault) (book : List Grant) (text : List ℕ) (log log' : Option (List TableEvent)) → fault ≢ grant_fault.Device → fault ≢ grant_fault.OutOfMemory → n ≡ id_number s.ids id → IsGrantOutcome net s.book n rq (grant_answer_view (Err fault)) book → IfSome (grant_fault_view fault) (λ why. text ≡ grant_refused_text id why) → log' ≡ log → state_with_id s id ≡ next → IsChanged (IsGrantTurn kinds net s id rq) next text log log'
+not_granted_turn kinds net s next id rq n fault book text log log' d m number outcome told same left =
+    let said = grant_said fault d m in
+    let refused : IsGrantRefused net s.book n rq said.0 = (subst (λ (o : Option GrantRefusal). IsGrantOutcome net s.book n rq (option_map (λ w. Err w) o) book) said.1 outcome).0 in
+    let is : text ≡ grant_refused_text id said.0 = subst (λ (o : Option GrantRefusal). IfSome o (λ why. text ≡ grant_refused_text id why)) said.1 told in
+    refused_turn (IsGrantTurn kinds net s id rq) s next id (grant_refused_text id said.0) text log log' (inr (record { why = said.0; refused = subst (λ k. IsGrantRefused net s.book k rq said.0) number refused; is_turn = refl })) is same left
 
 -- routes
 
@@ -193,20 +204,17 @@ route_said route_fault.NoPlacement d m = (route_refusal.no_placement, refl)
 route_said route_fault.Device d m = absurd (d refl)
 route_said route_fault.OutOfMemory d m = absurd (m refl)
 
--- a route is refused as its fault says
-pub route_refused_so : (net : List NodeDecl) (book next : List Grant) (n agent line node : ℕ) (fault : RouteFault) (why : RouteRefusal) → route_fault_view fault ≡ Some why → IsRouteOutcome net book n agent line node (route_answer_view (Err fault)) next → IsRouteRefused net book n agent line node why
-route_refused_so net book next n agent line node fault why said outcome =
-    (subst (λ (o : Option RouteRefusal). IsRouteOutcome net book n agent line node (option_map (λ w. Err w) o) next) said outcome).0
+-- the fault says a refusal
+pub route_told : (fault : RouteFault) → fault ≢ route_fault.Device → fault ≢ route_fault.OutOfMemory → IsSome (route_fault_view fault)
+route_told fault d m = subst (λ (o : Option RouteRefusal). IsSome o) (sym (route_said fault d m).1) refl
 
--- a route that was refused
-pub not_routed_turn : (kinds : List Meaning) (net : List NodeDecl) (s next : State) (id : List ℕ) (agent line node : ℕ) (why : RouteRefusal) (log log' : Option (List TableEvent)) → IsRouteRefused net s.book (id_number s.ids id) agent line node why → log' ≡ log → state_with_id s id ≡ next → IsChanged (IsRouteTurn kinds net s id agent line node) next (route_refused_text id why) log log'
-not_routed_turn kinds net s next id agent line node why log log' refused same left = record {
-  turn = reply_turn (route_refused_text id why) (state_with_id s id);
-  is_turn = inr (record { why = why; refused = refused; is_turn = refl });
-  logged = Logged-none log log' same;
-  replied = refl;
-  left = left;
-}
+-- a route that was refused, under the number of its id, as its fault says
+pub not_routed_turn : (kinds : List Meaning) (net : List NodeDecl) (s next : State) (id : List ℕ) (agent line node : ℕ) (n : ℕ) (fault : RouteFault) (book : List Grant) (text : List ℕ) (log log' : Option (List TableEvent)) → fault ≢ route_fault.Device → fault ≢ route_fault.OutOfMemory → n ≡ id_number s.ids id → IsRouteOutcome net s.book n agent line node (route_answer_view (Err fault)) book → IfSome (route_fault_view fault) (λ why. text ≡ route_refused_text id why) → log' ≡ log → state_with_id s id ≡ next → IsChanged (IsRouteTurn kinds net s id agent line node) next text log log'
+not_routed_turn kinds net s next id agent line node n fault book text log log' d m number outcome told same left =
+    let said = route_said fault d m in
+    let refused : IsRouteRefused net s.book n agent line node said.0 = (subst (λ (o : Option RouteRefusal). IsRouteOutcome net s.book n agent line node (option_map (λ w. Err w) o) book) said.1 outcome).0 in
+    let is : text ≡ route_refused_text id said.0 = subst (λ (o : Option RouteRefusal). IfSome o (λ why. text ≡ route_refused_text id why)) said.1 told in
+    refused_turn (IsRouteTurn kinds net s id agent line node) s next id (route_refused_text id said.0) text log log' (inr (record { why = said.0; refused = subst (λ k. IsRouteRefused net s.book k agent line node said.0) number refused; is_turn = refl })) is same left
 
 -- revokes
 
@@ -238,14 +246,8 @@ revoke_stopped kinds net s next id r log log' e has added =
     stopped_inside (IsRevokeTurn kinds net s id) (record { events = revoke_events net kinds s.book g.0; reply = revoked_text id; next = record { book = without_id (id_number s.ids id) s.book; cleared = true; ids = with_id s.ids id } }) r next log log' e (inl (record { grant = g.0; lives = g.1; has = g.2; is_turn = refl })) (added g.0 g.1 g.2)
 
 -- a revoke that was refused
-pub not_revoked_turn : (kinds : List Meaning) (net : List NodeDecl) (s next : State) (id : List ℕ) (log log' : Option (List TableEvent)) → has_id (id_number s.ids id) s.book ≡ false → log' ≡ log → state_with_id s id ≡ next → IsChanged (IsRevokeTurn kinds net s id) next (revoke_refused_text id) log log'
-not_revoked_turn kinds net s next id log log' none same left = record {
-  turn = reply_turn (revoke_refused_text id) (state_with_id s id);
-  is_turn = inr (record { none = none; is_turn = refl });
-  logged = Logged-none log log' same;
-  replied = refl;
-  left = left;
-}
+pub not_revoked_turn : (kinds : List Meaning) (net : List NodeDecl) (s next : State) (id text : List ℕ) (log log' : Option (List TableEvent)) → has_id (id_number s.ids id) s.book ≡ false → text ≡ revoke_refused_text id → log' ≡ log → state_with_id s id ≡ next → IsChanged (IsRevokeTurn kinds net s id) next text log log'
+not_revoked_turn kinds net s next id text log log' none is same left = refused_turn (IsRevokeTurn kinds net s id) s next id (revoke_refused_text id) text log log' (inr (record { none = none; is_turn = refl })) is same left
 
 -- replies
 

@@ -5,10 +5,13 @@ use Rattle.dn_base.specs.declared.device.TableEvent.{TableEvent}
 use Rattle.dn_base.specs.declared.device.UnitWords.{UnitWords}
 use Rattle.dn_base.specs.Device.{UnitSize}
 use Rattle.dn_base.specs.Outside.{Faults, IsCounted}
+use Rattle.dn_base.proofs.Counts.{counted_none}
 use Rattle.dn_base.proofs.Told.{if_some_then}
 use Rattle.dn_net.specs.declared.node.NodeDecl.{NodeDecl}
 use Rattle.dn_net.specs.Chain.{Member}
 use Rattle.dn_kind.specs.Kind.{Meaning}
+use Rattle.dn_kind.specs.Kinded.{kinds_of}
+use Rattle.dn_flat.specs.Levels.{AreFlats, FlatsView}
 use Rattle.dn_tables.specs.declared.table.NodeTable.{NodeTable}
 use Rattle.dn_tables.specs.Set.{FitsNet, IsOnDevice, device_tables, tables_of_set, words_of}
 use Rattle.dn_tables.proofs.Devices.{device_told}
@@ -16,6 +19,7 @@ use Rattle.dn_placement.specs.declared.request.Request.{Request}
 use Rattle.dn_book.specs.declared.grant.Grant.{Grant as GrantPart}
 use Rattle.dn_book.specs.Between.{IsCaught}
 use Rattle.dn_book.specs.Book.{has_id, without_id}
+use Rattle.dn_book.specs.State.{BookState}
 use Rattle.dn_book.specs.Tables.{IsKept, tables_of}
 use Rattle.dn_book.specs.Writes.{revoke_events}
 use Rattle.dn_grant.specs.Grant.{IsGrantLogged, grant_of_request}
@@ -23,14 +27,15 @@ use Rattle.dn_vector.specs.Route.{IsRouteLogged, grant_of_route}
 use Rattle.dn_tool.specs.declared.halt.RunHalt.{RunHalt}
 use Rattle.dn_tool.specs.declared.halt.RunHalt.TheVariants.{DeviceFault, NoMemory}
 use Rattle.dn_tool.specs.Changed.{granted_text, revoked_text, routed_text}
-use Rattle.dn_tool.specs.Halt.{is_device_halt}
+use Rattle.dn_tool.specs.Halt.{HaltsByDevice, is_device_halt}
 use Rattle.dn_tool.specs.Ids.{id_number, with_id}
 use Rattle.dn_tool.specs.declared.machine.Machine.{Machine}
 use Rattle.dn_tool.specs.declared.state.Session.{Session as Kept}
-use Rattle.dn_tool.specs.State.{CameThroughChange, IsChangeDone, IsChanged, IsReadyOn, state_view}
+use Rattle.dn_tool.specs.Machine.{IsMachine}
+use Rattle.dn_tool.specs.State.{CameThroughChange, IsChangeDone, IsChanged, IsReadyOn, IsState, state_view}
 use Rattle.dn_tool.specs.Stopped.{AreCaught, IsStopped}
-use Rattle.dn_tool.specs.Turn.{IsGrantTurn, IsRevokeTurn, IsRouteTurn, State, Turn, turn_with_grant}
-use Rattle.dn_tool.proofs.Changes.{lives}
+use Rattle.dn_tool.specs.Turn.{IsGrantTurn, IsRevokeTurn, IsRouteTurn, State, Turn, state_with_id, turn_with_grant}
+use Rattle.dn_tool.proofs.Changes.{halted_after, lives, state_named, state_same}
 
 -- the words that a device tells are the tables of the book
 pub words_told : (kinds : List Meaning) (net : List NodeDecl) (book : List GrantPart) (set : List NodeTable) (sizes : List UnitSize) (told : Option (List UnitWords)) → IsKept net kinds book set → IsOnDevice set sizes told → IfSome told (λ tables. tables ≡ device_tables 0 net (tables_of net kinds book))
@@ -87,14 +92,36 @@ done_said means m P reply text k k' log log' units words x y is changed ready co
 }
 
 -- a change that was made, and for whose reply there was no memory
-pub done_unsaid : {K : Type 0} {V : K → Type 0} (means : (k : K) × V k → Meaning) (m : Machine K V) (P : Turn → Type 0) (r : Result (List ℕ) RunHalt) (k k' : Kept) (log log' : Option (List TableEvent)) (units : List UnitSize) (words : Option (List UnitWords)) (x y : Faults) → r ≡ Err NoMemory → CameThroughChange P r (state_view k') log log' → IsCounted x y false → IsChangeDone means m P r k k' log log' units words x y
-done_unsaid means m P r k k' log log' units words x y e changed counted =
+pub done_unsaid : {K : Type 0} {V : K → Type 0} (means : (k : K) × V k → Meaning) (m : Machine K V) (P : Turn → Type 0) (r : Result (List ℕ) RunHalt) (reply : List ℕ) (k k' : Kept) (log log' : Option (List TableEvent)) (units : List UnitSize) (words : Option (List UnitWords)) (x y : Faults) → r ≡ Err NoMemory → IsChanged P (state_view k') reply log log' → IsCounted x y false → IsChangeDone means m P r k k' log log' units words x y
+done_unsaid means m P r reply k k' log log' units words x y e changed counted =
     subst (λ (q : Result (List ℕ) RunHalt). IsChangeDone means m P q k k' log log' units words x y) (sym e) (record {
-      changed = subst (λ (q : Result (List ℕ) RunHalt). CameThroughChange P q (state_view k') log log') e changed;
+      changed = halted_after P (Err NoMemory) (state_view k') (state_view k') reply log log' refl changed;
       caught = λ f. cc;
       ready = tt;
       halted = record { no_write = refl; counted = counted };
     })
+
+-- a change at which the device failed
+pub done_stopped : {K : Type 0} {V : K → Type 0} (means : (k : K) × V k → Meaning) (m : Machine K V) (P : Turn → Type 0) (k k' : Kept) (log log' : Option (List TableEvent)) (units : List UnitSize) (words : Option (List UnitWords)) (x y : Faults) → CameThroughChange P (Err DeviceFault) (state_view k') log log' → IsStopped (kinds_of means m.on.kinds.now) m.on.net.now k.book.grants P words → HaltsByDevice {A = List ℕ} (Err DeviceFault) x y → IsChangeDone means m P (Err DeviceFault) k k' log log' units words x y
+done_stopped means m P k k' log log' units words x y changed caught halted = record {
+  changed = changed;
+  caught = λ _. caught;
+  ready = tt;
+  halted = halted;
+}
+
+-- what is kept where a change was refused: its id has a number, and what the nodes reach may be kept
+abbrev pub refused_state : Kept → BookState → List (List ℕ) → Option FlatsView → Kept
+refused_state k book ids flats = record { book = book; ids = ids; image = k.image; first = k.first; flats = flats; unmade = k.unmade }
+
+-- a change that was refused: the book and the device are as they were
+pub done_refused : {K : Type 0} {V : K → Type 0} (means : (k : K) × V k → Meaning) (m : Machine K V) (P : Turn → Type 0) (text : List ℕ) (k : Kept) (book : BookState) (ids : List (List ℕ)) (flats : Option FlatsView) (id : List ℕ) (log log' : Option (List TableEvent)) (units : List UnitSize) (words : Option (List UnitWords)) (x y : Faults) → IsMachine means m → IsState (kinds_of means m.on.kinds.now) m.on.net.now k → book ≡ k.book → ids ≡ with_id k.ids id → IfSome flats (AreFlats m.on.net.now) → IsOnDevice book.set units words → y ≡ x → (state_with_id (state_view k) id ≡ state_view (refused_state k book ids flats) → IsChanged P (state_view (refused_state k book ids flats)) text log log') → IsChangeDone means m P (Ok text) k (refused_state k book ids flats) log log' units words x y
+done_refused means m P text k book ids flats id log log' units words x y machine state same named reach on unfailed changed =
+    let after : Kept = refused_state k book ids flats in
+    done_said means m P text text k after log log' units words x y refl
+    (changed (state_named after (state_view k) id k.book same refl refl named))
+    (record { machine = machine; state = state_same (kinds_of means m.on.kinds.now) m.on.net.now k after state same refl state.first reach state.unmade; on_device = on })
+    (subst (λ f. IsCounted x f false) (sym unfailed) (counted_none x))
 
 -- where no call of the device failed there is no such fault
 pub not_stopped : {X : Type 0} (r : Result X RunHalt) (Q : Type 0) → is_device_halt r ≡ false → r ≡ Err DeviceFault → Q
