@@ -1,25 +1,33 @@
 -- A run that ended before there was an answer.
-use Rattle.std.proofs.Common.{◌≡◌, ◌≢◌, ◌∙◌, ◌==◌, sym, subst, cond, refl, arith, ℕ, Bool, true, false, not, inr, List, [], Option, Some, None, Ok, Err}
+use Rattle.std.proofs.Common.{◌≡◌, ◌≢◌, ◌∙◌, ◌==◌, sym, subst, cond, refl, arith, ℕ, Bool, true, false, not, inr, List, [], Option, Some, None, Ok, Err, is_ok, Result}
 use Rattle.std.specs.List.{All}
+use Rattle.dn_base.specs.declared.device.DeviceOrMemory.{DeviceOrMemory}
 use Rattle.dn_base.specs.declared.device.TableEvent.{TableEvent}
 use Rattle.dn_base.specs.declared.device.UnitWords.{UnitWords}
+use Rattle.dn_base.specs.Device.{UnitSize, is_device_fault}
 use Rattle.dn_base.specs.Outside.{IsWritten}
 use Rattle.dn_base.proofs.Logs.{Logged-none}
 use Rattle.dn_base.proofs.Told.{Added-none, written_none}
 use Rattle.dn_net.specs.declared.node.NodeDecl.{NodeDecl}
 use Rattle.dn_kind.specs.Kind.{IsLawful, Meaning}
 use Rattle.dn_kind.specs.Units.{IsLegalWith}
+use Rattle.dn_tables.specs.Set.{fresh_set, tables_of_set}
+use Rattle.dn_tables.specs.Writes.{AreUnitsMade}
 use Rattle.dn_module.specs.Expand.{Expansion}
 use Rattle.dn_module.specs.declared.command.Command.{Command}
 use Rattle.dn_words.specs.declared.words.Task.{Task}
 use Rattle.dn_words.specs.declared.words.Task.TheVariants.{Run, Check, Audit, Demo}
 use Rattle.dn_words.specs.Words.{task_of}
-use Rattle.dn_tool.specs.Answer.{Answer, IsAnswered, answer, asked_answer, bytes_answer, compiled_answer, played, said, shown, task_answer, task_bytes, text_answer, too_long_line}
+use Rattle.dn_tool.specs.Answer.{Answer, IsAnswered, answer, asked_answer, bytes_answer, commands_answer, compiled_answer, played, said, shown, task_answer, task_bytes, text_answer, too_long_line}
 use Rattle.dn_tool.specs.Compiled.{Compilation, compilation, with_refusal}
-use Rattle.dn_tool.specs.Halt.{is_free_status}
+use Rattle.dn_tool.specs.declared.halt.RunHalt.{RunHalt}
+use Rattle.dn_tool.specs.Halt.{ending_status, is_free_status, make_halt}
 use Rattle.dn_tool.specs.Input.{Parts, is_too_long, parts_of}
 use Rattle.dn_tool.specs.Played.{IsPlayed}
+use Rattle.dn_tool.proofs.Demos.{shown_unmade}
 use Rattle.dn_tool.proofs.Inputs.{is_shown}
+use Rattle.dn_tool.proofs.Kept.{IsLawfulNet}
+use Rattle.dn_tool.proofs.Played.{unmade_by}
 use Rattle.dn_tool.proofs.Reread.{compiled_is_legal}
 use Rattle.dn_tool.proofs.Scripts.{added_given}
 
@@ -106,3 +114,8 @@ unanswered kinds (shown agents net commands) status b d log log' told' lawful le
   why = inr (only refl);
   unwritten = same;
 })
+
+-- not all units were made
+pub unmade_answer : {X : Type 0} (kinds : List Meaning) (net : List NodeDecl) (agents : Option ℕ) (commands : List Command) (r : Result X DeviceOrMemory) (fault : DeviceOrMemory) (ended : Result ℕ RunHalt) (told : Option (List ℕ)) (log log' : Option (List TableEvent)) (sizes : List UnitSize) (words words' : Option (List UnitWords)) → IsLawfulNet kinds net → r ≡ Err fault → ended ≡ Err (make_halt fault) → AreUnitsMade (tables_of_set (fresh_set kinds net)) (is_ok r) (is_device_fault r) log log' sizes words words' → IsAnswered kinds (commands_answer agents net commands) (ending_status ended) told told log log' words'
+unmade_answer kinds net None commands r fault ended told log log' sizes words words' known is by made = unmade_by kinds net commands r fault ended told told log log' sizes words words' known is by refl made
+unmade_answer kinds net (Some agents) commands r fault ended told log log' sizes words words' known is by made = shown_unmade kinds net agents commands r fault ended told log log' sizes words words' known is by made

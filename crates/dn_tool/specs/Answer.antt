@@ -64,14 +64,19 @@ reads words = some_task_reads (task_of words)
 abbrev pub IsInput : List (List ℕ) → Option (List ℕ) → List ℕ → Type 0
 IsInput words left bytes = reads words ≡ true → left ≡ Some bytes
 
+-- commands that are answered, or gone through for a demonstration with so many agents
+abbrev pub commands_answer : Option ℕ → List NodeDecl → List Command → Answer
+commands_answer None net commands = played net commands
+commands_answer (Some agents) net commands = shown agents net commands
+
 -- `run` answers the commands, `check` prints the net, `audit` says what agents see under the image, and
 -- `demo N` goes through the commands
 abbrev pub task_answer : Task → List Meaning → Option (List ℕ) → List NodeDecl → List Command → Answer
-task_answer Run kinds image net commands = played net commands
+task_answer Run kinds image net commands = commands_answer None net commands
 task_answer Check kinds image net commands = said 0 (net_text kinds net)
 task_answer Audit kinds image net commands =
     said (image_answer kinds net image).status (image_answer kinds net image).output
-task_answer (Demo agents) kinds image net commands = shown agents net commands
+task_answer (Demo agents) kinds image net commands = commands_answer (Some agents) net commands
 
 -- the answer to what a text comes to: the line of its refusal, or what the task makes of it
 abbrev pub compiled_answer : Task → List Meaning → Option (List ℕ) → Result Expansion Refused → Answer

@@ -35,27 +35,30 @@ asked_text target a m found =
 abbrev pub names_under : List NodeDecl → List Grant → Access → Name → List Name
 names_under net book access x = resolved_names_under net (allowing access (records_of net book)) x
 
--- the names to which an address of a node resolves for an access under the records of a book, where
--- there is such a node
-abbrev pub resolved_text : List NodeDecl → List Grant → Access → Option ℕ → ℕ → List ℕ
-resolved_text net book access None a = codes "no such node"
-resolved_text net book access (Some n) a =
+-- the names to which an address of a node resolves for an access under the records of a book, or this
+-- text where there is no such node
+abbrev pub found_text : List ℕ → List NodeDecl → List Grant → Access → Option ℕ → ℕ → List ℕ
+found_text none net book access None a = none
+found_text none net book access (Some n) a =
     names_text net (names_under net book access (record { node = n; addr = a }))
 
 -- the reply to `resolve`
 abbrev pub resolve_text : List NodeDecl → List Grant → Target → ℕ → Mode → List ℕ
 resolve_text net book target a m =
-    asked_text target a m (resolved_text net book (access_of m) target.node a)
+    asked_text target a m (found_text (codes "no such node") net book (access_of m) target.node a)
+
+-- a node, where it is an agent
+abbrev pub agent_of : List NodeDecl → Option ℕ → Option ℕ
+agent_of net None = None
+agent_of net (Some n) = if is_agent_at (slice_get net n) then Some n else None
 
 -- the names that a book owes to an address of an agent for an access, where there is such an agent
 abbrev pub owed_text : List NodeDecl → List Grant → Access → Option ℕ → ℕ → List ℕ
 owed_text net book access None a = codes "no such agent"
 owed_text net book access (Some n) a =
-    if is_agent_at (slice_get net n)
-    then names_text net (owed_names net book access (record { node = n; addr = a }))
-    else codes "no such agent"
+    names_text net (owed_names net book access (record { node = n; addr = a }))
 
 -- the reply to `lookup`
 abbrev pub lookup_text : List NodeDecl → List Grant → Target → ℕ → Mode → List ℕ
 lookup_text net book target a m =
-    asked_text target a m (owed_text net book (access_of m) target.node a)
+    asked_text target a m (owed_text net book (access_of m) (agent_of net target.node) a)

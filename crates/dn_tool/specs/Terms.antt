@@ -1,12 +1,12 @@
 -- The words of the crate that clauses cite, from one place.
-pub use Rattle.dn_tool.specs.Answer.{IsAnswered, IsInput, IsOutcome, IsSaid, answer, bytes_answer, demo_answer, is_script, reads, task_answer, text_answer, usage}
+pub use Rattle.dn_tool.specs.Answer.{IsAnswered, IsInput, IsOutcome, IsSaid, answer, bytes_answer, commands_answer, demo_answer, is_script, reads, task_answer, text_answer, usage}
 pub use Rattle.dn_tool.specs.Audited.{audit_answer, broken_line, image_answer}
 pub use Rattle.dn_tool.specs.Books.{BooksStayFaithful, FaithfulImageGivesOwed}
 pub use Rattle.dn_tool.specs.Changed.{grant_refused_text, granted_text, refused_text, revoked_text, route_refused_text, routed_text}
 pub use Rattle.dn_tool.specs.Compiled.{IsLegal, compilation, compile_fault_view, expansion_compilation, fault, platform_view, with_refusal}
 pub use Rattle.dn_tool.specs.Demo.{IsShown, IsShownOn, agent_rows, has_granted, has_revoked, held_records, held_slots, sum_below, summary_with}
 pub use Rattle.dn_tool.specs.Flown.{LookupsAreGiven}
-pub use Rattle.dn_tool.specs.Found.{access_of, access_text, asked_text, lookup_text, names_under, resolve_text}
+pub use Rattle.dn_tool.specs.Found.{access_of, access_text, agent_of, asked_text, found_text, names_under}
 pub use Rattle.dn_tool.specs.Halt.{HaltsByDevice, HaltsByEither, HaltsBySink, Writes, ending_status, is_free_status, make_halt}
 pub use Rattle.dn_tool.specs.Ids.{id_number, with_id}
 pub use Rattle.dn_tool.specs.Input.{is_too_long, limit_for, parts_of, parts_view}

@@ -5,7 +5,6 @@ ghost use Rattle.std.specs.Option.{option_copied};
 ghost use Rattle.std.specs.String.{string_bytes};
 ghost use Rattle.dn_kind.specs.Terms.{kinds_of};
 ghost use Rattle.dn_image.specs.Terms.{image_fault_view};
-ghost use Rattle.dn_view.specs.Terms.{IsSystem};
 ghost use Rattle.dn_audit.specs.Terms.{audit_reading, audit_text, is_within_nodes, report_told};
 ghost use Rattle.dn_tool.specs.Terms.{HaltsBySink, IsMachine, IsOutcome, IsSaid, audit_answer, broken_line, ending_status, image_answer};
 
@@ -67,25 +66,8 @@ fn audit_image<K: Sink>(
         on: machine.on,
         flats: &flats,
     };
-    answer_system(alloc, system, image, sink)
-}
-
-/// The same, where what the nodes of the net reach is known.
-fn answer_system<K: Sink>(
-    alloc: Global,
-    system: System,
-    image: &[u8],
-    sink: &mut K,
-) -> Result<u8, RunHalt>
-    requires system { IsSystem meaning system }
-    ensures said { IsOutcome (audit_answer system.entry.on.net.now (audit_reading
-        system.entry.on.net.now (kinds_of meaning system.entry.on.kinds.now) image.now))
-        (ending_status result) (K.written sink.old) (K.written sink.new) }
-    ensures which { IfOk result (λ s. (s ≡ 0) ⊎ (s ≡ 4)) }
-    ensures halted { HaltsBySink result (K.faults sink.old) (K.faults sink.new) }
-{
     match audit(alloc, system, image) {
-        Ok(report) => say_report(alloc, system.on.net, &report, sink),
+        Ok(report) => say_report(alloc, machine.on.net, &report, sink),
         Err(AuditFault::Image(fault)) => refuse_image(alloc, fault, sink),
         Err(AuditFault::OutOfMemory) => Err(RunHalt::NoMemory),
     }

@@ -6,7 +6,7 @@ ghost use Rattle.dn_kind.specs.Terms.{kinds_of, record_held};
 ghost use Rattle.dn_flat.specs.Terms.{AreFlats};
 ghost use Rattle.dn_tables.specs.Terms.{FitsNet, words_of};
 ghost use Rattle.dn_demo.specs.Terms.{summary_text};
-ghost use Rattle.dn_tool.specs.Terms.{CameThrough, HaltsByDevice, HaltsByEither, HaltsBySink, IsMachine, IsReady, IsReadyOn, IsShown, IsShownOn, IsStopped, IsTurn, Writes, agent_rows, ending_status, has_granted, has_revoked, held_records, held_slots, is_change, start, state_view, sum_below, summary_with};
+ghost use Rattle.dn_tool.specs.Terms.{CameThrough, HaltsByDevice, HaltsByEither, HaltsBySink, IsMachine, IsReady, IsReadyOn, IsShownOn, IsStopped, IsTurn, Writes, agent_rows, ending_status, has_granted, has_revoked, held_records, held_slots, is_change, start, state_view, sum_below, summary_with};
 
 use crate::OutOfMemory;
 use crate::change::change;
@@ -36,32 +36,9 @@ struct Tally {
     revoked: u64,
 }
 
-/// Makes the units, does each command in order, and then writes the line that sums up what came of
-/// them. The status is `DONE`.
-pub(crate) fn run_demo<K: Sink, D: Tables>(
-    alloc: Global,
-    machine: Machine,
-    agents: u8,
-    commands: &Commands,
-    sink: &mut K,
-    device: &mut D,
-) -> Result<u8, RunHalt>
-    requires machine { IsMachine meaning machine }
-    requires none { D.units device.old ≡ [] }
-    ensures shown { IsShown (kinds_of meaning machine.entry.on.kinds.now)
-        machine.entry.on.net.now agents commands.now (ending_status result) (K.written sink.old)
-        (K.written sink.new) (D.log device.old) (D.log device.new) (D.words device.new) }
-    ensures done { IfOk result (λ status. status ≡ 0) }
-    ensures halted { HaltsByEither result (K.faults sink.old) (K.faults sink.new)
-        (D.faults device.old) (D.faults device.new) }
-{
-    let mut state = Session::make(alloc, machine, device)?;
-    play_all(alloc, machine, agents, &mut state, commands, sink, device)
-}
-
 /// Does each command in order, over units that were made, and then writes the line that sums up what
 /// came of them. The status is `DONE`.
-fn play_all<K: Sink, D: Tables>(
+pub(crate) fn play_all<K: Sink, D: Tables>(
     alloc: Global,
     machine: Machine,
     agents: u8,

@@ -9,9 +9,8 @@ ghost use Rattle.dn_flat.specs.Terms.{AreFlats};
 ghost use Rattle.dn_view.specs.Terms.{AreViewed};
 ghost use Rattle.dn_module.specs.Terms.{names_within};
 ghost use Rattle.dn_interval.specs.Terms.{ends_within, seen_view};
-ghost use Rattle.dn_book.specs.Terms.{owed_names};
 ghost use Rattle.dn_print.specs.Terms.{names_text};
-ghost use Rattle.dn_tool.specs.Terms.{HaltsBySink, IsFirstView, IsMachine, IsReady, IsStill, Writes, access_of, access_text, asked_text, is_change, is_pieced, lookup_text, names_under, no_agent_text, owed_rows, reply, resolve_text, view_heading, view_text, viewed_text};
+ghost use Rattle.dn_tool.specs.Terms.{HaltsBySink, IsFirstView, IsMachine, IsReady, IsStill, Writes, access_of, access_text, agent_of, asked_text, found_text, is_change, is_pieced, names_under, no_agent_text, owed_rows, reply, view_heading, view_text, viewed_text};
 
 use crate::halt::RunHalt;
 use crate::lines::write_rows;
@@ -62,12 +61,16 @@ pub fn reply(
         Command::Resolve(target, addr, mode) => {
             let (addr, mode) = (*addr, *mode);
             let question = Question { target, addr, mode };
-            Ok(resolve_reply(alloc, machine, state, question)?.into_bytes())
+            let none = "no such node";
+            Ok(asked_reply(alloc, machine, state, question, target.node, none)?.into_bytes())
         }
         Command::Lookup(target, addr, mode) => {
             let (addr, mode) = (*addr, *mode);
             let question = Question { target, addr, mode };
-            Ok(lookup_reply(alloc, machine, state, question)?.into_bytes())
+            // A lookup in the bytes of the tables' image finds the same, so no image is made.
+            let agent = agent_of(machine.on.net, target.node);
+            let none = "no such agent";
+            Ok(asked_reply(alloc, machine, state, question, agent, none)?.into_bytes())
         }
         Command::Split => reshape::split_reply(alloc, machine, &mut state.unmade.split),
         Command::Absorb(target) => {
@@ -119,26 +122,42 @@ fn names_of(alloc: Global, net: &Net, found: &[Name]) -> Result<String, OutOfMem
     Ok(text)
 }
 
-/// The reply to `resolve`.
-fn resolve_reply(
+/// The reply to `resolve` or `lookup`: the names to which the address of a node resolves under the tables, or this
+/// text where there is no such node.
+fn asked_reply(
     alloc: Global,
     machine: Machine,
     state: &mut Session,
     question: Question,
+    node: Option<u16>,
+    none: &str,
 ) -> Result<String, OutOfMemory>
     requires ready { IsReady meaning machine state.old }
-    requires there { IsTrue (over_within (length machine.on.net.now) question.target.now.node) }
-    ensures reply { IfOk result (λ s. string_bytes s ≡ resolve_text machine.entry.on.net.now
-        state.old.book.grants question.entry.target.now question.entry.addr question.entry.mode) }
+    requires there { IsTrue (over_within (length machine.on.net.now) node) }
+    ensures reply { IfOk result (λ s. string_bytes s ≡ asked_text question.entry.target.now
+        question.entry.addr question.entry.mode (found_text none.now machine.entry.on.net.now
+        state.old.book.grants (access_of question.entry.mode) node question.entry.addr)) }
     ensures still { IsStill meaning machine.entry state.old state.new }
 {
-    let Some(node) = question.target.node else {
-        return asked_text(alloc, question, "no such node");
+    let Some(node) = node else {
+        return asked_text(alloc, question, none);
     };
     let addr = question.addr;
     let access = access_of(question.mode);
     let found = node_names(alloc, machine, state, access, Name { node, addr })?;
     asked_text(alloc, question, found.as_str())
+}
+
+/// A node that a command names, where it is an agent.
+fn agent_of(net: &Net, node: Option<u16>) -> Option<u16>
+    requires { IsTrue (over_within (length net.now) node) }
+    ensures agent { result ≡ agent_of net.now node }
+    ensures there { IsTrue (over_within (length net.now) result) }
+{
+    match node {
+        Some(node) if is_agent(net, node) => Some(node),
+        _ => None,
+    }
 }
 
 /// The names to which a name resolves under the tables. Where it leads to many, or what the nodes of the net reach is
@@ -191,48 +210,6 @@ fn few_names(
     }
     let tables = state.book.tables();
     resolve_few(alloc, machine.on, tables, name, access)
-}
-
-/// The reply to `lookup`.
-fn lookup_reply(
-    alloc: Global,
-    machine: Machine,
-    state: &mut Session,
-    question: Question,
-) -> Result<String, OutOfMemory>
-    requires ready { IsReady meaning machine state.old }
-    requires there { IsTrue (over_within (length machine.on.net.now) question.target.now.node) }
-    ensures reply { IfOk result (λ s. string_bytes s ≡ lookup_text machine.entry.on.net.now
-        state.old.book.grants question.entry.target.now question.entry.addr question.entry.mode) }
-    ensures still { IsStill meaning machine.entry state.old state.new }
-{
-    match question.target.node {
-        Some(node) if is_agent(machine.on.net, node) => {
-            let addr = question.addr;
-            let access = access_of(question.mode);
-            let found = agent_names(alloc, machine, state, access, Name { node, addr })?;
-            asked_text(alloc, question, found.as_str())
-        }
-        _ => asked_text(alloc, question, "no such agent"),
-    }
-}
-
-/// The names that are owed to an agent's name: those to which it resolves under the tables, which are those that a
-/// lookup in the bytes of their image finds. So no image is made.
-fn agent_names(
-    alloc: Global,
-    machine: Machine,
-    state: &mut Session,
-    access: Access,
-    name: Name,
-) -> Result<String, OutOfMemory>
-    requires ready { IsReady meaning machine state.old }
-    requires agent { IsTrue (is_agent_at (slice_get machine.on.net.now name.node)) }
-    ensures reply { IfOk result (λ s. string_bytes s ≡ names_text machine.entry.on.net.now
-        (owed_names machine.entry.on.net.now state.old.book.grants access name)) }
-    ensures still { IsStill meaning machine.entry state.old state.new }
-{
-    node_names(alloc, machine, state, access, name)
 }
 
 /// Writes the reply to `view`: a line, and below it a line for each row.

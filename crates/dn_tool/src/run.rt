@@ -1,16 +1,18 @@
 //! The top call: from the words and the bytes of a source to those of a sink, the words of a device, and a status.
 
-ghost use Rattle.std.specs.Prelude.{◌≡◌, ◌≢◌, ℕ, List, ◌==◌, ◌-◌, ◌<◌, ◌≤◌, ◌⊎◌, ◌++◌, [], true, false, codes, length, IfOk, None, Some, take};
+ghost use Rattle.std.specs.Prelude.{◌≡◌, ◌≢◌, ℕ, List, ◌==◌, ◌-◌, ◌<◌, ◌≤◌, ◌⊎◌, ◌++◌, [], true, false, codes, length, IfOk, IsTrue, None, Some, take};
+ghost use Rattle.std.specs.List.{list_all};
 ghost use Rattle.std.specs.Option.{IfSome, option_copied};
 ghost use Rattle.dn_base.specs.Terms.{AtEnd, IsCounted, Taken, TakenAtMost, input_limit};
 ghost use Rattle.dn_kind.specs.Terms.{AreKinds, kinds_of, shape_fault};
+ghost use Rattle.dn_module.specs.Terms.{names_within};
 ghost use Rattle.dn_words.specs.Terms.{task_of};
-ghost use Rattle.dn_tool.specs.Terms.{HaltsByEither, HaltsBySink, IsAnswered, IsInput, IsMachine, IsSaid, answer, bytes_answer, demo_answer, ending_status, is_script, limit_for, parts_view, reads, task_answer, text_answer, usage};
+ghost use Rattle.dn_tool.specs.Terms.{HaltsByEither, HaltsBySink, IsAnswered, IsInput, IsMachine, IsSaid, answer, bytes_answer, commands_answer, demo_answer, ending_status, is_script, limit_for, parts_view, reads, task_answer, text_answer, usage};
 ghost use Rattle.dn_print.specs.Terms.{net_text};
 
 use crate::audit::answer_image;
 use crate::compile::{CompileFault, Platform};
-use crate::demo::run_demo;
+use crate::demo::play_all;
 use crate::halt::{RunHalt, status_of};
 pub use crate::halt::{DEVICE_FAULT, NO_MEMORY, WRITE_FAULT};
 use crate::input::{Input, is_too_long, parts_of, read_input};
@@ -19,7 +21,8 @@ use crate::output::{say, write_net};
 pub use crate::refusal::REFUSED;
 use crate::refusal::Refusal;
 pub use crate::script::DONE;
-use crate::script::run_script;
+use crate::script::answer_all;
+use crate::state::Session;
 use crate::{OutOfMemory, compile};
 use dn_base::device::Tables;
 use dn_base::sink::Sink;
@@ -28,6 +31,7 @@ use dn_base::whole::InputFault;
 use dn_demo::text::demo_text;
 use dn_kind::kinded::KindedNet;
 use dn_kind::kinds::Kinds;
+use dn_module::commands::Commands;
 use dn_words::words::{Task, Words};
 use std::alloc::Global;
 
@@ -200,8 +204,8 @@ fn answer_text<K: Sink, D: Tables>(
     }
 }
 
-/// Does what the words ask for with a platform, and gives the status: runs its script, prints its net, or
-/// says what its agents see under the image.
+/// Does what the words ask for with a platform, and gives the status: makes its units and goes through its
+/// commands, prints its net, or says what its agents see under the image.
 fn answer_task<K: Sink, D: Tables>(
     alloc: Global,
     task: Task,
@@ -233,10 +237,38 @@ fn answer_task<K: Sink, D: Tables>(
     };
     let commands = &platform.commands;
     match task {
-        Task::Run => run_script(alloc, machine, commands, sink, device),
+        Task::Run => run_commands(alloc, machine, None, commands, sink, device),
         Task::Check => print_net(alloc, machine, sink),
         Task::Audit => answer_image(alloc, machine, image, sink),
-        Task::Demo(agents) => run_demo(alloc, machine, agents, commands, sink, device),
+        Task::Demo(agents) => run_commands(alloc, machine, Some(agents), commands, sink, device),
+    }
+}
+
+/// Makes the units, and goes through the commands over them: as those of a script, or of a demonstration with so
+/// many agents. The status is `DONE`.
+fn run_commands<K: Sink, D: Tables>(
+    alloc: Global,
+    machine: Machine,
+    agents: Option<u8>,
+    commands: &Commands,
+    sink: &mut K,
+    device: &mut D,
+) -> Result<u8, RunHalt>
+    requires machine { IsMachine meaning machine }
+    requires known { IsTrue (list_all (names_within (length machine.on.net.now)) commands.now) }
+    requires none { D.units device.old ≡ [] }
+    ensures answered { IsAnswered (kinds_of meaning machine.entry.on.kinds.now)
+        (commands_answer agents machine.entry.on.net.now commands.now) (ending_status result)
+        (K.written sink.old) (K.written sink.new) (D.log device.old) (D.log device.new)
+        (D.words device.new) }
+    ensures done { IfOk result (λ s. s ≡ 0) }
+    ensures halted { HaltsByEither result (K.faults sink.old) (K.faults sink.new)
+        (D.faults device.old) (D.faults device.new) }
+{
+    let mut state = Session::make(alloc, machine, device)?;
+    match agents {
+        None => answer_all(alloc, machine, &mut state, commands, sink, device),
+        Some(agents) => play_all(alloc, machine, agents, &mut state, commands, sink, device),
     }
 }
 

@@ -1,4 +1,4 @@
-//! A script that is run: its units are made, and then its commands are answered in order.
+//! A script that is run: its commands are answered in order, over units that were made.
 
 ghost use Rattle.std.specs.Prelude.{◌≡◌, [], false, length, Err, IfOk, IsTrue, OnOk};
 ghost use Rattle.std.specs.List.{list_all};
@@ -7,7 +7,7 @@ ghost use Rattle.dn_image.specs.Terms.{image};
 ghost use Rattle.dn_book.specs.Terms.{tables_of};
 ghost use Rattle.dn_print.specs.Terms.{dump_text};
 ghost use Rattle.dn_module.specs.Terms.{names_within};
-ghost use Rattle.dn_tool.specs.Terms.{CameThrough, HaltsByEither, HaltsBySink, IsMachine, IsPlayed, IsPlayedOn, IsReady, IsReadyOn, IsStill, IsStopped, IsTurn, Writes, ending_status, is_change, is_pieced, reply, start, state_view};
+ghost use Rattle.dn_tool.specs.Terms.{CameThrough, HaltsByEither, HaltsBySink, IsPlayedOn, IsReady, IsReadyOn, IsStill, IsStopped, IsTurn, Writes, ending_status, is_change, is_pieced, reply, start, state_view};
 
 use crate::change::change;
 use crate::halt::RunHalt;
@@ -25,32 +25,9 @@ use std::alloc::Global;
 /// The input was read to its end and every command was answered.
 pub const DONE: u8 = 0;
 
-/// Makes the units, and answers each command in order; each reply is written before the next command
-/// begins. The status is `DONE`.
-pub(crate) fn run_script<K: Sink, D: Tables>(
-    alloc: Global,
-    machine: Machine,
-    commands: &Commands,
-    sink: &mut K,
-    device: &mut D,
-) -> Result<u8, RunHalt>
-    requires machine { IsMachine meaning machine }
-    requires known { IsTrue (list_all (names_within (length machine.on.net.now)) commands.now) }
-    requires none { D.units device.old ≡ [] }
-    ensures played { IsPlayed (kinds_of meaning machine.entry.on.kinds.now)
-        machine.entry.on.net.now commands.now (ending_status result) (K.written sink.old)
-        (K.written sink.new) (D.log device.old) (D.log device.new) (D.words device.new) }
-    ensures done { IfOk result (λ status. status ≡ 0) }
-    ensures halted { HaltsByEither result (K.faults sink.old) (K.faults sink.new)
-        (D.faults device.old) (D.faults device.new) }
-{
-    let mut state = Session::make(alloc, machine, device)?;
-    answer_all(alloc, machine, &mut state, commands, sink, device)
-}
-
 /// Answers each command in order, over units that were made; each reply is written before the next
 /// command begins. The status is `DONE`.
-fn answer_all<K: Sink, D: Tables>(
+pub(crate) fn answer_all<K: Sink, D: Tables>(
     alloc: Global,
     machine: Machine,
     state: &mut Session,
