@@ -1,6 +1,6 @@
 -- From what grants, routes and revokes say to the turns of a script.
 use Rattle.std.specs.Option.{IfSome, option_map}
-use Rattle.std.proofs.Common.{◌≡◌, ◌≢◌, ◌∙◌, ap, sym, subst, refl, arith, ℕ, ◌<◌, ◌⊎◌, inl, inr, Bool, true, false, List, [], ◌∷◌, take, length, Option, IsSome, Some, None, Result, Ok, Err, is_ok, OnOk, ◌==◌, ◌||◌, eqb-true}
+use Rattle.std.proofs.Common.{◌≡◌, ◌≢◌, ◌∙◌, ap, sym, subst, refl, arith, ◌<◌, ◌⊎◌, inl, inr, Bool, true, false, List, [], ◌∷◌, take, length, Option, IsSome, Some, None, Result, Ok, Err, is_ok, OnOk, ◌==◌, ◌||◌, eqb-true, ℕ}
 use Rattle.std.proofs.Math.Seq.{take-length}
 use Rattle.dn_base.specs.declared.device.TableEvent.{TableEvent}
 use Rattle.dn_base.specs.Device.{Logged}
@@ -21,12 +21,10 @@ use Rattle.dn_grant.specs.declared.fault.GrantFault.{GrantFault}
 use Rattle.dn_grant.specs.declared.fault.GrantFault.TheVariants as grant_fault
 use Rattle.dn_grant.specs.Faults.{grant_answer_view, grant_fault_view}
 use Rattle.dn_grant.specs.Grant.{IsGrantLogged, IsGrantMade, IsGrantOutcome, IsGrantRefused, grant_of_request}
-use Rattle.dn_grant.specs.Refusal as grant_refusal
 use Rattle.dn_grant.specs.Refusal.{GrantRefusal}
 use Rattle.dn_vector.specs.declared.fault.RouteFault.{RouteFault}
 use Rattle.dn_vector.specs.declared.fault.RouteFault.TheVariants as route_fault
 use Rattle.dn_vector.specs.Faults.{route_answer_view, route_fault_view}
-use Rattle.dn_vector.specs.Refusal as route_refusal
 use Rattle.dn_vector.specs.Refusal.{RouteRefusal}
 use Rattle.dn_vector.specs.Route.{IsPlacedRoute, IsRouteLogged, IsRouteMade, IsRouteOutcome, IsRouteRefused, grant_of_route}
 use Rattle.dn_vector.specs.Vectors.{vector_request}
@@ -54,11 +52,6 @@ added_all : (events : List TableEvent) (log log' : Option (List TableEvent)) →
 added_all events log log' a = subst (λ es. Logged log log' es) (ap (λ n. take n events) (a.all refl) ∙ take-length events) a.logged
 
 -- halts
-
--- there was no memory before the turn
-pub halted_before : (P : Turn → Type 0) (r : Result (List ℕ) RunHalt) (next : State) (log log' : Option (List TableEvent)) → r ≡ Err NoMemory → log' ≡ log → CameThroughChange P r next log log'
-halted_before P r next log log' e same =
-    subst (λ (q : Result (List ℕ) RunHalt). CameThroughChange P q next log log') (sym e) (λ told. inl (record { memory = refl; log_is = same; sink_is = refl }))
 
 -- there was none for the reply
 pub halted_after : (P : Turn → Type 0) (r : Result (List ℕ) RunHalt) (next next' : State) (reply : List ℕ) (log log' : Option (List TableEvent)) → r ≡ Err NoMemory → IsChanged P next' reply log log' → CameThroughChange P r next log log'
@@ -127,32 +120,29 @@ refused_turn P s next id own text log log' turn is same left = record {
   left = left;
 }
 
+-- the same of the refusal that a fault says
+refused_as : {W : Type 0} (P : Turn → Type 0) (s next : State) (id text : List ℕ) (say : W → List ℕ) (said : Option W) (log log' : Option (List TableEvent)) → IsSome said → IfSome said (λ why. P (reply_turn (say why) (state_with_id s id))) → IfSome said (λ why. text ≡ say why) → log' ≡ log → state_with_id s id ≡ next → IsChanged P next text log log'
+refused_as P s next id text say None log log' some turn is same left = cc
+refused_as P s next id text say (Some why) log log' some turn is same left = refused_turn P s next id (say why) text log log' turn is same left
+
 -- faults that differ are answers that differ
 pub err_differs : {A E : Type 0} (e f : E) → e ≢ f → ◌≢◌ {A = Result A E} (Err e) (Err f)
 err_differs e f other same = other (cc)
 
 -- a fault that comes neither of the device nor of want of memory says a refusal
-pub grant_said : (fault : GrantFault) → fault ≢ grant_fault.Device → fault ≢ grant_fault.OutOfMemory → (why : GrantRefusal) × (grant_fault_view fault ≡ Some why)
-grant_said grant_fault.IdUsed d m = (grant_refusal.id_used, refl)
-grant_said grant_fault.NoAgent d m = (grant_refusal.no_agent, refl)
-grant_said grant_fault.NoTarget d m = (grant_refusal.no_target, refl)
-grant_said (grant_fault.NotAccepted first) d m = (grant_refusal.not_accepted first, refl)
-grant_said grant_fault.BookFull d m = (grant_refusal.book_full, refl)
-grant_said grant_fault.NoPlacement d m = (grant_refusal.no_placement, refl)
-grant_said grant_fault.Device d m = absurd (d refl)
-grant_said grant_fault.OutOfMemory d m = absurd (m refl)
-
--- the fault says a refusal
 pub grant_told : (fault : GrantFault) → fault ≢ grant_fault.Device → fault ≢ grant_fault.OutOfMemory → IsSome (grant_fault_view fault)
-grant_told fault d m = subst (λ (o : Option GrantRefusal). IsSome o) (sym (grant_said fault d m).1) refl
+grant_told grant_fault.Device d m = absurd (d refl)
+grant_told grant_fault.OutOfMemory d m = absurd (m refl)
+grant_told _ d m = refl
 
 -- a grant that was refused, under the number of its id, as its fault says
 pub not_granted_turn : (kinds : List Meaning) (net : List NodeDecl) (s next : State) (id : List ℕ) (rq : Request) (n : ℕ) (fault : GrantFault) (book : List Grant) (text : List ℕ) (log log' : Option (List TableEvent)) → fault ≢ grant_fault.Device → fault ≢ grant_fault.OutOfMemory → n ≡ id_number s.ids id → IsGrantOutcome net s.book n rq (grant_answer_view (Err fault)) book → IfSome (grant_fault_view fault) (λ why. text ≡ grant_refused_text id why) → log' ≡ log → state_with_id s id ≡ next → IsChanged (IsGrantTurn kinds net s id rq) next text log log'
 not_granted_turn kinds net s next id rq n fault book text log log' d m number outcome told same left =
-    let said = grant_said fault d m in
-    let refused : IsGrantRefused net s.book n rq said.0 = (subst (λ (o : Option GrantRefusal). IsGrantOutcome net s.book n rq (option_map (λ w. Err w) o) book) said.1 outcome).0 in
-    let is : text ≡ grant_refused_text id said.0 = subst (λ (o : Option GrantRefusal). IfSome o (λ why. text ≡ grant_refused_text id why)) said.1 told in
-    refused_turn (IsGrantTurn kinds net s id rq) s next id (grant_refused_text id said.0) text log log' (inr (record { why = said.0; refused = subst (λ k. IsGrantRefused net s.book k rq said.0) number refused; is_turn = refl })) is same left
+    refused_as (IsGrantTurn kinds net s id rq) s next id text (grant_refused_text id) (grant_fault_view fault) log log' (grant_told fault d m) (turns (grant_fault_view fault) outcome) told same left
+  where
+    turns : (o : Option GrantRefusal) → IsGrantOutcome net s.book n rq (option_map (λ w. Err w) o) book → IfSome o (λ why. IsGrantTurn kinds net s id rq (reply_turn (grant_refused_text id why) (state_with_id s id)))
+    turns None o = tt
+    turns (Some why) o = inr (record { why = why; refused = subst (λ k. IsGrantRefused net s.book k rq why) number o.0; is_turn = refl })
 
 -- routes
 
@@ -195,26 +185,19 @@ route_stopped kinds net s next id agent line node r log log' words' e logged =
     stopped_inside (IsRouteTurn kinds net s id agent line node) (turn_with_grant net kinds s id (grant_of_route (id_number s.ids id) agent node logged.vector logged.place) (routed_text id logged.vector)) r next log log' e (inl (record { vector = logged.vector; place = logged.place; placed = logged.placed; is_turn = refl })) logged.added
 
 -- a fault that comes neither of the device nor of want of memory says a refusal
-pub route_said : (fault : RouteFault) → fault ≢ route_fault.Device → fault ≢ route_fault.OutOfMemory → (why : RouteRefusal) × (route_fault_view fault ≡ Some why)
-route_said route_fault.IdUsed d m = (route_refusal.id_used, refl)
-route_said route_fault.NoAgent d m = (route_refusal.no_agent, refl)
-route_said route_fault.NoTarget d m = (route_refusal.no_target, refl)
-route_said route_fault.BookFull d m = (route_refusal.book_full, refl)
-route_said route_fault.NoPlacement d m = (route_refusal.no_placement, refl)
-route_said route_fault.Device d m = absurd (d refl)
-route_said route_fault.OutOfMemory d m = absurd (m refl)
-
--- the fault says a refusal
 pub route_told : (fault : RouteFault) → fault ≢ route_fault.Device → fault ≢ route_fault.OutOfMemory → IsSome (route_fault_view fault)
-route_told fault d m = subst (λ (o : Option RouteRefusal). IsSome o) (sym (route_said fault d m).1) refl
+route_told route_fault.Device d m = absurd (d refl)
+route_told route_fault.OutOfMemory d m = absurd (m refl)
+route_told _ d m = refl
 
 -- a route that was refused, under the number of its id, as its fault says
 pub not_routed_turn : (kinds : List Meaning) (net : List NodeDecl) (s next : State) (id : List ℕ) (agent line node : ℕ) (n : ℕ) (fault : RouteFault) (book : List Grant) (text : List ℕ) (log log' : Option (List TableEvent)) → fault ≢ route_fault.Device → fault ≢ route_fault.OutOfMemory → n ≡ id_number s.ids id → IsRouteOutcome net s.book n agent line node (route_answer_view (Err fault)) book → IfSome (route_fault_view fault) (λ why. text ≡ route_refused_text id why) → log' ≡ log → state_with_id s id ≡ next → IsChanged (IsRouteTurn kinds net s id agent line node) next text log log'
 not_routed_turn kinds net s next id agent line node n fault book text log log' d m number outcome told same left =
-    let said = route_said fault d m in
-    let refused : IsRouteRefused net s.book n agent line node said.0 = (subst (λ (o : Option RouteRefusal). IsRouteOutcome net s.book n agent line node (option_map (λ w. Err w) o) book) said.1 outcome).0 in
-    let is : text ≡ route_refused_text id said.0 = subst (λ (o : Option RouteRefusal). IfSome o (λ why. text ≡ route_refused_text id why)) said.1 told in
-    refused_turn (IsRouteTurn kinds net s id agent line node) s next id (route_refused_text id said.0) text log log' (inr (record { why = said.0; refused = subst (λ k. IsRouteRefused net s.book k agent line node said.0) number refused; is_turn = refl })) is same left
+    refused_as (IsRouteTurn kinds net s id agent line node) s next id text (route_refused_text id) (route_fault_view fault) log log' (route_told fault d m) (turns (route_fault_view fault) outcome) told same left
+  where
+    turns : (o : Option RouteRefusal) → IsRouteOutcome net s.book n agent line node (option_map (λ w. Err w) o) book → IfSome o (λ why. IsRouteTurn kinds net s id agent line node (reply_turn (route_refused_text id why) (state_with_id s id)))
+    turns None o = tt
+    turns (Some why) o = inr (record { why = why; refused = subst (λ k. IsRouteRefused net s.book k agent line node why) number o.0; is_turn = refl })
 
 -- revokes
 
@@ -333,9 +316,6 @@ still_through kinds net s next c r a b log e same w none =
       replied = refl;
       left = same;
     }) w none
-
-pub still_said : (kinds : List Meaning) (net : List NodeDecl) (s next : State) (c said : Command) (r : Result (Unit {0}) RunHalt) (a b : Option (List ℕ)) (log : Option (List TableEvent)) → c ≡ said → is_change said ≡ false → s ≡ next → IsWritten a b (is_ok r) (is_write_halt r) (reply kinds net s.book said) → is_device_halt r ≡ false → CameThrough (IsTurn kinds net s c) r next a b log log
-still_said kinds net s next c said r a b log is e same w none = subst (λ (d : Command). CameThrough (IsTurn kinds net s d) r next a b log log) (sym is) (still_through kinds net s next said r a b log e same w none)
 
 -- a change that halted wrote nothing
 pub change_halted : (P : Turn → Type 0) (r : Result (List ℕ) RunHalt) (h : RunHalt) (r' : Result (Unit {0}) RunHalt) (next : State) (told : Option (List ℕ)) (log log' : Option (List TableEvent)) → r ≡ Err h → r' ≡ Err h → CameThroughChange P r next log log' → CameThrough P r' next told told log log'

@@ -18,7 +18,6 @@ use Rattle.dn_module.specs.declared.command.Command.{Command}
 use Rattle.dn_tables.specs.declared.table.NodeTable.{NodeTable}
 use Rattle.dn_tables.specs.Set.{IsOnDevice, device_tables, fresh_set, tables_of_set}
 use Rattle.dn_tables.specs.Writes.{AreUnitsMade}
-use Rattle.dn_book.specs.declared.grant.Grant.{Grant as GrantPart}
 use Rattle.dn_book.specs.Tables.{IsKept, tables_of}
 use Rattle.dn_demo.specs.declared.summary.Summary.{Summary}
 use Rattle.dn_demo.specs.Summary.{summary_text}

@@ -1,7 +1,7 @@
 -- What a lookup beside a script has ended with, by the books of which the moments of its life speak.
-use Rattle.std.proofs.Common.{◌≡◌, ◌∙◌, ap, sym, subst, refl, ℕ, ◌+◌, ◌≤◌, ◌↔◌, Bool, true, false, List, [], ◌∷◌, ◌++◌, length, take, drop, Some, slice_get, IsTrue, arith, append_assoc}
+use Rattle.std.proofs.Common.{◌≡◌, ◌∙◌, ap, sym, subst, refl, ℕ, ◌+◌, ◌≤◌, true, false, List, [], ◌++◌, length, take, Some, slice_get, IsTrue, arith}
 use Rattle.std.specs.List.{All}
-use Rattle.std.proofs.lemmas.List.{take-append-le, take-append-drop, length-append}
+use Rattle.std.proofs.lemmas.List.{take-append-le, length-append}
 use Rattle.std.proofs.Math.Seq.{take-append_seam}
 use Rattle.dn_base.specs.declared.device.TableEvent.{TableEvent}
 use Rattle.dn_net.specs.declared.node.Name.{Name}
@@ -32,8 +32,7 @@ use Rattle.dn_flight.specs.Schedules.{IsSchedule, moment, world_after}
 use Rattle.dn_flight.proofs.Flown.{lookups_have_flown}
 use Rattle.dn_flight.proofs.Going.{going_is_fenced}
 use Rattle.dn_flight.proofs.Schedules.{may_come, moment_within}
-use Rattle.dn_tool.specs.Books.{IsKeptFaithful}
-use Rattle.dn_tool.specs.Flown.{GivesLookups, IsGivenOwed, books_at, first_world}
+use Rattle.dn_tool.specs.Flown.{IsGivenOwed, books_at, first_world}
 use Rattle.dn_tool.specs.Turn.{Turn, events_of, start}
 use Rattle.dn_tool.proofs.Books.{empty_kept}
 use Rattle.dn_tool.proofs.Moments.{IsBracketed, TurnsGoOn, bracketed, going}

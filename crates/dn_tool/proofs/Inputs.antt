@@ -1,5 +1,5 @@
 -- The answer to what was read of the source is the answer to all its bytes.
-use Rattle.std.proofs.Common.{arith, ◌≡◌, ◌∙◌, ap, sym, subst, cond, ℕ, ◌<◌, ◌⊎◌, inl, inr, Bool, true, false, nat_lt, List, [], ◌++◌, length, Option, Some, None, Result, Ok, Err, append-nil, length-append, refl}
+use Rattle.std.proofs.Common.{arith, ◌≡◌, ◌∙◌, ap, sym, subst, cond, ◌<◌, ◌⊎◌, inl, inr, Bool, true, false, nat_lt, List, [], ◌++◌, length, Option, Some, None, Result, Ok, Err, append-nil, length-append, refl, ℕ}
 use Rattle.dn_base.specs.Outside.{Taken, AtEnd, input_limit}
 use Rattle.dn_parse.specs.Whole.{too_long}
 use Rattle.dn_parse.proofs.Judge.{text_too_long}
@@ -10,7 +10,7 @@ use Rattle.dn_tool.specs.Refused.{Refused, of_text, refusal_of}
 use Rattle.dn_words.specs.declared.words.Task.{Task}
 use Rattle.dn_words.specs.declared.words.Task.TheVariants.{Run, Check, Audit, Demo}
 use Rattle.dn_words.specs.Words.{task_of}
-use Rattle.dn_tool.specs.Answer.{Answer, IsInput, answer, asked_answer, bytes_answer, compiled_answer, demo_answer, is_script, played, reads, said, shown, some_task_reads, task_bytes, task_reads, text_answer, too_long_line, usage}
+use Rattle.dn_tool.specs.Answer.{Answer, IsInput, answer, asked_answer, bytes_answer, compiled_answer, played, reads, said, shown, some_task_reads, task_bytes, task_reads, text_answer, too_long_line}
 use Rattle.dn_tool.specs.Input.{is_too_long, limit_for, parts_of}
 
 -- a text that is longer than the limit is refused by that alone
@@ -47,10 +47,6 @@ bytes_read Check bytes read = refl
 bytes_read Audit bytes read = refl
 bytes_read (Demo agents) bytes read = cc
 
--- words of no form do not
-pub unasked_reads : (w : List (List ℕ)) → task_of w ≡ None → reads w ≡ false
-unasked_reads w none = ap some_task_reads none
-
 -- an audit of more bytes than it takes is refused by that alone
 long_audit : (kinds : List Meaning) (bytes : List ℕ) → 67108864 < length bytes → bytes_answer Audit kinds bytes ≡ said 4 too_long_line
 long_audit kinds bytes l =
@@ -81,14 +77,6 @@ input_answer left after w task kinds bytes whole P asked read taken end input p 
         let same : bytes_answer task kinds bytes ≡ bytes_answer task kinds whole = sym (same_answer task kinds bytes rest read end) ∙ ap (bytes_answer task kinds) (sym joined) in
         let all : bytes_answer task kinds whole ≡ answer w kinds whole = ap (bytes_answer task kinds) (sym (bytes_read task whole read)) ∙ ap (λ o. asked_answer o kinds whole) (sym asked) in
         subst P (same ∙ all) p
-
--- other words have the usage line, whatever the text
-pub usage_answer : (w : List (List ℕ)) (kinds : List Meaning) (text : List ℕ) (P : Answer → Type 0) → task_of w ≡ None → P (said 1 usage) → P (answer w kinds text)
-usage_answer w kinds text P e p = let same : said 1 usage ≡ answer w kinds text = ap (λ o. asked_answer o kinds text) (sym e) in subst P same p
-
--- words that ask for a demonstration have its answer, whatever the text
-pub demo_answered : (w : List (List ℕ)) (agents : ℕ) (kinds : List Meaning) (text : List ℕ) (P : Answer → Type 0) → task_of w ≡ Some (Demo agents) → P (demo_answer agents kinds) → P (answer w kinds text)
-demo_answered w agents kinds text P e p = let same : demo_answer agents kinds ≡ answer w kinds text = ap (λ o. asked_answer o kinds text) (sym e) in subst P same p
 
 -- the answer is a demonstration
 abbrev pub is_shown : Answer → Bool
@@ -145,20 +133,3 @@ short_bytes Audit bytes fits short = not_past (length bytes) fits
     not_past : (n : ℕ) → nat_lt 67108864 n ≡ false → n < 67108865
     not_past n e = grind arith
 short_bytes (Demo agents) bytes fits short = short
-
--- what `check` answers is no script
-pub check_is_no_script : (kinds : List Meaning) (bytes : List ℕ) → is_script (bytes_answer Check kinds bytes) ≡ false
-check_is_no_script kinds bytes = by (with_refusal (compilation kinds bytes))
-  where
-    by : (r : Result Expansion Refused) → is_script (compiled_answer Check kinds None r) ≡ false
-    by (Err r) = refl
-    by (Ok o) = refl
-
--- nor is what `audit` answers
-pub audit_is_no_script : (kinds : List Meaning) (bytes : List ℕ) → is_script (bytes_answer Audit kinds bytes) ≡ false
-audit_is_no_script kinds bytes = by (is_too_long Audit bytes) (with_refusal (compilation kinds (parts_of Audit bytes).text))
-  where
-    by : (b : Bool) (r : Result Expansion Refused) → is_script (cond b (said 4 too_long_line) (compiled_answer Audit kinds (parts_of Audit bytes).image r)) ≡ false
-    by true r = refl
-    by false (Err r) = refl
-    by false (Ok o) = refl

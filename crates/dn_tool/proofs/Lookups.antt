@@ -1,6 +1,5 @@
 -- A lookup in the image of the tables of a sound and faithful book finds what the book owes.
-use Rattle.std.proofs.Common.{◌≡◌, ◌∙◌, ap, sym, refl, ℕ, Bool, true, false, if◌then◌else◌, List, codes, slice_get, Option, Some, None, Result, Ok, Err, IsTrue}
-use Rattle.dn_net.specs.declared.node.Name.{Name}
+use Rattle.std.proofs.Common.{◌≡◌, ◌∙◌, ap, sym, refl, ℕ, Bool, true, false, if◌then◌else◌, List, codes, slice_get, Option, Some, None, Ok, Err, IsTrue}
 use Rattle.dn_net.specs.declared.node.NodeDecl.{NodeDecl}
 use Rattle.dn_net.specs.Decode.{is_agent_at}
 use Rattle.dn_kind.specs.declared.rights.Access.{Access}
@@ -9,7 +8,7 @@ use Rattle.dn_kind.specs.Tables.{Held, record_held, resolved_names_under}
 use Rattle.dn_image.specs.Image.{ImageWords, are_filled, image, written_version}
 use Rattle.dn_image.specs.Reading.{BrokenImage, broken_image, image_reading, image_words, reading_by, version_of}
 use Rattle.dn_image.proofs.Told.{image_is_read}
-use Rattle.dn_lookup.specs.Lookup.{NoLookup, lookup_in, no_agent}
+use Rattle.dn_lookup.specs.Lookup.{lookup_in, no_agent}
 use Rattle.dn_book.specs.declared.grant.Grant.{Grant}
 use Rattle.dn_book.specs.Book.{IsFaithful}
 use Rattle.dn_book.specs.Tables.{tables_of}

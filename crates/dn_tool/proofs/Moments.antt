@@ -9,10 +9,8 @@ use Rattle.dn_net.specs.Chain.{Member}
 use Rattle.dn_kind.specs.Kind.{IsLawful, Meaning}
 use Rattle.dn_kind.specs.Tables.{Extends, Held, record_held}
 use Rattle.dn_kind.specs.Units.{IsLegalWith}
-use Rattle.dn_placement.specs.declared.request.Request.{Request}
 use Rattle.dn_book.specs.declared.grant.Grant.{Grant as GrantPart}
 use Rattle.dn_book.specs.Book.{records_of, without_id}
-use Rattle.dn_book.specs.Commands.{LeadsOver}
 use Rattle.dn_book.specs.Events.{after_events, held_at}
 use Rattle.dn_book.specs.Going.{AreGoing}
 use Rattle.dn_book.specs.Laws.{IsGrantFor}

@@ -1,8 +1,7 @@
 -- The words of a unit in the tables, and the pages of their tree.
-use Rattle.std.proofs.Common.{◌≡◌, ◌∙◌, ap, sym, cond, refl, arith, ℕ, zero, suc, ◌*◌, ◌/◌, ◌≤◌, Bool, true, false, nat_le, List, [], ◌∷◌, ◌++◌, length, slice_index_or, Option, Some, None, Result, Ok, Err, IsTrue}
+use Rattle.std.proofs.Common.{◌≡◌, ◌∙◌, ap, sym, cond, refl, arith, ℕ, zero, suc, ◌*◌, ◌/◌, ◌≤◌, Bool, true, false, nat_le, List, [], ◌∷◌, ◌++◌, length, slice_index_or, Result, Ok, Err, IsTrue}
 use Rattle.std.specs.List.{list_all}
 use Rattle.dn_base.proofs.Booleans.{and_parts}
-use Rattle.dn_net.specs.declared.node.NodeDecl.{NodeDecl}
 use Rattle.dn_tables.specs.declared.table.NodeTable.{NodeTable}
 use Rattle.dn_tables.specs.Set.{is_sized, words_in, words_of}
 use Rattle.dn_tables.proofs.Fresh.{few_words}

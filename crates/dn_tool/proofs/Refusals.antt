@@ -1,5 +1,5 @@
 -- What a text comes to where it is refused.
-use Rattle.std.proofs.Common.{◌≡◌, ◌∙◌, ap, sym, subst, Option, option_map, IfSome, Some, None, List, ℕ, Result, Ok, Err, IfOk, refl}
+use Rattle.std.proofs.Common.{◌≡◌, ◌∙◌, ap, sym, subst, Option, option_map, IfSome, Some, None, List, Result, Ok, Err, IfOk, refl, ℕ}
 use Rattle.std.proofs.lemmas.Option.{same_Some}
 use Rattle.dn_base.specs.Answers.{Answers, Checks}
 use Rattle.dn_parse.specs.declared.reader.ParseFault.{ParseFault}
@@ -62,10 +62,6 @@ pub walks_refused : {E : Type 0} (kinds : List Meaning) (o : Expansion) (v : Opt
 walks_refused kinds o None (Ok x) checked shaped fault is = cc
 walks_refused kinds o (Some b) (Ok x) checked shaped fault is = ap (λ b. with_refusal (by_node_rules kinds o b)) checked ∙ ap (λ b. with_refusal (by_unit_rule o b)) shaped ∙ ap (λ b. with_refusal (by_walk_rules o b)) fault ∙ ap (λ q. Err q) (same_Some (walk_refusal o.net b) x is)
 walks_refused kinds o v (Err y) checked shaped fault is = tt
-
--- nothing breaks a rule
-pub is_legal : (kinds : List Meaning) (o : Expansion) → node_fault o.net ≡ None → shape_fault kinds o.net ≡ None → walk_fault o.net ≡ None → with_refusal (expansion_compilation kinds (Ok o)) ≡ Ok o
-is_legal kinds o checked shaped walkable = ap (λ b. with_refusal (by_node_rules kinds o b)) checked ∙ ap (λ b. with_refusal (by_unit_rule o b)) shaped ∙ ap (λ b. with_refusal (by_walk_rules o b)) walkable
 
 -- what a text was compiled to, or refused for, is held against the first rule that it breaks
 pub compiled_checks : {X E : Type 0} (view : X → Expansion) (refused : E → Option Refused) (r : Result X E) (k : Compilation) → Answers view refused r (with_refusal k) → Checks refused r (option_map refusal_of (broken_rule k))

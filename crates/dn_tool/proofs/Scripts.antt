@@ -1,5 +1,5 @@
 -- The turns of a script lead from book to book as they should, and so each first part of their events gives lookups what books owe.
-use Rattle.std.proofs.Common.{◌≡◌, ◌∙◌, ap, sym, subst, refl, ℕ, zero, suc, inl, inr, true, List, [], ◌∷◌, ◌++◌, drop, take, IsTrue, append-nil, append_assoc}
+use Rattle.std.proofs.Common.{◌≡◌, ◌∙◌, ap, sym, subst, refl, ℕ, zero, suc, inl, inr, true, List, [], ◌∷◌, ◌++◌, drop, take, IsTrue, append_assoc}
 use Rattle.std.specs.List.{All}
 use Rattle.std.proofs.lemmas.List.{take-append-drop}
 use Rattle.dn_base.specs.declared.device.TableEvent.{TableEvent}
@@ -8,7 +8,6 @@ use Rattle.dn_kind.specs.Kind.{IsLawful, Meaning}
 use Rattle.dn_kind.specs.Rights.{are_rights}
 use Rattle.dn_kind.specs.Units.{IsLegalWith}
 use Rattle.dn_placement.specs.declared.request.Request.{Request}
-use Rattle.dn_book.specs.declared.grant.Grant.{Grant as GrantPart}
 use Rattle.dn_book.specs.Book.{without_id}
 use Rattle.dn_book.specs.Writes.{revoke_events}
 use Rattle.dn_grant.specs.Grant.{grant_of_request}

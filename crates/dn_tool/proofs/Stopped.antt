@@ -1,5 +1,5 @@
 -- What a device tells of the tables: those of a book, and those that a fault left inside a turn.
-use Rattle.std.proofs.Common.{◌≡◌, ◌∙◌, ap, sym, subst, refl, ℕ, inl, Bool, true, false, List, [], ◌∷◌, ◌++◌, Option, Result, Ok, Err}
+use Rattle.std.proofs.Common.{◌≡◌, ◌≢◌, ◌∙◌, ap, sym, subst, refl, inl, true, false, List, [], ◌∷◌, ◌++◌, Option, Result, Ok, Err, ℕ}
 use Rattle.std.specs.Option.{IfSome}
 use Rattle.dn_base.specs.declared.device.TableEvent.{TableEvent}
 use Rattle.dn_base.specs.declared.device.UnitWords.{UnitWords}
@@ -8,7 +8,6 @@ use Rattle.dn_base.specs.Outside.{Faults, IsCounted}
 use Rattle.dn_base.proofs.Counts.{counted_none}
 use Rattle.dn_base.proofs.Told.{if_some_then}
 use Rattle.dn_net.specs.declared.node.NodeDecl.{NodeDecl}
-use Rattle.dn_net.specs.Chain.{Member}
 use Rattle.dn_kind.specs.Kind.{Meaning}
 use Rattle.dn_kind.specs.Kinded.{kinds_of}
 use Rattle.dn_flat.specs.Levels.{AreFlats, FlatsView}
@@ -22,11 +21,17 @@ use Rattle.dn_book.specs.Book.{has_id, without_id}
 use Rattle.dn_book.specs.State.{BookState}
 use Rattle.dn_book.specs.Tables.{IsKept, tables_of}
 use Rattle.dn_book.specs.Writes.{revoke_events}
-use Rattle.dn_grant.specs.Grant.{IsGrantLogged, grant_of_request}
-use Rattle.dn_vector.specs.Route.{IsRouteLogged, grant_of_route}
+use Rattle.dn_grant.specs.declared.fault.GrantFault.{GrantFault}
+use Rattle.dn_grant.specs.declared.fault.GrantFault.TheVariants as grant_fault
+use Rattle.dn_grant.specs.Faults.{grant_answer_view, grant_fault_view}
+use Rattle.dn_grant.specs.Grant.{IsGrantLogged, IsGrantOutcome, grant_of_request}
+use Rattle.dn_vector.specs.declared.fault.RouteFault.{RouteFault}
+use Rattle.dn_vector.specs.declared.fault.RouteFault.TheVariants as route_fault
+use Rattle.dn_vector.specs.Faults.{route_answer_view, route_fault_view}
+use Rattle.dn_vector.specs.Route.{IsRouteLogged, IsRouteOutcome, grant_of_route}
 use Rattle.dn_tool.specs.declared.halt.RunHalt.{RunHalt}
 use Rattle.dn_tool.specs.declared.halt.RunHalt.TheVariants.{DeviceFault, NoMemory}
-use Rattle.dn_tool.specs.Changed.{granted_text, revoked_text, routed_text}
+use Rattle.dn_tool.specs.Changed.{grant_refused_text, granted_text, revoked_text, route_refused_text, routed_text}
 use Rattle.dn_tool.specs.Halt.{HaltsByDevice, is_device_halt}
 use Rattle.dn_tool.specs.Ids.{id_number, with_id}
 use Rattle.dn_tool.specs.declared.machine.Machine.{Machine}
@@ -35,7 +40,7 @@ use Rattle.dn_tool.specs.Machine.{IsMachine}
 use Rattle.dn_tool.specs.State.{CameThroughChange, IsChangeDone, IsChanged, IsReadyOn, IsState, state_view}
 use Rattle.dn_tool.specs.Stopped.{AreCaught, IsStopped}
 use Rattle.dn_tool.specs.Turn.{IsGrantTurn, IsRevokeTurn, IsRouteTurn, State, Turn, state_with_id, turn_with_grant}
-use Rattle.dn_tool.proofs.Changes.{halted_after, lives, state_named, state_same}
+use Rattle.dn_tool.proofs.Changes.{err_differs, grant_stopped, halted_after, lives, not_granted_turn, not_routed_turn, route_stopped, state_named, state_same}
 
 -- the words that a device tells are the tables of the book
 pub words_told : (kinds : List Meaning) (net : List NodeDecl) (book : List GrantPart) (set : List NodeTable) (sizes : List UnitSize) (told : Option (List UnitWords)) → IsKept net kinds book set → IsOnDevice set sizes told → IfSome told (λ tables. tables ≡ device_tables 0 net (tables_of net kinds book))
@@ -133,3 +138,41 @@ handed_on {X} {Y} r r' h is by fault =
     let same : ◌≡◌ {A = Result Y RunHalt} (Err h) (Err DeviceFault) = sym by ∙ fault in
     let halt : h ≡ DeviceFault = cc in
     is ∙ ap (λ (k : RunHalt). Err k) halt
+
+-- a grant at which the device failed, under the number of its id
+pub grant_cut : {K : Type 0} {V : K → Type 0} (means : (k : K) × V k → Meaning) (m : Machine K V) (k k' : Kept) (id : List ℕ) (rq : Request) (n : ℕ) (set : List NodeTable) (log log' : Option (List TableEvent)) (units : List UnitSize) (words : Option (List UnitWords)) (x y : Faults) → FitsNet m.on.net.now (kinds_of means m.on.kinds.now) set → IsOnDevice set units words → n ≡ id_number k.ids id → IsGrantLogged m.on.net.now (kinds_of means m.on.kinds.now) k.book.grants k.book.cleared n rq true log log' (words_of set) → HaltsByDevice {A = List ℕ} (Err DeviceFault) x y → IsChangeDone means m (IsGrantTurn (kinds_of means m.on.kinds.now) m.on.net.now (state_view k) id rq) (Err DeviceFault) k k' log log' units words x y
+grant_cut means m k k' id rq n set log log' units words x y fits on number logged halted =
+    let kinds : List Meaning = kinds_of means m.on.kinds.now in
+    let net : List NodeDecl = m.on.net.now in
+    let s : State = state_view k in
+    let came : IsGrantLogged net kinds s.book s.cleared (id_number s.ids id) rq true log log' (words_of set) = subst (λ i. IsGrantLogged net kinds s.book s.cleared i rq true log log' (words_of set)) number logged in
+    done_stopped means m (IsGrantTurn kinds net s id rq) k k' log log' units words x y
+    (grant_stopped kinds net s (state_view k') id rq (Err DeviceFault) log log' (words_of set) refl came)
+    (grant_caught kinds net s id set units words fits on rq log log' came) halted
+
+-- a grant that was refused, under the number of its id
+pub grant_unmade : {K D : Type 0} {V : K → Type 0} (means : (k : K) × V k → Meaning) (m : Machine K V) (k : Kept) (book : BookState) (ids : List (List ℕ)) (flats : Option FlatsView) (id text : List ℕ) (rq : Request) (n : ℕ) (fault : GrantFault) (log : D → Option (List TableEvent)) (faults : D → Faults) (d d' : D) (units : List UnitSize) (words : Option (List UnitWords)) → IsMachine means m → IsState (kinds_of means m.on.kinds.now) m.on.net.now k → (◌≢◌ {A = Result ℕ GrantFault} (Err fault) (Err grant_fault.Device) → (book ≡ k.book) × (d' ≡ d)) → ids ≡ with_id k.ids id → IfSome flats (AreFlats m.on.net.now) → IsOnDevice book.set units words → fault ≢ grant_fault.Device → fault ≢ grant_fault.OutOfMemory → n ≡ id_number k.ids id → IsGrantOutcome m.on.net.now k.book.grants n rq (grant_answer_view (Err fault)) book.grants → IfSome (grant_fault_view fault) (λ why. text ≡ grant_refused_text id why) → IsChangeDone means m (IsGrantTurn (kinds_of means m.on.kinds.now) m.on.net.now (state_view k) id rq) (Ok text) k (refused_state k book ids flats) (log d) (log d') units words (faults d) (faults d')
+grant_unmade means m k book ids flats id text rq n fault log faults d d' units words machine state unchanged named reach on device memory number outcome told =
+    let kinds : List Meaning = kinds_of means m.on.kinds.now in
+    let same = unchanged (err_differs fault grant_fault.Device device) in
+    done_refused means m (IsGrantTurn kinds m.on.net.now (state_view k) id rq) text k book ids flats id (log d) (log d') units words (faults d) (faults d') machine state same.0 named reach on (ap faults same.1)
+    (not_granted_turn kinds m.on.net.now (state_view k) (state_view (refused_state k book ids flats)) id rq n fault book.grants text (log d) (log d') device memory number outcome told (ap log same.1))
+
+-- a route at which the device failed, under the number of its id
+pub route_cut : {K : Type 0} {V : K → Type 0} (means : (k : K) × V k → Meaning) (m : Machine K V) (k k' : Kept) (id : List ℕ) (agent line node : ℕ) (n : ℕ) (set : List NodeTable) (log log' : Option (List TableEvent)) (units : List UnitSize) (words : Option (List UnitWords)) (x y : Faults) → FitsNet m.on.net.now (kinds_of means m.on.kinds.now) set → IsOnDevice set units words → n ≡ id_number k.ids id → IsRouteLogged m.on.net.now (kinds_of means m.on.kinds.now) k.book.grants k.book.cleared n agent line node true log log' (words_of set) → HaltsByDevice {A = List ℕ} (Err DeviceFault) x y → IsChangeDone means m (IsRouteTurn (kinds_of means m.on.kinds.now) m.on.net.now (state_view k) id agent line node) (Err DeviceFault) k k' log log' units words x y
+route_cut means m k k' id agent line node n set log log' units words x y fits on number logged halted =
+    let kinds : List Meaning = kinds_of means m.on.kinds.now in
+    let net : List NodeDecl = m.on.net.now in
+    let s : State = state_view k in
+    let came : IsRouteLogged net kinds s.book s.cleared (id_number s.ids id) agent line node true log log' (words_of set) = subst (λ i. IsRouteLogged net kinds s.book s.cleared i agent line node true log log' (words_of set)) number logged in
+    done_stopped means m (IsRouteTurn kinds net s id agent line node) k k' log log' units words x y
+    (route_stopped kinds net s (state_view k') id agent line node (Err DeviceFault) log log' (words_of set) refl came)
+    (route_caught kinds net s id set units words fits on agent line node log log' came) halted
+
+-- a route that was refused, under the number of its id
+pub route_unmade : {K D : Type 0} {V : K → Type 0} (means : (k : K) × V k → Meaning) (m : Machine K V) (k : Kept) (book : BookState) (ids : List (List ℕ)) (flats : Option FlatsView) (id text : List ℕ) (agent line node : ℕ) (n : ℕ) (fault : RouteFault) (log : D → Option (List TableEvent)) (faults : D → Faults) (d d' : D) (units : List UnitSize) (words : Option (List UnitWords)) → IsMachine means m → IsState (kinds_of means m.on.kinds.now) m.on.net.now k → (◌≢◌ {A = Result ℕ RouteFault} (Err fault) (Err route_fault.Device) → (book ≡ k.book) × (d' ≡ d)) → ids ≡ with_id k.ids id → IfSome flats (AreFlats m.on.net.now) → IsOnDevice book.set units words → fault ≢ route_fault.Device → fault ≢ route_fault.OutOfMemory → n ≡ id_number k.ids id → IsRouteOutcome m.on.net.now k.book.grants n agent line node (route_answer_view (Err fault)) book.grants → IfSome (route_fault_view fault) (λ why. text ≡ route_refused_text id why) → IsChangeDone means m (IsRouteTurn (kinds_of means m.on.kinds.now) m.on.net.now (state_view k) id agent line node) (Ok text) k (refused_state k book ids flats) (log d) (log d') units words (faults d) (faults d')
+route_unmade means m k book ids flats id text agent line node n fault log faults d d' units words machine state unchanged named reach on device memory number outcome told =
+    let kinds : List Meaning = kinds_of means m.on.kinds.now in
+    let same = unchanged (err_differs fault route_fault.Device device) in
+    done_refused means m (IsRouteTurn kinds m.on.net.now (state_view k) id agent line node) text k book ids flats id (log d) (log d') units words (faults d) (faults d') machine state same.0 named reach on (ap faults same.1)
+    (not_routed_turn kinds m.on.net.now (state_view k) (state_view (refused_state k book ids flats)) id agent line node n fault book.grants text (log d) (log d') device memory number outcome told (ap log same.1))

@@ -1,5 +1,5 @@
 -- A run that ended before there was an answer.
-use Rattle.std.proofs.Common.{◌≡◌, ◌≢◌, ◌∙◌, ◌==◌, sym, subst, cond, refl, arith, ℕ, Bool, true, false, not, inr, List, [], Option, Some, None, Ok, Err, is_ok, Result}
+use Rattle.std.proofs.Common.{◌≡◌, ◌≢◌, ◌∙◌, ◌==◌, sym, subst, cond, refl, arith, Bool, true, false, not, inr, List, [], Option, Some, None, Ok, Err, is_ok, Result, ℕ}
 use Rattle.std.specs.List.{All}
 use Rattle.dn_base.specs.declared.device.DeviceOrMemory.{DeviceOrMemory}
 use Rattle.dn_base.specs.declared.device.TableEvent.{TableEvent}

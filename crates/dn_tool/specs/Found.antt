@@ -31,6 +31,11 @@ asked_text target a m found =
     target.text ++ (codes "@" ++ (address_text a
     ++ (access_text m ++ (codes ": " ++ (found ++ codes "\n")))))
 
+-- the reply of a command that refuses the node of this name
+abbrev pub node_refused_text : List ℕ → List ℕ → List ℕ → List ℕ
+node_refused_text command name why =
+    command ++ (codes " " ++ (name ++ (codes " refused: " ++ (why ++ codes "\n"))))
+
 -- the names to which a name resolves for an access under the records of a book
 abbrev pub names_under : List NodeDecl → List Grant → Access → Name → List Name
 names_under net book access x = resolved_names_under net (allowing access (records_of net book)) x
@@ -42,15 +47,15 @@ found_text none net book access None a = none
 found_text none net book access (Some n) a =
     names_text net (names_under net book access (record { node = n; addr = a }))
 
+-- a node that a command names, where it is an agent
+abbrev pub agent_of : List NodeDecl → Option ℕ → Option ℕ
+agent_of net None = None
+agent_of net (Some n) = if is_agent_at (slice_get net n) then Some n else None
+
 -- the reply to `resolve`
 abbrev pub resolve_text : List NodeDecl → List Grant → Target → ℕ → Mode → List ℕ
 resolve_text net book target a m =
     asked_text target a m (found_text (codes "no such node") net book (access_of m) target.node a)
-
--- a node, where it is an agent
-abbrev pub agent_of : List NodeDecl → Option ℕ → Option ℕ
-agent_of net None = None
-agent_of net (Some n) = if is_agent_at (slice_get net n) then Some n else None
 
 -- the names that a book owes to an address of an agent for an access, where there is such an agent
 abbrev pub owed_text : List NodeDecl → List Grant → Access → Option ℕ → ℕ → List ℕ

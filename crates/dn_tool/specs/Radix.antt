@@ -11,6 +11,7 @@ use Rattle.dn_radix.specs.Tree.{tree_pages}
 use Rattle.dn_book.specs.declared.grant.Grant.{Grant as GrantPart}
 use Rattle.dn_book.specs.Tables.{tables_of}
 use Rattle.dn_print.specs.Dump.{lines_text}
+use Rattle.dn_tool.specs.Found.{node_refused_text}
 
 -- the heading above the lines of a tree, which has the number of its pages
 abbrev pub pages_heading : List ℕ → ℕ → List ℕ
@@ -19,10 +20,6 @@ pages_heading name pages = codes "radix " ++ (name ++ (codes " pages " ++ (decim
 -- the reply where the pool has fewer pages than the tree
 abbrev pub pool_text : List ℕ → ℕ → List ℕ
 pool_text name need = codes "radix " ++ (name ++ (codes " refused: Pool " ++ (decimal need ++ codes "\n")))
-
--- the reply where no unit has the name
-abbrev pub no_unit_text : List ℕ → List ℕ
-no_unit_text name = codes "radix " ++ (name ++ codes " refused: NoUnit\n")
 
 -- the reply by what words come to as a tree in a pool
 abbrev pub tree_text : List ℕ → List ℕ → Result (List ℕ) ℕ → List ℕ
@@ -33,17 +30,23 @@ tree_text name ws (Err need) = pool_text name need
 abbrev pub node_words : List Meaning → List NodeDecl → List GrantPart → ℕ → List ℕ
 node_words kinds net book n = slice_index_or (tables_of net kinds book) n []
 
--- the reply to a pool for words, where a node is a unit that has them
-abbrev pub unit_text : List ℕ → List ℕ → ℕ → Option UnitPart → List ℕ
-unit_text name ws pool None = no_unit_text name
-unit_text name ws pool (Some u) = tree_text name ws (built ws pool)
+-- a node that has these parts of a unit, where it has any
+abbrev pub node_with : ℕ → Option UnitPart → Option ℕ
+node_with n None = None
+node_with n (Some u) = Some n
 
--- the same by the number of the node, where there is one
+-- a node that a command names, where it is a unit
+abbrev pub unit_of : List NodeDecl → Option ℕ → Option ℕ
+unit_of net None = None
+unit_of net (Some n) = node_with n (unit_at net n)
+
+-- the reply to `radix` by the unit, where there is one
 abbrev pub radix_by : List Meaning → List NodeDecl → List GrantPart → List ℕ → ℕ → Option ℕ → List ℕ
-radix_by kinds net book name pool None = no_unit_text name
+radix_by kinds net book name pool None = node_refused_text (codes "radix") name (codes "NoUnit")
 radix_by kinds net book name pool (Some n) =
-    unit_text name (node_words kinds net book n) pool (unit_at net n)
+    tree_text name (node_words kinds net book n) (built (node_words kinds net book n) pool)
 
 -- the reply to `radix`
 abbrev pub radix_text : List Meaning → List NodeDecl → List GrantPart → Target → ℕ → List ℕ
-radix_text kinds net book target pool = radix_by kinds net book target.text pool target.node
+radix_text kinds net book target pool =
+    radix_by kinds net book target.text pool (unit_of net target.node)

@@ -1,5 +1,5 @@
 -- The reply to `view`: what an agent is owed, in rows.
-use Rattle.std.specs.Prelude.{ℕ, ◌≤◌, ◌↔◌, if◌then◌else◌, List, ◌++◌, map, length, codes, slice_get, Option, Some, None, IsTrue}
+use Rattle.std.specs.Prelude.{ℕ, ◌≤◌, ◌↔◌, List, ◌++◌, map, length, codes, slice_get, Option, Some, None, IsTrue}
 use Rattle.std.specs.Fmt.{decimal}
 use Rattle.dn_interval.specs.declared.row.End.{End}
 use Rattle.dn_interval.specs.declared.span.TheConstants.{TOP}
@@ -15,7 +15,7 @@ use Rattle.dn_book.specs.declared.grant.Grant.{Grant}
 use Rattle.dn_book.specs.Book.{IsFaithful, owed_names, records_of}
 use Rattle.dn_walk.specs.Ends.{end_of}
 use Rattle.dn_print.specs.Rows.{rows_text}
-use Rattle.dn_tool.specs.Found.{access_of, access_text}
+use Rattle.dn_tool.specs.Found.{access_of, access_text, agent_of, node_refused_text}
 
 -- the names that a book owes to the addresses of a node for an access, as the fewest rows
 abbrev pub owed_rows : List NodeDecl → List Grant → Access → ℕ → List Seen
@@ -47,18 +47,11 @@ view_heading text m count =
 abbrev pub viewed_text : List NodeDecl → List ℕ → Mode → List Seen → List ℕ
 viewed_text net text m rows = view_heading text m (length rows) ++ rows_text net rows
 
--- the reply to a view of what is no agent
-abbrev pub no_agent_text : List ℕ → List ℕ
-no_agent_text text = codes "view " ++ (text ++ codes " refused: NoAgent\n")
-
--- the view of a node that is an agent, and of nothing else
+-- the reply to `view` by the agent, where there is one
 abbrev pub view_by : List NodeDecl → List Grant → List ℕ → Mode → Option ℕ → List ℕ
-view_by net book text m None = no_agent_text text
-view_by net book text m (Some n) =
-    if is_agent_at (slice_get net n)
-    then viewed_text net text m (owed_rows net book (access_of m) n)
-    else no_agent_text text
+view_by net book text m None = node_refused_text (codes "view") text (codes "NoAgent")
+view_by net book text m (Some n) = viewed_text net text m (owed_rows net book (access_of m) n)
 
 -- the reply to `view`
 abbrev pub view_text : List NodeDecl → List Grant → Target → Mode → List ℕ
-view_text net book target m = view_by net book target.text m target.node
+view_text net book target m = view_by net book target.text m (agent_of net target.node)

@@ -1,6 +1,6 @@
 //! A demonstration that is run: its commands without their replies, and one line that sums up what came of them.
 
-ghost use Rattle.std.specs.Prelude.{◌≡◌, ◌+◌, ◌-◌, ◌^◌, ◌<◌, [], None, if◌then◌else◌, length, Err, IfOk, OnOk};
+ghost use Rattle.std.specs.Prelude.{◌≡◌, ◌+◌, ◌-◌, ◌^◌, ◌<◌, None, if◌then◌else◌, length, Err, IfOk, OnOk};
 ghost use Rattle.dn_net.specs.Terms.{unit_at};
 ghost use Rattle.dn_kind.specs.Terms.{kinds_of, record_held};
 ghost use Rattle.dn_flat.specs.Terms.{AreFlats};

@@ -5,7 +5,7 @@ ghost use Rattle.std.specs.List.{list_all};
 ghost use Rattle.dn_net.specs.Terms.{is_closed};
 ghost use Rattle.dn_kind.specs.Terms.{AreKinds, has_kind, kinds_of};
 ghost use Rattle.dn_print.specs.Terms.{dump_text, lines_text, net_text};
-ghost use Rattle.dn_tool.specs.Terms.{HaltsBySink, IsSaid, Writes, ending_status, is_free_status};
+ghost use Rattle.dn_tool.specs.Terms.{HaltsBySink, IsSaid, Writes, ending_status, is_free_status, node_refused_text};
 
 use crate::halt::RunHalt;
 use dn_base::sink::{Sink, WriteFault};
@@ -41,6 +41,22 @@ pub(crate) fn say<K: Sink>(sink: &mut K, output: &[u8], status: u8) -> Result<u8
 {
     write_output(sink, output)?;
     Ok(status)
+}
+
+/// Writes the reply of a command that refuses the node of this name.
+pub(crate) fn refuse_node<K: Sink>(
+    alloc: Global,
+    command: &str,
+    name: &str,
+    why: &str,
+    sink: &mut K,
+) -> Result<(), RunHalt>
+    ensures written { Writes result (K.written sink.old) (K.written sink.new)
+        (node_refused_text command.now name.now why.now) }
+    ensures halted { HaltsBySink result (K.faults sink.old) (K.faults sink.new) }
+{
+    let line = format!(in alloc; "{command} {name} refused: {why}\n")?;
+    write_output(sink, line.as_bytes())
 }
 
 /// Writes the text of an image.

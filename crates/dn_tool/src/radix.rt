@@ -1,12 +1,12 @@
 //! The reply to `radix`: the words of a unit as a tree of pages.
 
-ghost use Rattle.std.specs.Prelude.{◌≡◌, ◌/◌, ◌<◌, ◌≤◌, ◌++◌, length, IfOk, IsSome, IsTrue};
+ghost use Rattle.std.specs.Prelude.{◌≡◌, ◌/◌, ◌≤◌, ◌++◌, length, IfOk, IfSome, IsSome, IsTrue};
 ghost use Rattle.std.specs.String.{string_bytes};
 ghost use Rattle.dn_net.specs.Terms.{over_within, unit_at};
 ghost use Rattle.dn_kind.specs.Terms.{kinds_of};
 ghost use Rattle.dn_radix.specs.Terms.{built};
 ghost use Rattle.dn_print.specs.Terms.{lines_text};
-ghost use Rattle.dn_tool.specs.Terms.{HaltsBySink, IsReady, IsStill, Writes, no_unit_text, node_words, pages_heading, pool_text, radix_text, tree_text, unit_text};
+ghost use Rattle.dn_tool.specs.Terms.{HaltsBySink, IsReady, Writes, node_words, pages_heading, pool_text, tree_text, unit_of};
 
 use crate::OutOfMemory;
 use crate::halt::RunHalt;
@@ -15,7 +15,7 @@ use crate::output::{write_bytes, write_output};
 use crate::state::Session;
 use dn_base::filled::Filled;
 use dn_base::sink::Sink;
-use dn_module::command::Target;
+use dn_net::net::Net;
 use dn_radix::build::build;
 use dn_radix::fault::RadixFault;
 use std::alloc::Global;
@@ -23,90 +23,41 @@ use std::alloc::Global;
 /// The bytes of a page.
 const PAGE: usize = 4096;
 
-/// Writes the reply to `radix`: a line, and below it the tree of the unit's words, where a pool of so many
-/// pages has room for it.
-pub(crate) fn radix_reply<K: Sink>(
-    alloc: Global,
-    machine: Machine,
-    state: &mut Session,
-    target: &Target,
-    pool: u64,
-    sink: &mut K,
-) -> Result<(), RunHalt>
-    requires ready { IsReady meaning machine state.old }
-    requires there { IsTrue (over_within (length machine.on.net.now) target.now.node) }
-    ensures written { Writes result (K.written sink.old) (K.written sink.new)
-        (radix_text (kinds_of meaning machine.entry.on.kinds.now) machine.entry.on.net.now
-        state.old.book.grants target.now pool) }
-    ensures still { IsStill meaning machine.entry state.old state.new }
-    ensures halted { HaltsBySink result (K.faults sink.old) (K.faults sink.new) }
+/// A node that a command names, where it is a unit.
+pub(crate) fn unit_of(net: &Net, node: Option<u16>) -> Option<u16>
+    requires { IsTrue (over_within (length net.now) node) }
+    ensures which { result ≡ unit_of net.now node }
+    ensures unit { IfSome result (λ n. IsSome (unit_at net.now n)) }
 {
-    let text = target.text.as_str();
-    match target.node {
-        Some(node) => node_reply(alloc, machine, state, text, node, pool, sink),
-        None => refuse_node(alloc, text, sink),
+    let Some(node) = node else {
+        return None;
+    };
+    match net.unit(node) {
+        Some(_) => Some(node),
+        None => None,
     }
 }
 
-/// Writes the reply to `radix` for a node, by whether it is a unit.
-fn node_reply<K: Sink>(
+/// The words of a unit in the tables. `Err` is want of memory.
+pub(crate) fn unit_words(
     alloc: Global,
     machine: Machine,
     state: &Session,
-    text: &str,
-    node: u16,
-    pool: u64,
-    sink: &mut K,
-) -> Result<(), RunHalt>
+    unit: u16,
+) -> Result<Vec<u64>, OutOfMemory>
     requires ready { IsReady meaning machine state.now }
-    requires there { node < length machine.on.net.now }
-    ensures written { Writes result (K.written sink.old) (K.written sink.new) (unit_text text.now
-        (node_words (kinds_of meaning machine.entry.on.kinds.now) machine.entry.on.net.now
-        state.now.book.grants node) pool (unit_at machine.entry.on.net.now node)) }
-    ensures halted { HaltsBySink result (K.faults sink.old) (K.faults sink.new) }
-{
-    match machine.on.net.unit(node) {
-        Some(_) => unit_reply(alloc, machine, state, text, node, pool, sink),
-        None => refuse_node(alloc, text, sink),
-    }
-}
-
-/// Writes the reply to `radix` where no unit has the name.
-fn refuse_node<K: Sink>(alloc: Global, text: &str, sink: &mut K) -> Result<(), RunHalt>
-    ensures written { Writes result (K.written sink.old) (K.written sink.new)
-        (no_unit_text text.now) }
-    ensures halted { HaltsBySink result (K.faults sink.old) (K.faults sink.new) }
-{
-    let line = no_unit(alloc, text)?;
-    write_output(sink, line.as_bytes())
-}
-
-/// Writes the reply to `radix` for a unit.
-fn unit_reply<K: Sink>(
-    alloc: Global,
-    machine: Machine,
-    state: &Session,
-    text: &str,
-    node: u16,
-    pool: u64,
-    sink: &mut K,
-) -> Result<(), RunHalt>
-    requires ready { IsReady meaning machine state.now }
-    requires unit { IsSome (unit_at machine.on.net.now node) }
-    ensures written { Writes result (K.written sink.old) (K.written sink.new) (tree_text text.now
-        (node_words (kinds_of meaning machine.entry.on.kinds.now) machine.entry.on.net.now
-        state.now.book.grants node) (built (node_words (kinds_of
-        meaning machine.entry.on.kinds.now) machine.entry.on.net.now state.now.book.grants node)
-        pool)) }
-    ensures halted { HaltsBySink result (K.faults sink.old) (K.faults sink.new) }
+    requires unit { IsSome (unit_at machine.on.net.now unit) }
+    ensures words { IfOk result (λ v. v.items ≡ node_words (kinds_of
+        meaning machine.entry.on.kinds.now) machine.entry.on.net.now state.now.book.grants unit) }
+    ensures few { IfOk result (λ v. length v.items ≤ 1048576) }
 {
     let tables = state.book.tables();
-    let words = list_of(alloc, tables.words(node))?;
-    write_tree(alloc, text, &words, pool, sink)
+    list_of(alloc, tables.words(unit))
 }
 
-/// Writes the reply to `radix` for a unit of these words.
-fn write_tree<K: Sink>(
+/// Writes the reply to `radix` for a unit of these words: a line, and below it their tree, where a pool of so
+/// many pages has room for it.
+pub(crate) fn radix_reply<K: Sink>(
     alloc: Global,
     text: &str,
     words: &[u64],
@@ -166,11 +117,4 @@ fn pool_line(alloc: Global, text: &str, need: u32) -> Result<String, OutOfMemory
     ensures { IfOk result (λ s. string_bytes s ≡ pool_text text.now need) }
 {
     format!(in alloc; "radix {text} refused: Pool {need}\n")
-}
-
-/// The reply where no unit has the name.
-fn no_unit(alloc: Global, text: &str) -> Result<String, OutOfMemory>
-    ensures { IfOk result (λ s. string_bytes s ≡ no_unit_text text.now) }
-{
-    format!(in alloc; "radix {text} refused: NoUnit\n")
 }

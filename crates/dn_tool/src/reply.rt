@@ -1,8 +1,7 @@
 //! The replies to the commands that change nothing, as they are printed.
 
-ghost use Rattle.std.specs.Prelude.{◌≡◌, ◌<◌, List, None, Ok, false, length, map, slice_get, IfOk, IfSome, IsTrue};
+ghost use Rattle.std.specs.Prelude.{◌≡◌, ◌<◌, None, Ok, false, length, map, slice_get, IfOk, IfSome, IsTrue};
 ghost use Rattle.std.specs.String.{string_bytes};
-ghost use Rattle.dn_net.specs.declared.node.Name.{Name as NamePart};
 ghost use Rattle.dn_net.specs.Terms.{IsLegalNet, is_agent_at, over_within};
 ghost use Rattle.dn_kind.specs.Terms.{Held, are_there, kinds_of};
 ghost use Rattle.dn_flat.specs.Terms.{AreFlats};
@@ -10,12 +9,11 @@ ghost use Rattle.dn_view.specs.Terms.{AreViewed};
 ghost use Rattle.dn_module.specs.Terms.{names_within};
 ghost use Rattle.dn_interval.specs.Terms.{ends_within, seen_view};
 ghost use Rattle.dn_print.specs.Terms.{names_text};
-ghost use Rattle.dn_tool.specs.Terms.{HaltsBySink, IsFirstView, IsMachine, IsReady, IsStill, Writes, access_of, access_text, agent_of, asked_text, found_text, is_change, is_pieced, names_under, no_agent_text, owed_rows, reply, view_heading, view_text, viewed_text};
+ghost use Rattle.dn_tool.specs.Terms.{HaltsBySink, IsFirstView, IsReady, IsStill, Writes, access_of, access_text, agent_of, asked_text, found_text, is_change, is_pieced, names_under, owed_rows, reply, view_heading, viewed_text};
 
 use crate::halt::RunHalt;
 use crate::lines::write_rows;
 use crate::machine::Machine;
-use crate::output::write_output;
 use crate::state::{FirstView, Session, keep_first, keep_flats, kept_flats};
 use crate::{OutOfMemory, reshape};
 use dn_base::sink::Sink;
@@ -149,10 +147,11 @@ fn asked_reply(
 }
 
 /// A node that a command names, where it is an agent.
-fn agent_of(net: &Net, node: Option<u16>) -> Option<u16>
+pub(crate) fn agent_of(net: &Net, node: Option<u16>) -> Option<u16>
     requires { IsTrue (over_within (length net.now) node) }
-    ensures agent { result ≡ agent_of net.now node }
+    ensures which { result ≡ agent_of net.now node }
     ensures there { IsTrue (over_within (length net.now) result) }
+    ensures agent { IfSome result (λ n. IsTrue (is_agent_at (slice_get net.now n))) }
 {
     match node {
         Some(node) if is_agent(net, node) => Some(node),
@@ -212,34 +211,6 @@ fn few_names(
     resolve_few(alloc, machine.on, tables, name, access)
 }
 
-/// Writes the reply to `view`: a line, and below it a line for each row.
-pub(crate) fn view_reply<K: Sink>(
-    alloc: Global,
-    machine: Machine,
-    state: &mut Session,
-    target: &Target,
-    mode: Mode,
-    sink: &mut K,
-) -> Result<(), RunHalt>
-    requires ready { IsReady meaning machine state.old }
-    requires there { IsTrue (over_within (length machine.on.net.now) target.now.node) }
-    ensures written { Writes result (K.written sink.old) (K.written sink.new)
-        (view_text machine.entry.on.net.now state.old.book.grants target.now mode) }
-    ensures still { IsStill meaning machine.entry state.old state.new }
-    ensures halted { HaltsBySink result (K.faults sink.old) (K.faults sink.new) }
-{
-    let text = target.text.as_str();
-    match target.node {
-        Some(node) if is_agent(machine.on.net, node) => {
-            agent_view(alloc, machine, state, text, mode, node, sink)
-        }
-        _ => {
-            let line = no_agent(alloc, text)?;
-            write_output(sink, line.as_bytes())
-        }
-    }
-}
-
 /// Whether a node is an agent.
 fn is_agent(net: &Net, node: u16) -> bool
     requires { node < length net.now }
@@ -248,17 +219,10 @@ fn is_agent(net: &Net, node: u16) -> bool
     net.role(node) == Role::Agent
 }
 
-/// The reply to a view of what is no agent.
-fn no_agent(alloc: Global, text: &str) -> Result<String, OutOfMemory>
-    ensures { IfOk result (λ s. string_bytes s ≡ no_agent_text text.now) }
-{
-    format!(in alloc; "view {text} refused: NoAgent\n")
-}
-
-/// Writes what an agent sees under the tables, below a heading with this text, the access and the number of
-/// rows. What all nodes reach is made once, and only where the agent reaches a unit, or is not the first
+/// Writes the reply to `view` for an agent: what it sees under the tables, below a heading with this text, the
+/// access and the number of rows. What all nodes reach is made once, and only where the agent reaches a unit, or is not the first
 /// one whose view is asked for. One that is known to see what the first sees is lent its rows.
-fn agent_view<K: Sink>(
+pub(crate) fn view_reply<K: Sink>(
     alloc: Global,
     machine: Machine,
     state: &mut Session,

@@ -1,20 +1,21 @@
 //! A script that is run: its commands are answered in order, over units that were made.
 
-ghost use Rattle.std.specs.Prelude.{◌≡◌, [], false, length, Err, IfOk, IsTrue, OnOk};
+ghost use Rattle.std.specs.Prelude.{◌≡◌, false, length, Err, IfOk, IsTrue, OnOk};
 ghost use Rattle.std.specs.List.{list_all};
 ghost use Rattle.dn_kind.specs.Terms.{kinds_of};
 ghost use Rattle.dn_image.specs.Terms.{image};
 ghost use Rattle.dn_book.specs.Terms.{tables_of};
 ghost use Rattle.dn_print.specs.Terms.{dump_text};
 ghost use Rattle.dn_module.specs.Terms.{names_within};
-ghost use Rattle.dn_tool.specs.Terms.{CameThrough, HaltsByEither, HaltsBySink, IsPlayedOn, IsReady, IsReadyOn, IsStill, IsStopped, IsTurn, Writes, ending_status, is_change, is_pieced, reply, start, state_view};
+ghost use Rattle.dn_tool.specs.Terms.{CameThrough, HaltsByEither, HaltsBySink, IsPlayedOn, IsReady, IsReadyOn, IsStill, IsStopped, IsTurn, Writes, ending_status, is_change, reply, start, state_view};
 
 use crate::change::change;
 use crate::halt::RunHalt;
 use crate::machine::Machine;
-use crate::output::{write_dump, write_output};
-use crate::radix::radix_reply;
+use crate::output::{refuse_node, write_dump, write_output};
+use crate::radix::{radix_reply, unit_of, unit_words};
 use crate::reply;
+use crate::reply::{agent_of, view_reply};
 use crate::state::{Session, keep_image};
 use dn_base::device::Tables;
 use dn_base::sink::Sink;
@@ -82,11 +83,6 @@ fn answer<K: Sink, D: Tables>(
             let text = change(alloc, machine, state, command, device)?;
             write_output(sink, text.as_slice())
         }
-        Command::Dump => dump(alloc, machine, state, sink),
-        Command::View(target, mode) => {
-            reply::view_reply(alloc, machine, state, target, *mode, sink)
-        }
-        Command::Radix { node, pool } => radix_reply(alloc, machine, state, node, *pool, sink),
         _ => answer_still(alloc, machine, state, command, sink),
     }
 }
@@ -101,7 +97,6 @@ fn answer_still<K: Sink>(
 ) -> Result<(), RunHalt>
     requires known { IsTrue (names_within (length machine.on.net.now) command.now) }
     requires ready { IsReady meaning machine state.old }
-    requires whole { is_pieced command.now ≡ false }
     requires no_change { is_change command.now ≡ false }
     ensures written { Writes result (K.written sink.old)
         (K.written sink.new) (reply (kinds_of meaning machine.entry.on.kinds.now)
@@ -109,8 +104,30 @@ fn answer_still<K: Sink>(
     ensures still { IsStill meaning machine.entry state.old state.new }
     ensures halted { HaltsBySink result (K.faults sink.old) (K.faults sink.new) }
 {
-    let text = reply::reply(alloc, machine, state, command)?;
-    write_output(sink, text.as_slice())
+    match command {
+        Command::Dump => dump(alloc, machine, state, sink),
+        Command::View(target, mode) => {
+            let text = target.text.as_str();
+            match agent_of(machine.on.net, target.node) {
+                Some(agent) => view_reply(alloc, machine, state, text, *mode, agent, sink),
+                None => refuse_node(alloc, "view", text, "NoAgent", sink),
+            }
+        }
+        Command::Radix { node, pool } => {
+            let text = node.text.as_str();
+            match unit_of(machine.on.net, node.node) {
+                Some(unit) => {
+                    let words = unit_words(alloc, machine, state, unit)?;
+                    radix_reply(alloc, text, &words, *pool, sink)
+                }
+                None => refuse_node(alloc, "radix", text, "NoUnit", sink),
+            }
+        }
+        _ => {
+            let text = reply::reply(alloc, machine, state, command)?;
+            write_output(sink, text.as_slice())
+        }
+    }
 }
 
 /// Writes the reply to `dump`: the image of the present tables.

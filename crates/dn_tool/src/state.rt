@@ -1,6 +1,6 @@
 //! What is kept of a script while its commands are answered.
 
-ghost use Rattle.std.specs.Prelude.{◌≡◌, ◌^◌, ◌<◌, [], true, is_ok, length, IfOk, IfSome, IsSome, OnOk, Some};
+ghost use Rattle.std.specs.Prelude.{◌≡◌, ◌<◌, [], true, is_ok, length, IfOk, IfSome, IsSome, OnOk, Some};
 ghost use Rattle.dn_base.specs.Terms.{IsCounted, is_device_fault};
 ghost use Rattle.dn_kind.specs.Terms.{kinds_of};
 ghost use Rattle.dn_flat.specs.Terms.{AreFlats};

@@ -1,6 +1,6 @@
 use Rattle.std.proofs.Common.{rules, ◌≡◌, ◌∙◌, sym, subst, ℕ, List, IfSome}
 use Rattle.std.specs.String.{string_bytes}
-use Rattle.dn_image.specs.Reading.{BrokenImage, image_fault_view}
+use Rattle.dn_image.specs.Reading.{image_fault_view}
 use Rattle.dn_tool.specs.Answer.{IsSaid}
 use Rattle.dn_tool.specs.Audited.{broken_line}
 use Rattle.dn_tool.specs.Halt.{ending_status}

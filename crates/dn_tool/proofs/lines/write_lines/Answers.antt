@@ -1,5 +1,5 @@
 -- Some lines more, or a stop before them or in them.
-use Rattle.std.proofs.Common.{rules, ◌≡◌, ◌∙◌, ◌++◌, [], ap, sym, subst, refl, length, List, ℕ, Bool, IsTrue}
+use Rattle.std.proofs.Common.{rules, ◌≡◌, ◌∙◌, [], ap, sym, subst, refl, length, IsTrue}
 use Rattle.std.specs.List.{flat_map, list_all}
 use Rattle.dn_base.proofs.Counts.{counted_none, counted_then}
 use Rattle.dn_base.proofs.Lists.{nil_from_length}

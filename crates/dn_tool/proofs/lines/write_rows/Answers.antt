@@ -1,5 +1,5 @@
 -- The heading, and then the rows.
-use Rattle.std.proofs.Common.{rules, ◌≡◌, ◌∙◌, ◌++◌, ap, sym, subst, refl, false, is_ok, map, List, ℕ}
+use Rattle.std.proofs.Common.{rules, ◌++◌, sym, subst, refl, is_ok, map, List, ℕ}
 use Rattle.dn_base.specs.Outside.{IsWritten}
 use Rattle.dn_interval.specs.Listed.{seen_view}
 use Rattle.dn_print.specs.Rows.{rows_text}

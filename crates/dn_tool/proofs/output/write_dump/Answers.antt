@@ -1,6 +1,6 @@
 -- The heading, and the bytes below it.
-use Rattle.std.proofs.Common.{rules, ◌≡◌, ◌∙◌, ◌++◌, ap, subst, length, List, ℕ}
-use Rattle.dn_print.specs.Dump.{dump_text, heading_text, lines_text}
+use Rattle.std.proofs.Common.{rules, ◌≡◌, ◌++◌, subst, length, List, ℕ}
+use Rattle.dn_print.specs.Dump.{heading_text, lines_text}
 use Rattle.dn_tool.specs.Halt.{Writes}
 use Rattle.dn_tool.proofs.output.write_dump.Goals as goal
 

@@ -1,5 +1,5 @@
 -- The heading, and below it the rows.
-use Rattle.std.proofs.Common.{rules, ◌≡◌, ◌∙◌, ◌++◌, ap, sym, subst, refl, is_ok, map, length, List, ℕ}
+use Rattle.std.proofs.Common.{◌≡◌, ◌∙◌, ◌++◌, ap, sym, subst, is_ok, map, length, List, ℕ}
 use Rattle.std.proofs.lemmas.List.{length-map}
 use Rattle.dn_base.specs.Outside.{IsWritten}
 use Rattle.dn_interval.specs.Listed.{seen_view}

@@ -1,14 +1,14 @@
 -- The parts of the text one after the other, or a stop in one of them.
-use Rattle.std.proofs.Common.{rules, ◌≡◌, ◌∙◌, ◌++◌, ap, sym, subst, refl, map, is_ok, List, ℕ}
+use Rattle.std.proofs.Common.{rules, ◌∙◌, ◌++◌, sym, subst, refl, map, List, ℕ}
 use Rattle.std.specs.List.{flat_map}
 use Rattle.std.proofs.lemmas.List.Folds.{flat_map-map}
-use Rattle.dn_base.specs.Outside.{Added, IsWritten}
+use Rattle.dn_base.specs.Outside.{Added}
 use Rattle.dn_audit.specs.declared.report.Seen.{Seen}
 use Rattle.dn_audit.specs.declared.report.Shared.{Shared}
 use Rattle.dn_audit.specs.declared.report.Shut.{Shut}
 use Rattle.dn_audit.specs.Text.{audit_heading, seen_text, shared_text, shut_text}
 use Rattle.dn_audit.specs.Told.{report_told, seen_told, shared_told}
-use Rattle.dn_tool.specs.Halt.{Writes, is_write_halt}
+use Rattle.dn_tool.specs.Halt.{Writes}
 use Rattle.dn_tool.proofs.Written.{stopped_first, then_written}
 use Rattle.dn_tool.proofs.report.write_report.Given.{Over}
 use Rattle.dn_tool.proofs.report.write_report.Goals.{In_ok-write_output, In_ok-write_views}

@@ -1,14 +1,13 @@
-use Rattle.std.proofs.Common.{rules, ◌≡◌, sym, subst, refl, List, ℕ, Bool, Err, false}
+use Rattle.std.proofs.Common.{rules, ◌≡◌, sym, subst, List, ℕ, Bool, Err, false}
 use Rattle.dn_base.specs.Outside.{IsCounted}
 use Rattle.dn_base.proofs.Counts.{counted_none}
 use Rattle.dn_kind.specs.Kind.{Meaning}
 use Rattle.dn_kind.specs.Kinded.{kinds_of}
 use Rattle.dn_tables.specs.Set.{IsOnDevice}
 use Rattle.dn_book.specs.State.{BookState}
-use Rattle.dn_module.specs.declared.command.Command.TheVariants.{Dump, Radix, View}
 use Rattle.dn_tool.specs.State.{IsChanged, state_view}
 use Rattle.dn_tool.specs.Turn.{IsTurn, State, Turn, is_change}
-use Rattle.dn_tool.proofs.Changes.{change_halted, on_ok, replied, state_kept, still_said, still_through}
+use Rattle.dn_tool.proofs.Changes.{change_halted, on_ok, replied, state_kept, still_through}
 use Rattle.dn_tool.proofs.Stopped.{handed_on, not_stopped}
 use Rattle.dn_tool.proofs.script.answer.Goals as goal
 
@@ -26,36 +25,12 @@ returns-in_err-text-in-Grant-clause-caught g c fault =
 pub returns-in_ok-text-in-Grant-clause-caught : goal.returns-in_ok-text-in-Grant-clause-caught
 returns-in_ok-text-in-Grant-clause-caught g c = not_stopped c.write_output.result _ c.write_output.ensures.halted.no_device
 
-pub returns-in-Dump-clause-caught : goal.returns-in-Dump-clause-caught
-returns-in-Dump-clause-caught g c = not_stopped c.dump.result _ c.dump.ensures.halted.no_device
-
-pub returns-in-View-clause-caught : goal.returns-in-View-clause-caught
-returns-in-View-clause-caught g c = not_stopped c.view_reply.result _ c.view_reply.ensures.halted.no_device
-
-pub returns-in-Radix-clause-caught : goal.returns-in-Radix-clause-caught
-returns-in-Radix-clause-caught g c = not_stopped c.radix_reply.result _ c.radix_reply.ensures.halted.no_device
-
 pub returns-in_ok-text-in-Grant-clause-through : goal.returns-in_ok-text-in-Grant-clause-through
 returns-in_ok-text-in-Grant-clause-through g c =
     let kinds : List Meaning = kinds_of (λ k. (goal.UnitKind-dyn g k).meaning k.1) c.args.machine.on.kinds.now in
     let P : Turn → Type 0 = IsTurn kinds c.args.machine.on.net.now (state_view c.args.state.now) c.args.command.now in
     let changed : IsChanged P (state_view c.change.new.state) c.as_slice.result.now (g.D.Tables.log c.args.device.now) (g.D.Tables.log c.change.new.device) = subst (λ (t : List ℕ). IsChanged P (state_view c.change.new.state) t (g.D.Tables.log c.args.device.now) (g.D.Tables.log c.change.new.device)) (sym c.as_slice.ensures) c.in_ok-text-in-Grant.ensures.changed in
     replied P c.write_output.result (state_view c.change.new.state) c.as_slice.result.now (g.K.Sink.written c.args.sink.now) (g.K.Sink.written c.write_output.new.sink) _ _ changed c.write_output.ensures.written c.write_output.ensures.halted.no_device
-
-pub returns-in-Dump-clause-through : goal.returns-in-Dump-clause-through
-returns-in-Dump-clause-through g c =
-    let kinds : List Meaning = kinds_of (λ k. (goal.UnitKind-dyn g k).meaning k.1) c.args.machine.on.kinds.now in
-    still_said kinds c.args.machine.on.net.now (state_view c.args.state.now) (state_view c.dump.new.state) c.args.command.now Dump c.dump.result _ _ _ c.in-Dump.is refl (state_kept c.args.state.now c.dump.new.state c.dump.ensures.still.book c.dump.ensures.still.ids) c.dump.ensures.written c.dump.ensures.halted.no_device
-
-pub returns-in-View-clause-through : goal.returns-in-View-clause-through
-returns-in-View-clause-through g c =
-    let kinds : List Meaning = kinds_of (λ k. (goal.UnitKind-dyn g k).meaning k.1) c.args.machine.on.kinds.now in
-    still_said kinds c.args.machine.on.net.now (state_view c.args.state.now) (state_view c.view_reply.new.state) c.args.command.now (View c.in-View.target c.in-View.mode) c.view_reply.result _ _ _ c.in-View.is refl (state_kept c.args.state.now c.view_reply.new.state c.view_reply.ensures.still.book c.view_reply.ensures.still.ids) c.view_reply.ensures.written c.view_reply.ensures.halted.no_device
-
-pub returns-in-Radix-clause-through : goal.returns-in-Radix-clause-through
-returns-in-Radix-clause-through g c =
-    let kinds : List Meaning = kinds_of (λ k. (goal.UnitKind-dyn g k).meaning k.1) c.args.machine.on.kinds.now in
-    still_said kinds c.args.machine.on.net.now (state_view c.args.state.now) (state_view c.radix_reply.new.state) c.args.command.now (Radix c.in-Radix.node c.in-Radix.pool) c.radix_reply.result _ _ _ c.in-Radix.is refl (state_kept c.args.state.now c.radix_reply.new.state c.radix_reply.ensures.still.book c.radix_reply.ensures.still.ids) c.radix_reply.ensures.written c.radix_reply.ensures.halted.no_device
 
 pub returns-in_default : goal.returns-in_default
 returns-in_default g c =
