@@ -13,13 +13,21 @@ use Rattle.dn_book.specs.Book.{without_id}
 use Rattle.dn_book.proofs.Faithful.{empty_book_is_faithful, grant_keeps_book, revoke_keeps_book}
 use Rattle.dn_grant.specs.Grant.{IsPlaced, grant_of_request}
 use Rattle.dn_grant.proofs.Allowed.{allowed_grant}
+use Rattle.dn_kind.specs.declared.rights.Rights.{Rights}
+use Rattle.dn_gather.specs.Gather.{IsScattered, grants_of}
+use Rattle.dn_gather.specs.declared.piece.Piece.{Piece}
+use Rattle.dn_gather.specs.declared.scatter.Scatter.{Scatter}
+use Rattle.dn_gather.proofs.Allowed.{scattered_grants}
+use Rattle.dn_gather.proofs.Coming.{pieces_keep_book}
 use Rattle.dn_vector.specs.Route.{IsPlacedRoute, grant_of_route}
 use Rattle.dn_vector.proofs.Allowed.{allowed_route}
 use Rattle.dn_module.specs.declared.command.Command.{Command}
-use Rattle.dn_module.specs.declared.command.Command.TheVariants.{Resolve, Lookup, View, Grant, Route, Revoke, Dump, Split, Absorb, Radix}
+use Rattle.dn_module.specs.declared.command.PieceTarget.{PieceTarget}
+use Rattle.dn_module.specs.declared.command.Command.TheVariants.{Resolve, Lookup, View, Grant, Route, Revoke, Dump, Split, Absorb, Radix, Gather}
+use Rattle.dn_tool.specs.Asked.{number_or_none, numbered, request_of, rights_of}
 use Rattle.dn_tool.specs.Books.{BooksStayFaithful, IsKeptFaithful}
 use Rattle.dn_tool.specs.Ids.{id_number}
-use Rattle.dn_tool.specs.Turn.{AreTurns, IsGrantTurn, IsRevokeTurn, IsRouteTurn, IsTurn, State, Turn, request_of, rights_of, number_or_none, start, state_after}
+use Rattle.dn_tool.specs.Turn.{AreTurns, IsGatherTurn, IsGrantTurn, IsRevokeTurn, IsRouteTurn, IsTurn, State, Turn, start, state_after}
 
 -- a grant asks for rights
 pub rights_there : (m : Mode) → IsTrue (are_rights (rights_of m))
@@ -42,6 +50,12 @@ placed_route_keeps net book id agent line node v p legal b placed =
     let keeps = grant_keeps_book net book (grant_of_route id agent node v p) legal b.sound (allowed_route net book id agent line node v p placed.allowed placed.placed) in
     record { sound = keeps.0; faithful = keeps.1 b.faithful placed.placed.first.suited.admissible }
 
+-- so do the grants of pieces at a scattered placement that is admissible as a whole
+pub pieces_keep : (net : List NodeDecl) (book : List GrantPart) (agent : ℕ) (rights : Rights) (ps : List Piece) (place : Scatter) → IsLegalNet net → IsTrue (are_rights rights) → IsKeptFaithful net book → IsScattered net book agent rights ps place → IsKeptFaithful net (book ++ grants_of agent rights ps place)
+pieces_keep net book agent rights ps place legal allowed b placed =
+    let keeps = pieces_keep_book net book agent rights place.unit place.v ps place.hops legal b.sound (scattered_grants net book agent rights ps place allowed placed) in
+    record { sound = keeps.0; faithful = keeps.1 b.faithful placed.first.suited.are_admissible }
+
 -- and taking a grant out
 pub without_keeps : (net : List NodeDecl) (book : List GrantPart) (id : ℕ) → IsLegalNet net → IsKeptFaithful net book → IsKeptFaithful net (without_id id book)
 without_keeps net book id legal b =
@@ -63,6 +77,11 @@ revoke_keeps : (kinds : List Meaning) (net : List NodeDecl) (s : State) (id : Li
 revoke_keeps kinds net s id t legal b (inl g) = along net t _ g.is_turn (without_keeps net s.book (id_number s.ids id) legal b)
 revoke_keeps kinds net s id t legal b (inr r) = along net t _ r.is_turn b
 
+-- and that of a gather
+gather_keeps : (kinds : List Meaning) (net : List NodeDecl) (s : State) (agent : ℕ) (rights : Rights) (pieces : List PieceTarget) (t : Turn) → IsLegalNet net → IsTrue (are_rights rights) → IsKeptFaithful net s.book → IsGatherTurn kinds net s agent rights pieces t → IsKeptFaithful net t.next.book
+gather_keeps kinds net s agent rights pieces t legal allowed b (inl g) = along net t _ g.is_turn (pieces_keep net s.book agent rights (numbered s.ids pieces) g.place legal allowed b g.placed)
+gather_keeps kinds net s agent rights pieces t legal allowed b (inr r) = along net t _ r.is_turn b
+
 -- each turn keeps the book
 pub turn_keeps : (kinds : List Meaning) (net : List NodeDecl) (s : State) (c : Command) (t : Turn) → IsLegalNet net → IsKeptFaithful net s.book → IsTurn kinds net s c t → IsKeptFaithful net t.next.book
 turn_keeps kinds net s (Grant id from target base size m) t legal b is = grant_keeps kinds net s id (request_of from target base size m) t legal (rights_there m) b is
@@ -75,6 +94,7 @@ turn_keeps kinds net s Dump t legal b is = along net t _ is b
 turn_keeps kinds net s Split t legal b is = along net t _ is b
 turn_keeps kinds net s (Absorb target) t legal b is = along net t _ is b
 turn_keeps kinds net s (Radix target pool) t legal b is = along net t _ is b
+turn_keeps kinds net s (Gather from pieces m) t legal b is = gather_keeps kinds net s (number_or_none from.node) (rights_of m) pieces t legal (rights_there m) b is
 
 turns_keep : (kinds : List Meaning) (net : List NodeDecl) (s : State) (cs : List Command) (ts : List Turn) → IsLegalNet net → IsKeptFaithful net s.book → AreTurns kinds net s cs ts → (count : ℕ) → IsKeptFaithful net (state_after s (take count ts)).book
 turns_keep kinds net s cs ts legal b h zero = b

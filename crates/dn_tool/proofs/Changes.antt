@@ -1,13 +1,13 @@
--- From what grants, routes and revokes say to the turns of a script.
+-- From what grants, routes, gathers and revokes say to the turns of a script.
 use Rattle.std.specs.Option.{IfSome, option_map}
-use Rattle.std.proofs.Common.{◌≡◌, ◌≢◌, ◌∙◌, ap, sym, subst, refl, arith, ◌<◌, ◌⊎◌, inl, inr, Bool, true, false, List, [], ◌∷◌, take, length, Option, IsSome, Some, None, Result, Ok, Err, is_ok, OnOk, ◌==◌, ◌||◌, eqb-true, ℕ}
+use Rattle.std.proofs.Common.{◌≡◌, ◌≢◌, ◌∙◌, ap, sym, subst, refl, arith, ℕ, suc, ◌≤◌, ◌<◌, ◌⊎◌, inl, inr, Bool, true, false, List, [], ◌∷◌, take, length, Option, IsSome, Some, None, Result, Ok, Err, is_ok, OnOk, ◌==◌, ◌||◌, IsTrue, nat_le, eqb-true, leb-true}
 use Rattle.std.proofs.Math.Seq.{take-length}
 use Rattle.dn_base.specs.declared.device.TableEvent.{TableEvent}
 use Rattle.dn_base.specs.Device.{Logged}
 use Rattle.dn_base.specs.Outside.{Added, IsWritten}
 use Rattle.dn_base.proofs.Logs.{Logged-none}
 use Rattle.dn_base.proofs.Told.{Added-none}
-use Rattle.dn_base.proofs.Booleans.{true_from_ne_false}
+use Rattle.dn_base.proofs.Booleans.{and_parts, true_from_ne_false}
 use Rattle.dn_net.specs.declared.node.NodeDecl.{NodeDecl}
 use Rattle.dn_net.specs.Chain.{Member}
 use Rattle.dn_kind.specs.Kind.{Meaning}
@@ -22,6 +22,19 @@ use Rattle.dn_grant.specs.declared.fault.GrantFault.TheVariants as grant_fault
 use Rattle.dn_grant.specs.Faults.{grant_answer_view, grant_fault_view}
 use Rattle.dn_grant.specs.Grant.{IsGrantLogged, IsGrantMade, IsGrantOutcome, IsGrantRefused, grant_of_request}
 use Rattle.dn_grant.specs.Refusal.{GrantRefusal}
+use Rattle.dn_kind.specs.declared.rights.Rights.{Rights}
+use Rattle.dn_gather.specs.declared.fault.GatherFault.{GatherFault}
+use Rattle.dn_gather.specs.declared.fault.GatherFault.TheVariants as gather_fault
+use Rattle.dn_gather.specs.declared.piece.Piece.{Piece}
+use Rattle.dn_gather.specs.declared.scatter.Scatter.{Scatter}
+use Rattle.dn_gather.specs.Faults.{gather_answer_view, gather_fault_view}
+use Rattle.dn_gather.specs.Gather.{IsGatherLogged, IsGatherMade, IsGatherOutcome, grants_of}
+use Rattle.dn_gather.specs.Grants.{gather_events, grants_at}
+use Rattle.dn_gather.specs.Scattered.{ArePlaced}
+use Rattle.dn_tables.specs.declared.placement.Hop.{Hop}
+use Rattle.dn_placement.specs.Slots.{Slots}
+use Rattle.dn_gather.specs.Refusal.{GatherRefusal}
+use Rattle.dn_gather.proofs.Chosen.{first_scatter_is_one}
 use Rattle.dn_vector.specs.declared.fault.RouteFault.{RouteFault}
 use Rattle.dn_vector.specs.declared.fault.RouteFault.TheVariants as route_fault
 use Rattle.dn_vector.specs.Faults.{route_answer_view, route_fault_view}
@@ -35,16 +48,21 @@ use Rattle.dn_flat.specs.Levels.{AreFlats}
 use Rattle.dn_image.specs.Image.{image}
 use Rattle.dn_tables.specs.Set.{words_of}
 use Rattle.dn_module.specs.declared.command.Command.{Command}
-use Rattle.dn_module.specs.declared.command.Command.TheVariants.{Resolve, Lookup, View, Grant as GrantOf, Route, Revoke, Dump, Split, Absorb, Radix}
+use Rattle.dn_module.specs.declared.command.PieceTarget.{PieceTarget}
+use Rattle.dn_module.specs.declared.command.Target.{Target}
+use Rattle.dn_module.specs.Commands.{has_few_pieces, names_within, nodes_within}
+use Rattle.dn_parse.specs.declared.syntax.Mode.{Mode}
+use Rattle.dn_module.specs.declared.command.Command.TheVariants.{Resolve, Lookup, View, Grant as GrantOf, Route, Revoke, Dump, Split, Absorb, Radix, Gather}
 use Rattle.dn_tool.specs.declared.state.Session.{Session as Kept}
 use Rattle.dn_tool.specs.declared.halt.RunHalt.{RunHalt}
 use Rattle.dn_tool.specs.declared.halt.RunHalt.TheVariants.{WriteFault, DeviceFault, NoMemory}
-use Rattle.dn_tool.specs.Changed.{grant_refused_text, granted_text, revoke_refused_text, revoked_text, route_refused_text, routed_text}
+use Rattle.dn_tool.specs.Asked.{numbered, with_ids}
+use Rattle.dn_tool.specs.Changed.{gather_refused_text, gathered_text, grant_refused_text, granted_text, revoke_refused_text, revoked_text, route_refused_text, routed_text}
 use Rattle.dn_tool.specs.Halt.{ending_status, is_device_halt, is_write_halt}
 use Rattle.dn_tool.specs.Ids.{id_number, with_id}
 use Rattle.dn_tool.specs.Played.{CameIn}
 use Rattle.dn_tool.specs.State.{CameThrough, CameThroughChange, IsChanged, IsFirstView, IsHalted, IsState, state_view}
-use Rattle.dn_tool.specs.Turn.{IsGrantTurn, IsRevokeTurn, IsRouteTurn, IsTurn, State, Turn, is_change, reply, reply_turn, state_with_id, turn_with_grant}
+use Rattle.dn_tool.specs.Turn.{IsGatherTurn, IsGrantTurn, IsRevokeTurn, IsRouteTurn, IsTurn, State, Turn, cleared_after, is_change, reply, reply_turn, state_with_id, state_with_ids, turn_with_grant, turn_with_grants}
 use Rattle.dn_tool.specs.Unmade.{AreUnmade}
 
 -- all events were added
@@ -110,10 +128,10 @@ pub grant_stopped : (kinds : List Meaning) (net : List NodeDecl) (s next : State
 grant_stopped kinds net s next id rq r log log' words' e logged =
     stopped_inside (IsGrantTurn kinds net s id rq) (turn_with_grant net kinds s id (grant_of_request (id_number s.ids id) rq logged.place) (granted_text id logged.place.v)) r next log log' e (inl (record { place = logged.place; placed = logged.placed; is_turn = refl })) logged.added
 
--- the turn of a refusal, whose reply is this text
-refused_turn : (P : Turn → Type 0) (s next : State) (id own text : List ℕ) (log log' : Option (List TableEvent)) → P (reply_turn own (state_with_id s id)) → text ≡ own → log' ≡ log → state_with_id s id ≡ next → IsChanged P next text log log'
-refused_turn P s next id own text log log' turn is same left = record {
-  turn = reply_turn own (state_with_id s id);
+-- the turn of a refusal that leaves this state, whose reply is this text
+refused_turn : (P : Turn → Type 0) (after next : State) (own text : List ℕ) (log log' : Option (List TableEvent)) → P (reply_turn own after) → text ≡ own → log' ≡ log → after ≡ next → IsChanged P next text log log'
+refused_turn P after next own text log log' turn is same left = record {
+  turn = reply_turn own after;
   is_turn = turn;
   logged = Logged-none log log' same;
   replied = sym is;
@@ -121,9 +139,9 @@ refused_turn P s next id own text log log' turn is same left = record {
 }
 
 -- the same of the refusal that a fault says
-refused_as : {W : Type 0} (P : Turn → Type 0) (s next : State) (id text : List ℕ) (say : W → List ℕ) (said : Option W) (log log' : Option (List TableEvent)) → IsSome said → IfSome said (λ why. P (reply_turn (say why) (state_with_id s id))) → IfSome said (λ why. text ≡ say why) → log' ≡ log → state_with_id s id ≡ next → IsChanged P next text log log'
-refused_as P s next id text say None log log' some turn is same left = cc
-refused_as P s next id text say (Some why) log log' some turn is same left = refused_turn P s next id (say why) text log log' turn is same left
+refused_as : {W : Type 0} (P : Turn → Type 0) (after next : State) (text : List ℕ) (say : W → List ℕ) (said : Option W) (log log' : Option (List TableEvent)) → IsSome said → IfSome said (λ why. P (reply_turn (say why) after)) → IfSome said (λ why. text ≡ say why) → log' ≡ log → after ≡ next → IsChanged P next text log log'
+refused_as P after next text say None log log' some turn is same left = cc
+refused_as P after next text say (Some why) log log' some turn is same left = refused_turn P after next (say why) text log log' turn is same left
 
 -- faults that differ are answers that differ
 pub err_differs : {A E : Type 0} (e f : E) → e ≢ f → ◌≢◌ {A = Result A E} (Err e) (Err f)
@@ -138,7 +156,7 @@ grant_told _ d m = refl
 -- a grant that was refused, under the number of its id, as its fault says
 pub not_granted_turn : (kinds : List Meaning) (net : List NodeDecl) (s next : State) (id : List ℕ) (rq : Request) (n : ℕ) (fault : GrantFault) (book : List Grant) (text : List ℕ) (log log' : Option (List TableEvent)) → fault ≢ grant_fault.Device → fault ≢ grant_fault.OutOfMemory → n ≡ id_number s.ids id → IsGrantOutcome net s.book n rq (grant_answer_view (Err fault)) book → IfSome (grant_fault_view fault) (λ why. text ≡ grant_refused_text id why) → log' ≡ log → state_with_id s id ≡ next → IsChanged (IsGrantTurn kinds net s id rq) next text log log'
 not_granted_turn kinds net s next id rq n fault book text log log' d m number outcome told same left =
-    refused_as (IsGrantTurn kinds net s id rq) s next id text (grant_refused_text id) (grant_fault_view fault) log log' (grant_told fault d m) (turns (grant_fault_view fault) outcome) told same left
+    refused_as (IsGrantTurn kinds net s id rq) (state_with_id s id) next text (grant_refused_text id) (grant_fault_view fault) log log' (grant_told fault d m) (turns (grant_fault_view fault) outcome) told same left
   where
     turns : (o : Option GrantRefusal) → IsGrantOutcome net s.book n rq (option_map (λ w. Err w) o) book → IfSome o (λ why. IsGrantTurn kinds net s id rq (reply_turn (grant_refused_text id why) (state_with_id s id)))
     turns None o = tt
@@ -193,11 +211,61 @@ route_told _ d m = refl
 -- a route that was refused, under the number of its id, as its fault says
 pub not_routed_turn : (kinds : List Meaning) (net : List NodeDecl) (s next : State) (id : List ℕ) (agent line node : ℕ) (n : ℕ) (fault : RouteFault) (book : List Grant) (text : List ℕ) (log log' : Option (List TableEvent)) → fault ≢ route_fault.Device → fault ≢ route_fault.OutOfMemory → n ≡ id_number s.ids id → IsRouteOutcome net s.book n agent line node (route_answer_view (Err fault)) book → IfSome (route_fault_view fault) (λ why. text ≡ route_refused_text id why) → log' ≡ log → state_with_id s id ≡ next → IsChanged (IsRouteTurn kinds net s id agent line node) next text log log'
 not_routed_turn kinds net s next id agent line node n fault book text log log' d m number outcome told same left =
-    refused_as (IsRouteTurn kinds net s id agent line node) s next id text (route_refused_text id) (route_fault_view fault) log log' (route_told fault d m) (turns (route_fault_view fault) outcome) told same left
+    refused_as (IsRouteTurn kinds net s id agent line node) (state_with_id s id) next text (route_refused_text id) (route_fault_view fault) log log' (route_told fault d m) (turns (route_fault_view fault) outcome) told same left
   where
     turns : (o : Option RouteRefusal) → IsRouteOutcome net s.book n agent line node (option_map (λ w. Err w) o) book → IfSome o (λ why. IsRouteTurn kinds net s id agent line node (reply_turn (route_refused_text id why) (state_with_id s id)))
     turns None o = tt
     turns (Some why) o = inr (record { why = why; refused = subst (λ k. IsRouteRefused net s.book k agent line node why) number o.0; is_turn = refl })
+
+-- gathers
+
+-- a command that asks for pieces asks for one to eight
+pub pieces_few : (count : ℕ) (c : Command) (from : Target) (pieces : List PieceTarget) (m : Mode) → c ≡ Gather from pieces m → IsTrue (names_within count c) → (1 ≤ length pieces) × (length pieces ≤ 8)
+pieces_few count c from pieces m is known =
+    let asked : Command = Gather from pieces m in
+    let counted : IsTrue (has_few_pieces asked) = (and_parts (has_few_pieces asked) (nodes_within count asked) (subst (λ (d : Command). IsTrue (names_within count d)) is known)).0 in
+    let few = and_parts (nat_le 1 (length pieces)) (nat_le (length pieces) 8) counted in
+    (leb-true 1 (length pieces) few.0, leb-true (length pieces) 8 few.1)
+
+-- grants that came in leave no record that was cleared since the last fence, where there are any
+cleared_none : (cleared : Bool) (gs : List Grant) → gs ≢ [] → cleared_after cleared gs ≡ false
+cleared_none cleared [] some = absurd (some refl)
+cleared_none cleared (g ∷ gs) some = refl
+
+-- a gather that was made
+gathered_turn : (kinds : List Meaning) (net : List NodeDecl) (s next : State) (agent : ℕ) (rights : Rights) (pieces : List PieceTarget) (v : ℕ) (book' : List Grant) (log log' : Option (List TableEvent)) (words' : List (List ℕ)) → (made : IsGatherMade net s.book agent rights (numbered s.ids pieces) v book') → IsGatherLogged net kinds s.book s.cleared agent rights (numbered s.ids pieces) false log log' words' book' → record { book = book'; cleared = cleared_after s.cleared (grants_of agent rights (numbered s.ids pieces) made.place); ids = with_ids s.ids pieces } ≡ next → IsChanged (IsGatherTurn kinds net s agent rights pieces) next (gathered_text v (length pieces)) log log'
+gathered_turn kinds net s next agent rights pieces v book' log log' words' made logged left =
+    let ps : List Piece = numbered s.ids pieces in
+    let gs : List Grant = grants_of agent rights ps made.place in
+    let same : logged.place ≡ made.place = first_scatter_is_one net (slots_of net s.book) agent rights ps logged.place made.place logged.placed.first made.placed.first in
+    let all : Logged log log' (gather_events net kinds s.book s.cleared (grants_of agent rights ps logged.place)) = added_all _ log log' logged.committed.added in
+    record {
+      turn = turn_with_grants net kinds s pieces gs (gathered_text made.place.v (length pieces));
+      is_turn = inl (record { place = made.place; placed = made.placed; is_turn = refl });
+      logged = subst (λ (p : Scatter). Logged log log' (gather_events net kinds s.book s.cleared (grants_of agent rights ps p))) same all;
+      replied = ap (λ a. gathered_text a (length pieces)) (sym made.address);
+      left = ap (λ (b : List Grant). record { book = b; cleared = cleared_after s.cleared gs; ids = with_ids s.ids pieces }) (sym made.appended) ∙ left;
+    }
+
+-- a gather at which the device failed
+pub gather_stopped : (kinds : List Meaning) (net : List NodeDecl) (s next : State) (agent : ℕ) (rights : Rights) (pieces : List PieceTarget) (r : Result (List ℕ) RunHalt) (log log' : Option (List TableEvent)) (words' : List (List ℕ)) (book' : List Grant) → r ≡ Err DeviceFault → IsGatherLogged net kinds s.book s.cleared agent rights (numbered s.ids pieces) true log log' words' book' → CameThroughChange (IsGatherTurn kinds net s agent rights pieces) r next log log'
+gather_stopped kinds net s next agent rights pieces r log log' words' book' e logged =
+    stopped_inside (IsGatherTurn kinds net s agent rights pieces) (turn_with_grants net kinds s pieces (grants_of agent rights (numbered s.ids pieces) logged.place) (gathered_text logged.place.v (length pieces))) r next log log' e (inl (record { place = logged.place; placed = logged.placed; is_turn = refl })) logged.committed.added
+
+-- a fault that comes neither of the device nor of want of memory says a refusal
+pub gather_told : (fault : GatherFault) → fault ≢ gather_fault.Device → fault ≢ gather_fault.OutOfMemory → IsSome (gather_fault_view fault)
+gather_told gather_fault.Device d m = absurd (d refl)
+gather_told gather_fault.OutOfMemory d m = absurd (m refl)
+gather_told _ d m = refl
+
+-- a gather that was refused, as its fault says
+pub not_gathered_turn : (kinds : List Meaning) (net : List NodeDecl) (s next : State) (agent : ℕ) (rights : Rights) (pieces : List PieceTarget) (fault : GatherFault) (book : List Grant) (text : List ℕ) (log log' : Option (List TableEvent)) → fault ≢ gather_fault.Device → fault ≢ gather_fault.OutOfMemory → IsGatherOutcome net s.book agent rights (numbered s.ids pieces) (gather_answer_view (Err fault)) book → IfSome (gather_fault_view fault) (λ why. text ≡ gather_refused_text why) → log' ≡ log → state_with_ids s pieces ≡ next → IsChanged (IsGatherTurn kinds net s agent rights pieces) next text log log'
+not_gathered_turn kinds net s next agent rights pieces fault book text log log' d m outcome told same left =
+    refused_as (IsGatherTurn kinds net s agent rights pieces) (state_with_ids s pieces) next text gather_refused_text (gather_fault_view fault) log log' (gather_told fault d m) (turns (gather_fault_view fault) outcome) told same left
+  where
+    turns : (o : Option GatherRefusal) → IsGatherOutcome net s.book agent rights (numbered s.ids pieces) (option_map (λ w. Err w) o) book → IfSome o (λ why. IsGatherTurn kinds net s agent rights pieces (reply_turn (gather_refused_text why) (state_with_ids s pieces)))
+    turns None o = tt
+    turns (Some why) o = inr (record { why = why; refused = o.0; is_turn = refl })
 
 -- revokes
 
@@ -230,7 +298,7 @@ revoke_stopped kinds net s next id r log log' e has added =
 
 -- a revoke that was refused
 pub not_revoked_turn : (kinds : List Meaning) (net : List NodeDecl) (s next : State) (id text : List ℕ) (log log' : Option (List TableEvent)) → has_id (id_number s.ids id) s.book ≡ false → text ≡ revoke_refused_text id → log' ≡ log → state_with_id s id ≡ next → IsChanged (IsRevokeTurn kinds net s id) next text log log'
-not_revoked_turn kinds net s next id text log log' none is same left = refused_turn (IsRevokeTurn kinds net s id) s next id (revoke_refused_text id) text log log' (inr (record { none = none; is_turn = refl })) is same left
+not_revoked_turn kinds net s next id text log log' none is same left = refused_turn (IsRevokeTurn kinds net s id) (state_with_id s id) next (revoke_refused_text id) text log log' (inr (record { none = none; is_turn = refl })) is same left
 
 -- replies
 
@@ -272,10 +340,10 @@ state_left k book ids cleared b i e =
     ∙ ap (λ (x : BookState). record { book = x.grants; cleared = x.cleared; ids = k.ids }) (sym b)
 
 -- the state that a refusal leaves
-pub state_named : (k : Kept) (s : State) (id : List ℕ) (book : BookState) → k.book ≡ book → s.book ≡ book.grants → s.cleared ≡ book.cleared → k.ids ≡ with_id s.ids id → state_with_id s id ≡ state_view k
-state_named k s id book b g e i =
-    ap (λ (x : List Grant). record { book = x; cleared = s.cleared; ids = with_id s.ids id }) g
-    ∙ ap (λ (x : Bool). record { book = book.grants; cleared = x; ids = with_id s.ids id }) e
+pub state_named : (k : Kept) (s : State) (ids : List (List ℕ)) (book : BookState) → k.book ≡ book → s.book ≡ book.grants → s.cleared ≡ book.cleared → k.ids ≡ ids → record { book = s.book; cleared = s.cleared; ids = ids } ≡ state_view k
+state_named k s ids book b g e i =
+    ap (λ (x : List Grant). record { book = x; cleared = s.cleared; ids = ids }) g
+    ∙ ap (λ (x : Bool). record { book = book.grants; cleared = x; ids = ids }) e
     ∙ ap (λ (x : List (List ℕ)). record { book = book.grants; cleared = book.cleared; ids = x }) (sym i)
     ∙ ap (λ (x : BookState). record { book = x.grants; cleared = x.cleared; ids = k.ids }) (sym b)
 
@@ -305,6 +373,7 @@ still_turn kinds net s (Radix target pool) e = refl
 still_turn kinds net s (GrantOf id from target base size m) e = cc
 still_turn kinds net s (Route id from line target) e = cc
 still_turn kinds net s (Revoke id) e = cc
+still_turn kinds net s (Gather from pieces m) e = cc
 
 -- its reply was written, or a part of it, and the state stays
 pub still_through : (kinds : List Meaning) (net : List NodeDecl) (s next : State) (c : Command) (r : Result (Unit {0}) RunHalt) (a b : Option (List ℕ)) (log : Option (List TableEvent)) → is_change c ≡ false → s ≡ next → IsWritten a b (is_ok r) (is_write_halt r) (reply kinds net s.book c) → is_device_halt r ≡ false → CameThrough (IsTurn kinds net s c) r next a b log log
@@ -335,6 +404,30 @@ on_ok (Ok a) P p = p
 on_ok (Err e) P p = tt
 
 -- a change of a state that is kept, made under the number of its id
+
+-- pieces that are placed are as many grants
+grants_some : (net : List NodeDecl) (slots : Slots) (agent : ℕ) (rights : Rights) (unit v : ℕ) (ps : List Piece) (hops : List Hop) → 1 ≤ length ps → ArePlaced net slots agent rights unit v ps hops → grants_at agent rights v ps hops ≢ []
+grants_some net slots agent rights unit v [] hops some placed = absurd (omega (arith, some))
+grants_some net slots agent rights unit v (p ∷ ps) [] some placed = absurd placed
+grants_some net slots agent rights unit v (p ∷ ps) (hop ∷ hops) some placed = λ e. cc
+
+-- as many pieces are asked for as the command has
+numbered_length : (ids : List (List ℕ)) (pieces : List PieceTarget) → length (numbered ids pieces) ≡ length pieces
+numbered_length ids [] = refl
+numbered_length ids (p ∷ ps) = ap suc (numbered_length (with_id ids p.id) ps)
+
+pub numbered_few : (ids : List (List ℕ)) (pieces : List PieceTarget) (asked : List Piece) → asked ≡ numbered ids pieces → 1 ≤ length pieces → length pieces ≤ 8 → (1 ≤ length asked) × (length asked ≤ 8)
+numbered_few ids pieces asked is some few =
+    let size : length asked ≡ length pieces = ap length is ∙ numbered_length ids pieces in
+    (omega (arith, size, some), omega (arith, size, few))
+
+pub state_gathered : (kinds : List Meaning) (net : List NodeDecl) (k after : Kept) (agent : ℕ) (rights : Rights) (pieces : List PieceTarget) (v : ℕ) (book : BookState) (log log' : Option (List TableEvent)) (words' : List (List ℕ)) → 1 ≤ length pieces → IsGatherMade net k.book.grants agent rights (numbered k.ids pieces) v book.grants → IsGatherLogged net kinds k.book.grants k.book.cleared agent rights (numbered k.ids pieces) false log log' words' book.grants → after.book ≡ book → after.ids ≡ with_ids k.ids pieces → book.cleared ≡ false → IsChanged (IsGatherTurn kinds net (state_view k) agent rights pieces) (state_view after) (gathered_text v (length pieces)) log log'
+state_gathered kinds net k after agent rights pieces v book log log' words' some made logged b i fenced =
+    let asked : 1 ≤ length (numbered k.ids pieces) = subst (λ (n : ℕ). 1 ≤ n) (sym (numbered_length k.ids pieces)) some in
+    let gs : List Grant = grants_of agent rights (numbered k.ids pieces) made.place in
+    let there = grants_some net (slots_of net k.book.grants) agent rights made.place.unit made.place.v (numbered k.ids pieces) made.place.hops asked made.placed.first.suited.are_placed in
+    gathered_turn kinds net (state_view k) (state_view after) agent rights pieces v book.grants log log' words' made logged
+    (state_left after book (with_ids k.ids pieces) (cleared_after k.book.cleared gs) b i (fenced ∙ sym (cleared_none k.book.cleared gs there)))
 
 pub state_granted : (kinds : List Meaning) (net : List NodeDecl) (k after : Kept) (id : List ℕ) (rq : Request) (n v : ℕ) (book : BookState) (log log' : Option (List TableEvent)) (words' : List (List ℕ)) → n ≡ id_number k.ids id → IsGrantMade net k.book.grants n rq v book.grants → IsGrantLogged net kinds k.book.grants k.book.cleared n rq false log log' words' → after.book ≡ book → after.ids ≡ with_id k.ids id → book.cleared ≡ false → IsChanged (IsGrantTurn kinds net (state_view k) id rq) (state_view after) (granted_text id v) log log'
 state_granted kinds net k after id rq n v book log log' words' number made logged b i fenced =

@@ -1,5 +1,5 @@
 -- A command that meets a sound book has one turn, and a script over a legal net one list of turns.
-use Rattle.std.proofs.Common.{◌≡◌, ◌∙◌, sym, ap, subst, refl, arith, ℕ, ◌<◌, ◌==◌, ◌⊎◌, inl, inr, false, true, List, [], ◌∷◌, Option, Some, None, eq-eqb}
+use Rattle.std.proofs.Common.{◌≡◌, ◌∙◌, sym, ap, subst, refl, arith, ℕ, ◌<◌, ◌==◌, ◌⊎◌, inl, inr, false, true, List, [], ◌∷◌, length, Option, Some, None, eq-eqb}
 use Rattle.dn_base.proofs.Members.{member_none}
 use Rattle.std.proofs.lemmas.Option.{same_Some}
 use Rattle.dn_net.specs.declared.node.NodeDecl.{NodeDecl}
@@ -7,7 +7,6 @@ use Rattle.dn_net.specs.Legal.{IsLegalNet}
 use Rattle.dn_kind.specs.Kind.{Meaning}
 use Rattle.dn_tables.specs.Placement.{Place}
 use Rattle.dn_placement.specs.declared.request.Request.{Request}
-use Rattle.dn_placement.specs.Order.{NoneSuited}
 use Rattle.dn_placement.proofs.Order.{first_is_one}
 use Rattle.dn_book.specs.declared.grant.Grant.{Grant as GrantPart}
 use Rattle.dn_book.specs.Book.{IsSound, slots_of, without_id}
@@ -15,16 +14,25 @@ use Rattle.dn_book.specs.Writes.{revoke_events}
 use Rattle.dn_book.proofs.Live.{one_grant}
 use Rattle.dn_grant.specs.Grant.{IsGrantRefused, IsUnplaced, grant_of_request}
 use Rattle.dn_grant.specs.Refusal.{GrantRefusal, id_used, no_agent, no_target, not_accepted, book_full, no_placement, grant_refusal}
+use Rattle.dn_gather.specs.declared.scatter.Scatter.{Scatter}
+use Rattle.dn_gather.specs.declared.piece.Piece.{Piece}
+use Rattle.dn_gather.specs.Gather.{IsGatherRefused, IsUnscattered, grants_of}
+use Rattle.dn_gather.specs.Refusal.{GatherRefusal, gather_refusal}
+use Rattle.dn_gather.specs.Refusal as gather
+use Rattle.dn_gather.proofs.Chosen.{first_scatter_is_one}
+use Rattle.dn_kind.specs.declared.rights.Rights.{Rights}
 use Rattle.dn_vector.specs.Refusal.{RouteRefusal, route_refusal}
 use Rattle.dn_vector.specs.Refusal as route
 use Rattle.dn_vector.specs.Route.{IsLeastVector, IsRouteRefused, IsUnplacedRoute, grant_of_route}
 use Rattle.dn_vector.specs.Vectors.{vector_request}
 use Rattle.dn_module.specs.declared.command.Command.{Command}
-use Rattle.dn_module.specs.declared.command.Command.TheVariants.{Resolve, Lookup, View, Grant, Route, Revoke, Dump, Split, Absorb, Radix}
+use Rattle.dn_module.specs.declared.command.PieceTarget.{PieceTarget}
+use Rattle.dn_module.specs.declared.command.Command.TheVariants.{Resolve, Lookup, View, Grant, Route, Revoke, Dump, Split, Absorb, Radix, Gather}
+use Rattle.dn_tool.specs.Asked.{number_or_none, numbered, request_of, rights_of}
 use Rattle.dn_tool.specs.Books.{IsKeptFaithful}
-use Rattle.dn_tool.specs.Changed.{grant_refused_text, granted_text, revoked_text, route_refused_text, routed_text}
+use Rattle.dn_tool.specs.Changed.{gather_refused_text, gathered_text, grant_refused_text, granted_text, revoked_text, route_refused_text, routed_text}
 use Rattle.dn_tool.specs.Ids.{id_number, with_id}
-use Rattle.dn_tool.specs.Turn.{AreTurns, IsGrantTurn, IsRevokeTurn, IsRouteTurn, State, Turn, TurnIsOne, TurnsAreOne, number_or_none, reply_turn, request_of, start, state_with_id, turn_with_grant}
+use Rattle.dn_tool.specs.Turn.{AreTurns, IsGatherTurn, IsGrantTurn, IsRevokeTurn, IsRouteTurn, State, Turn, TurnIsOne, TurnsAreOne, reply_turn, start, state_with_id, state_with_ids, turn_with_grant, turn_with_grants}
 use Rattle.dn_tool.proofs.Books.{empty_kept, turn_keeps}
 
 -- a refusal is that for want of a placement, or the one that needs no search
@@ -47,47 +55,58 @@ told_route net book id agent line node route.no_placement r = inl (refl, r)
 not_both : {A : Type 0} (o : Option A) (a : A) → o ≡ None → o ≡ Some a → ⊥
 not_both o a e f = let c : None ≡ Some a = sym e ∙ f in cc
 
+told_gather : (net : List NodeDecl) (book : List GrantPart) (agent : ℕ) (rights : Rights) (ps : List Piece) (why : GatherRefusal) → IsGatherRefused net book agent rights ps why → ((why ≡ gather.no_placement) × IsUnscattered net book agent rights ps) ⊎ (gather_refusal net book agent ps ≡ Some why)
+told_gather net book agent rights ps (gather.id_used piece) r = inr r
+told_gather net book agent rights ps gather.no_agent r = inr r
+told_gather net book agent rights ps (gather.no_target piece) r = inr r
+told_gather net book agent rights ps (gather.not_accepted piece first) r = inr r
+told_gather net book agent rights ps gather.book_full r = inr r
+told_gather net book agent rights ps gather.no_placement r = inl (refl, r)
+
+-- two refusals are one: each is that for want of a placement, or the one that needs no search
+one_why : {W U : Type 0} (none why other : W) (o : Option W) → (U → o ≡ None) → ((why ≡ none) × U) ⊎ (o ≡ Some why) → ((other ≡ none) × U) ⊎ (o ≡ Some other) → why ≡ other
+one_why none why other o allowed (inl e) (inl f) = e.0 ∙ sym f.0
+one_why none why other o allowed (inl e) (inr f) = absurd (not_both o other (allowed e.1) f)
+one_why none why other o allowed (inr e) (inl f) = absurd (not_both o why (allowed f.1) e)
+one_why none why other o allowed (inr e) (inr f) = same_Some why other (sym e ∙ f)
+
+-- what is allowed and placed is not refused
+not_refused : {W U : Type 0} (none why : W) (o : Option W) → o ≡ None → (U → ⊥) → ((why ≡ none) × U) ⊎ (o ≡ Some why) → ⊥
+not_refused none why o free placed (inl e) = placed e.1
+not_refused none why o free placed (inr e) = not_both o why free e
+
+-- pieces are granted at one place, or refused for one reason
+gather_one : (kinds : List Meaning) (net : List NodeDecl) (s : State) (agent : ℕ) (rights : Rights) (pieces : List PieceTarget) (t u : Turn) → IsGatherTurn kinds net s agent rights pieces t → IsGatherTurn kinds net s agent rights pieces u → t ≡ u
+gather_one kinds net s agent rights pieces t u (inl g) (inl h) =
+    let ps : List Piece = numbered s.ids pieces in
+    let same : g.place ≡ h.place = first_scatter_is_one net (slots_of net s.book) agent rights ps g.place h.place g.placed.first h.placed.first in
+    g.is_turn ∙ ap (λ (p : Scatter). turn_with_grants net kinds s pieces (grants_of agent rights ps p) (gathered_text p.v (length pieces))) same ∙ sym h.is_turn
+gather_one kinds net s agent rights pieces t u (inl g) (inr h) =
+    let ps : List Piece = numbered s.ids pieces in
+    absurd (not_refused gather.no_placement h.why (gather_refusal net s.book agent ps) g.placed.allowed (λ (n : IsUnscattered net s.book agent rights ps). n.none g.place g.placed.first.suited) (told_gather net s.book agent rights ps h.why h.refused))
+gather_one kinds net s agent rights pieces t u (inr g) (inl h) =
+    let ps : List Piece = numbered s.ids pieces in
+    absurd (not_refused gather.no_placement g.why (gather_refusal net s.book agent ps) h.placed.allowed (λ (n : IsUnscattered net s.book agent rights ps). n.none h.place h.placed.first.suited) (told_gather net s.book agent rights ps g.why g.refused))
+gather_one kinds net s agent rights pieces t u (inr g) (inr h) =
+    let ps : List Piece = numbered s.ids pieces in
+    let same : g.why ≡ h.why = one_why gather.no_placement g.why h.why (gather_refusal net s.book agent ps) (λ (n : IsUnscattered net s.book agent rights ps). n.allowed) (told_gather net s.book agent rights ps g.why g.refused) (told_gather net s.book agent rights ps h.why h.refused) in
+    g.is_turn ∙ ap (λ why. reply_turn (gather_refused_text why) (state_with_ids s pieces)) same ∙ sym h.is_turn
+
 module _ (kinds : List Meaning) (net : List NodeDecl) (s : State) (id : List ℕ) (t u : Turn) where
   abbrev number : ℕ
   number = id_number s.ids id
-
-  -- two refusals of a grant are one
-
-  one_refusal : (rq : Request) (why other : GrantRefusal) → IsGrantRefused net s.book number rq why → IsGrantRefused net s.book number rq other → why ≡ other
-  one_refusal rq why other r q = go (told net s.book number rq why r) (told net s.book number rq other q)
-    where
-      go : ((why ≡ no_placement) × IsUnplaced net s.book number rq) ⊎ (grant_refusal net s.book number rq ≡ Some why) → ((other ≡ no_placement) × IsUnplaced net s.book number rq) ⊎ (grant_refusal net s.book number rq ≡ Some other) → why ≡ other
-      go (inl e) (inl f) = e.0 ∙ sym f.0
-      go (inl e) (inr f) = absurd (not_both (grant_refusal net s.book number rq) other e.1.allowed f)
-      go (inr e) (inl f) = absurd (not_both (grant_refusal net s.book number rq) why f.1.allowed e)
-      go (inr e) (inr f) = same_Some why other (sym e ∙ f)
 
   grant_one : (rq : Request) → IsGrantTurn kinds net s id rq t → IsGrantTurn kinds net s id rq u → t ≡ u
   grant_one rq (inl g) (inl h) =
       let same : g.place ≡ h.place = first_is_one net (slots_of net s.book) rq None g.place h.place g.placed.first h.placed.first in
       g.is_turn ∙ ap (λ (p : Place). turn_with_grant net kinds s id (grant_of_request number rq p) (granted_text id p.v)) same ∙ sym h.is_turn
-  grant_one rq (inl g) (inr h) = apart rq g.place g.placed.allowed h.why (told net s.book number rq h.why h.refused) (λ none. none g.place g.placed.first.suited)
-    where
-      apart : (rq : Request) (p : Place) → grant_refusal net s.book number rq ≡ None → (why : GrantRefusal) → ((why ≡ no_placement) × IsUnplaced net s.book number rq) ⊎ (grant_refusal net s.book number rq ≡ Some why) → ((NoneSuited net (slots_of net s.book) rq None) → ⊥) → t ≡ u
-      apart rq p free why (inl e) some = absurd (some e.1.none)
-      apart rq p free why (inr e) some = absurd (not_both (grant_refusal net s.book number rq) why free e)
-  grant_one rq (inr g) (inl h) = apart (told net s.book number rq g.why g.refused)
-    where
-      apart : ((g.why ≡ no_placement) × IsUnplaced net s.book number rq) ⊎ (grant_refusal net s.book number rq ≡ Some g.why) → t ≡ u
-      apart (inl e) = absurd (e.1.none h.place h.placed.first.suited)
-      apart (inr e) = absurd (not_both (grant_refusal net s.book number rq) g.why h.placed.allowed e)
-  grant_one rq (inr g) (inr h) = g.is_turn ∙ ap (λ why. reply_turn (grant_refused_text id why) (state_with_id s id)) (one_refusal rq g.why h.why g.refused h.refused) ∙ sym h.is_turn
+  grant_one rq (inl g) (inr h) = absurd (not_refused no_placement h.why (grant_refusal net s.book number rq) g.placed.allowed (λ (n : IsUnplaced net s.book number rq). n.none g.place g.placed.first.suited) (told net s.book number rq h.why h.refused))
+  grant_one rq (inr g) (inl h) = absurd (not_refused no_placement g.why (grant_refusal net s.book number rq) h.placed.allowed (λ (n : IsUnplaced net s.book number rq). n.none h.place h.placed.first.suited) (told net s.book number rq g.why g.refused))
+  grant_one rq (inr g) (inr h) =
+      let same : g.why ≡ h.why = one_why no_placement g.why h.why (grant_refusal net s.book number rq) (λ (n : IsUnplaced net s.book number rq). n.allowed) (told net s.book number rq g.why g.refused) (told net s.book number rq h.why h.refused) in
+      g.is_turn ∙ ap (λ why. reply_turn (grant_refused_text id why) (state_with_id s id)) same ∙ sym h.is_turn
 
   module _ (agent line node : ℕ) where
-    one_route_refusal : (why other : RouteRefusal) → IsRouteRefused net s.book number agent line node why → IsRouteRefused net s.book number agent line node other → why ≡ other
-    one_route_refusal why other r q = go (told_route net s.book number agent line node why r) (told_route net s.book number agent line node other q)
-      where
-        go : ((why ≡ route.no_placement) × IsUnplacedRoute net s.book number agent line node) ⊎ (route_refusal net s.book number agent node ≡ Some why) → ((other ≡ route.no_placement) × IsUnplacedRoute net s.book number agent line node) ⊎ (route_refusal net s.book number agent node ≡ Some other) → why ≡ other
-        go (inl e) (inl f) = e.0 ∙ sym f.0
-        go (inl e) (inr f) = absurd (not_both (route_refusal net s.book number agent node) other e.1.allowed f)
-        go (inr e) (inl f) = absurd (not_both (route_refusal net s.book number agent node) why f.1.allowed e)
-        go (inr e) (inr f) = same_Some why other (sym e ∙ f)
-
     -- the least vector is one, and so is its first placement
 
     one_vector : (v w : ℕ) (p q : Place) → IsLeastVector net s.book agent line node v p → IsLeastVector net s.book agent line node w q → v ≡ w
@@ -112,17 +131,11 @@ module _ (kinds : List Meaning) (net : List NodeDecl) (s : State) (id : List ℕ
         ∙ ap (λ (v : ℕ). turn_with_grant net kinds s id (grant_of_route number agent node v g.place) (routed_text id v)) vector
         ∙ ap (λ (p : Place). turn_with_grant net kinds s id (grant_of_route number agent node h.vector p) (routed_text id h.vector)) place
         ∙ sym h.is_turn
-    route_one (inl g) (inr h) = apart (told_route net s.book number agent line node h.why h.refused)
-      where
-        apart : ((h.why ≡ route.no_placement) × IsUnplacedRoute net s.book number agent line node) ⊎ (route_refusal net s.book number agent node ≡ Some h.why) → t ≡ u
-        apart (inl e) = absurd (e.1.none g.vector g.placed.placed.free g.place g.placed.placed.first.suited)
-        apart (inr e) = absurd (not_both (route_refusal net s.book number agent node) h.why g.placed.allowed e)
-    route_one (inr g) (inl h) = apart (told_route net s.book number agent line node g.why g.refused)
-      where
-        apart : ((g.why ≡ route.no_placement) × IsUnplacedRoute net s.book number agent line node) ⊎ (route_refusal net s.book number agent node ≡ Some g.why) → t ≡ u
-        apart (inl e) = absurd (e.1.none h.vector h.placed.placed.free h.place h.placed.placed.first.suited)
-        apart (inr e) = absurd (not_both (route_refusal net s.book number agent node) g.why h.placed.allowed e)
-    route_one (inr g) (inr h) = g.is_turn ∙ ap (λ why. reply_turn (route_refused_text id why) (state_with_id s id)) (one_route_refusal g.why h.why g.refused h.refused) ∙ sym h.is_turn
+    route_one (inl g) (inr h) = absurd (not_refused route.no_placement h.why (route_refusal net s.book number agent node) g.placed.allowed (λ (n : IsUnplacedRoute net s.book number agent line node). n.none g.vector g.placed.placed.free g.place g.placed.placed.first.suited) (told_route net s.book number agent line node h.why h.refused))
+    route_one (inr g) (inl h) = absurd (not_refused route.no_placement g.why (route_refusal net s.book number agent node) h.placed.allowed (λ (n : IsUnplacedRoute net s.book number agent line node). n.none h.vector h.placed.placed.free h.place h.placed.placed.first.suited) (told_route net s.book number agent line node g.why g.refused))
+    route_one (inr g) (inr h) =
+        let same : g.why ≡ h.why = one_why route.no_placement g.why h.why (route_refusal net s.book number agent node) (λ (n : IsUnplacedRoute net s.book number agent line node). n.allowed) (told_route net s.book number agent line node g.why g.refused) (told_route net s.book number agent line node h.why h.refused) in
+        g.is_turn ∙ ap (λ why. reply_turn (route_refused_text id why) (state_with_id s id)) same ∙ sym h.is_turn
 
   -- a live grant of an id is one
 
@@ -158,6 +171,7 @@ turn_is_one kinds net s Dump t u legal sound g h = g ∙ sym h
 turn_is_one kinds net s Split t u legal sound g h = g ∙ sym h
 turn_is_one kinds net s (Absorb target) t u legal sound g h = g ∙ sym h
 turn_is_one kinds net s (Radix target pool) t u legal sound g h = g ∙ sym h
+turn_is_one kinds net s (Gather from pieces m) t u legal sound g h = gather_one kinds net s (number_or_none from.node) (rights_of m) pieces t u g h
 
 -- turn by turn, in the state that both leave
 

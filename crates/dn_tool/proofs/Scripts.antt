@@ -5,6 +5,7 @@ use Rattle.std.proofs.lemmas.List.{take-append-drop}
 use Rattle.dn_base.specs.declared.device.TableEvent.{TableEvent}
 use Rattle.dn_net.specs.declared.node.NodeDecl.{NodeDecl}
 use Rattle.dn_kind.specs.Kind.{IsLawful, Meaning}
+use Rattle.dn_kind.specs.declared.rights.Rights.{Rights}
 use Rattle.dn_kind.specs.Rights.{are_rights}
 use Rattle.dn_kind.specs.Units.{IsLegalWith}
 use Rattle.dn_placement.specs.declared.request.Request.{Request}
@@ -15,16 +16,18 @@ use Rattle.dn_grant.proofs.Allowed.{allowed_grant}
 use Rattle.dn_vector.specs.Route.{grant_of_route}
 use Rattle.dn_vector.proofs.Allowed.{allowed_route}
 use Rattle.dn_module.specs.declared.command.Command.{Command}
-use Rattle.dn_module.specs.declared.command.Command.TheVariants.{Resolve, Lookup, View, Grant, Route, Revoke, Dump, Split, Absorb, Radix}
+use Rattle.dn_module.specs.declared.command.PieceTarget.{PieceTarget}
+use Rattle.dn_module.specs.declared.command.Command.TheVariants.{Resolve, Lookup, View, Grant, Route, Revoke, Dump, Split, Absorb, Radix, Gather}
+use Rattle.dn_tool.specs.Asked.{number_or_none, numbered, request_of, rights_of}
 use Rattle.dn_tool.specs.Books.{IsKeptFaithful}
 use Rattle.dn_tool.specs.Flown.{GivesLookups, LookupsAreGiven}
 use Rattle.dn_tool.specs.Changed.{revoked_text}
 use Rattle.dn_tool.specs.Ids.{id_number, with_id}
 use Rattle.dn_tool.specs.Played.{added_events, turn_at}
-use Rattle.dn_tool.specs.Turn.{AreTurns, IsGrantTurn, IsRevokeTurn, IsRouteTurn, IsTurn, State, Turn, events_of, number_or_none, request_of, start}
-use Rattle.dn_tool.proofs.Books.{empty_kept, placed_keeps, placed_route_keeps, rights_there, without_keeps}
+use Rattle.dn_tool.specs.Turn.{AreTurns, IsGatherTurn, IsGrantTurn, IsRevokeTurn, IsRouteTurn, IsTurn, State, Turn, events_of, start}
+use Rattle.dn_tool.proofs.Books.{empty_kept, pieces_keep, placed_keeps, placed_route_keeps, rights_there, without_keeps}
 use Rattle.dn_tool.proofs.Flown.{given_owed}
-use Rattle.dn_tool.proofs.Moments.{TurnGoesOn, TurnsGoOn, grant_goes_on, revoke_goes_on, still_goes_on}
+use Rattle.dn_tool.proofs.Moments.{TurnGoesOn, TurnsGoOn, gather_goes_on, grant_goes_on, revoke_goes_on, still_goes_on}
 
 module _ (kinds : List Meaning) (net : List NodeDecl) (lawful : All IsLawful kinds) (legal : IsLegalWith kinds net) where
   along : (s : State) (t u : Turn) → t ≡ u → TurnGoesOn kinds net s u → TurnGoesOn kinds net s t
@@ -50,6 +53,12 @@ module _ (kinds : List Meaning) (net : List NodeDecl) (lawful : All IsLawful kin
       (revoke_goes_on kinds net lawful legal s.book s.cleared g.grant k g.lives (without_keeps net s.book g.grant.id legal.legal k))
   revoke_goes s id t k (inr r) = along s t _ r.is_turn (still_goes_on kinds net lawful legal s.book s.cleared k)
 
+  gather_goes : (s : State) (agent : ℕ) (rights : Rights) (pieces : List PieceTarget) (t : Turn) → IsTrue (are_rights rights) → IsKeptFaithful net s.book → IsGatherTurn kinds net s agent rights pieces t → TurnGoesOn kinds net s t
+  gather_goes s agent rights pieces t allowed k (inl g) =
+      along s t _ g.is_turn (gather_goes_on kinds net lawful legal s.book s.cleared agent rights (numbered s.ids pieces) g.place k allowed g.placed
+      (pieces_keep net s.book agent rights (numbered s.ids pieces) g.place legal.legal allowed k g.placed))
+  gather_goes s agent rights pieces t allowed k (inr r) = along s t _ r.is_turn (still_goes_on kinds net lawful legal s.book s.cleared k)
+
   turn_goes : (s : State) (c : Command) (t : Turn) → IsKeptFaithful net s.book → IsTurn kinds net s c t → TurnGoesOn kinds net s t
   turn_goes s (Grant id from target base size m) t k is = grant_goes s id (request_of from target base size m) t (rights_there m) k is
   turn_goes s (Route id from line target) t k is = route_goes s id (number_or_none from.node) line (number_or_none target.node) t k is
@@ -61,6 +70,7 @@ module _ (kinds : List Meaning) (net : List NodeDecl) (lawful : All IsLawful kin
   turn_goes s Split t k is = along s t _ is (still_goes_on kinds net lawful legal s.book s.cleared k)
   turn_goes s (Absorb target) t k is = along s t _ is (still_goes_on kinds net lawful legal s.book s.cleared k)
   turn_goes s (Radix target pool) t k is = along s t _ is (still_goes_on kinds net lawful legal s.book s.cleared k)
+  turn_goes s (Gather from pieces m) t k is = gather_goes s (number_or_none from.node) (rights_of m) pieces t (rights_there m) k is
 
   turns_go : (s : State) (cs : List Command) (ts : List Turn) → IsKeptFaithful net s.book → AreTurns kinds net s cs ts → TurnsGoOn kinds net s ts
   turns_go s [] ts k h = subst (TurnsGoOn kinds net s) (sym h) tt

@@ -1,5 +1,5 @@
 -- What a device tells of the tables: those of a book, and those that a fault left inside a turn.
-use Rattle.std.proofs.Common.{◌≡◌, ◌≢◌, ◌∙◌, ap, sym, subst, refl, inl, true, false, List, [], ◌∷◌, ◌++◌, Option, Result, Ok, Err, ℕ}
+use Rattle.std.proofs.Common.{◌≡◌, ◌≢◌, ◌∙◌, ap, sym, subst, refl, ℕ, inl, true, false, List, [], ◌∷◌, ◌++◌, length, Option, Result, Ok, Err}
 use Rattle.std.specs.Option.{IfSome}
 use Rattle.dn_base.specs.declared.device.TableEvent.{TableEvent}
 use Rattle.dn_base.specs.declared.device.UnitWords.{UnitWords}
@@ -25,13 +25,21 @@ use Rattle.dn_grant.specs.declared.fault.GrantFault.{GrantFault}
 use Rattle.dn_grant.specs.declared.fault.GrantFault.TheVariants as grant_fault
 use Rattle.dn_grant.specs.Faults.{grant_answer_view, grant_fault_view}
 use Rattle.dn_grant.specs.Grant.{IsGrantLogged, IsGrantOutcome, grant_of_request}
+use Rattle.dn_kind.specs.declared.rights.Rights.{Rights}
+use Rattle.dn_gather.specs.declared.fault.GatherFault.{GatherFault}
+use Rattle.dn_gather.specs.declared.fault.GatherFault.TheVariants as gather_fault
+use Rattle.dn_gather.specs.declared.piece.Piece.{Piece}
+use Rattle.dn_gather.specs.Faults.{gather_answer_view, gather_fault_view}
+use Rattle.dn_gather.specs.Gather.{IsGatherLogged, IsGatherOutcome, grants_of}
+use Rattle.dn_module.specs.declared.command.PieceTarget.{PieceTarget}
 use Rattle.dn_vector.specs.declared.fault.RouteFault.{RouteFault}
 use Rattle.dn_vector.specs.declared.fault.RouteFault.TheVariants as route_fault
 use Rattle.dn_vector.specs.Faults.{route_answer_view, route_fault_view}
 use Rattle.dn_vector.specs.Route.{IsRouteLogged, IsRouteOutcome, grant_of_route}
 use Rattle.dn_tool.specs.declared.halt.RunHalt.{RunHalt}
 use Rattle.dn_tool.specs.declared.halt.RunHalt.TheVariants.{DeviceFault, NoMemory}
-use Rattle.dn_tool.specs.Changed.{grant_refused_text, granted_text, revoked_text, route_refused_text, routed_text}
+use Rattle.dn_tool.specs.Asked.{numbered, with_ids}
+use Rattle.dn_tool.specs.Changed.{gather_refused_text, gathered_text, grant_refused_text, granted_text, revoked_text, route_refused_text, routed_text}
 use Rattle.dn_tool.specs.Halt.{HaltsByDevice, is_device_halt}
 use Rattle.dn_tool.specs.Ids.{id_number, with_id}
 use Rattle.dn_tool.specs.declared.machine.Machine.{Machine}
@@ -39,8 +47,8 @@ use Rattle.dn_tool.specs.declared.state.Session.{Session as Kept}
 use Rattle.dn_tool.specs.Machine.{IsMachine}
 use Rattle.dn_tool.specs.State.{CameThroughChange, IsChangeDone, IsChanged, IsReadyOn, IsState, state_view}
 use Rattle.dn_tool.specs.Stopped.{AreCaught, IsStopped}
-use Rattle.dn_tool.specs.Turn.{IsGrantTurn, IsRevokeTurn, IsRouteTurn, State, Turn, state_with_id, turn_with_grant}
-use Rattle.dn_tool.proofs.Changes.{err_differs, grant_stopped, halted_after, lives, not_granted_turn, not_routed_turn, route_stopped, state_named, state_same}
+use Rattle.dn_tool.specs.Turn.{IsGatherTurn, IsGrantTurn, IsRevokeTurn, IsRouteTurn, State, Turn, turn_with_grant, turn_with_grants}
+use Rattle.dn_tool.proofs.Changes.{err_differs, gather_stopped, grant_stopped, halted_after, lives, not_gathered_turn, not_granted_turn, not_routed_turn, route_stopped, state_named, state_same}
 
 -- the words that a device tells are the tables of the book
 pub words_told : (kinds : List Meaning) (net : List NodeDecl) (book : List GrantPart) (set : List NodeTable) (sizes : List UnitSize) (told : Option (List UnitWords)) → IsKept net kinds book set → IsOnDevice set sizes told → IfSome told (λ tables. tables ≡ device_tables 0 net (tables_of net kinds book))
@@ -120,11 +128,11 @@ abbrev pub refused_state : Kept → BookState → List (List ℕ) → Option Fla
 refused_state k book ids flats = record { book = book; ids = ids; image = k.image; first = k.first; flats = flats; unmade = k.unmade }
 
 -- a change that was refused: the book and the device are as they were
-pub done_refused : {K : Type 0} {V : K → Type 0} (means : (k : K) × V k → Meaning) (m : Machine K V) (P : Turn → Type 0) (text : List ℕ) (k : Kept) (book : BookState) (ids : List (List ℕ)) (flats : Option FlatsView) (id : List ℕ) (log log' : Option (List TableEvent)) (units : List UnitSize) (words : Option (List UnitWords)) (x y : Faults) → IsMachine means m → IsState (kinds_of means m.on.kinds.now) m.on.net.now k → book ≡ k.book → ids ≡ with_id k.ids id → IfSome flats (AreFlats m.on.net.now) → IsOnDevice book.set units words → y ≡ x → (state_with_id (state_view k) id ≡ state_view (refused_state k book ids flats) → IsChanged P (state_view (refused_state k book ids flats)) text log log') → IsChangeDone means m P (Ok text) k (refused_state k book ids flats) log log' units words x y
-done_refused means m P text k book ids flats id log log' units words x y machine state same named reach on unfailed changed =
+pub done_refused : {K : Type 0} {V : K → Type 0} (means : (k : K) × V k → Meaning) (m : Machine K V) (P : Turn → Type 0) (text : List ℕ) (k : Kept) (book : BookState) (ids named : List (List ℕ)) (flats : Option FlatsView) (log log' : Option (List TableEvent)) (units : List UnitSize) (words : Option (List UnitWords)) (x y : Faults) → IsMachine means m → IsState (kinds_of means m.on.kinds.now) m.on.net.now k → book ≡ k.book → ids ≡ named → IfSome flats (AreFlats m.on.net.now) → IsOnDevice book.set units words → y ≡ x → (record { book = k.book.grants; cleared = k.book.cleared; ids = named } ≡ state_view (refused_state k book ids flats) → IsChanged P (state_view (refused_state k book ids flats)) text log log') → IsChangeDone means m P (Ok text) k (refused_state k book ids flats) log log' units words x y
+done_refused means m P text k book ids named flats log log' units words x y machine state same is reach on unfailed changed =
     let after : Kept = refused_state k book ids flats in
     done_said means m P text text k after log log' units words x y refl
-    (changed (state_named after (state_view k) id k.book same refl refl named))
+    (changed (state_named after (state_view k) named k.book same refl refl is))
     (record { machine = machine; state = state_same (kinds_of means m.on.kinds.now) m.on.net.now k after state same refl state.first reach state.unmade; on_device = on })
     (subst (λ f. IsCounted x f false) (sym unfailed) (counted_none x))
 
@@ -155,7 +163,7 @@ pub grant_unmade : {K D : Type 0} {V : K → Type 0} (means : (k : K) × V k →
 grant_unmade means m k book ids flats id text rq n fault log faults d d' units words machine state unchanged named reach on device memory number outcome told =
     let kinds : List Meaning = kinds_of means m.on.kinds.now in
     let same = unchanged (err_differs fault grant_fault.Device device) in
-    done_refused means m (IsGrantTurn kinds m.on.net.now (state_view k) id rq) text k book ids flats id (log d) (log d') units words (faults d) (faults d') machine state same.0 named reach on (ap faults same.1)
+    done_refused means m (IsGrantTurn kinds m.on.net.now (state_view k) id rq) text k book ids (with_id k.ids id) flats (log d) (log d') units words (faults d) (faults d') machine state same.0 named reach on (ap faults same.1)
     (not_granted_turn kinds m.on.net.now (state_view k) (state_view (refused_state k book ids flats)) id rq n fault book.grants text (log d) (log d') device memory number outcome told (ap log same.1))
 
 -- a route at which the device failed, under the number of its id
@@ -174,5 +182,33 @@ pub route_unmade : {K D : Type 0} {V : K → Type 0} (means : (k : K) × V k →
 route_unmade means m k book ids flats id text agent line node n fault log faults d d' units words machine state unchanged named reach on device memory number outcome told =
     let kinds : List Meaning = kinds_of means m.on.kinds.now in
     let same = unchanged (err_differs fault route_fault.Device device) in
-    done_refused means m (IsRouteTurn kinds m.on.net.now (state_view k) id agent line node) text k book ids flats id (log d) (log d') units words (faults d) (faults d') machine state same.0 named reach on (ap faults same.1)
+    done_refused means m (IsRouteTurn kinds m.on.net.now (state_view k) id agent line node) text k book ids (with_id k.ids id) flats (log d) (log d') units words (faults d) (faults d') machine state same.0 named reach on (ap faults same.1)
     (not_routed_turn kinds m.on.net.now (state_view k) (state_view (refused_state k book ids flats)) id agent line node n fault book.grants text (log d) (log d') device memory number outcome told (ap log same.1))
+
+-- what the words of a set say where the device failed at a gather
+gather_caught : (kinds : List Meaning) (net : List NodeDecl) (s : State) (set : List NodeTable) (sizes : List UnitSize) (told : Option (List UnitWords)) → FitsNet net kinds set → IsOnDevice set sizes told → (agent : ℕ) (rights : Rights) (pieces : List PieceTarget) (log log' : Option (List TableEvent)) (book : List GrantPart) → IsGatherLogged net kinds s.book s.cleared agent rights (numbered s.ids pieces) true log log' (words_of set) book → IsStopped kinds net s.book (IsGatherTurn kinds net s agent rights pieces) told
+gather_caught kinds net s set sizes told fits on agent rights pieces log log' book logged =
+    let gs : List GrantPart = grants_of agent rights (numbered s.ids pieces) logged.place in
+    record {
+      turn = turn_with_grants net kinds s pieces gs (gathered_text logged.place.v (length pieces));
+      is_turn = inl (record { place = logged.place; placed = logged.placed; is_turn = refl });
+      caught = told_caught kinds net s.book (s.book ++ gs) set sizes told fits on (logged.committed.caught refl);
+    }
+
+-- a gather at which the device failed, with its pieces under the numbers of their ids
+pub gather_cut : {K : Type 0} {V : K → Type 0} (means : (k : K) × V k → Meaning) (m : Machine K V) (k k' : Kept) (agent : ℕ) (rights : Rights) (pieces : List PieceTarget) (asked : List Piece) (set : List NodeTable) (book : List GrantPart) (log log' : Option (List TableEvent)) (units : List UnitSize) (words : Option (List UnitWords)) (x y : Faults) → FitsNet m.on.net.now (kinds_of means m.on.kinds.now) set → IsOnDevice set units words → asked ≡ numbered k.ids pieces → IsGatherLogged m.on.net.now (kinds_of means m.on.kinds.now) k.book.grants k.book.cleared agent rights asked true log log' (words_of set) book → HaltsByDevice {A = List ℕ} (Err DeviceFault) x y → IsChangeDone means m (IsGatherTurn (kinds_of means m.on.kinds.now) m.on.net.now (state_view k) agent rights pieces) (Err DeviceFault) k k' log log' units words x y
+gather_cut means m k k' agent rights pieces asked set book log log' units words x y fits on number logged halted =
+    let kinds : List Meaning = kinds_of means m.on.kinds.now in
+    let s : State = state_view k in
+    let came : IsGatherLogged m.on.net.now kinds s.book s.cleared agent rights (numbered s.ids pieces) true log log' (words_of set) book = subst (λ (ps : List Piece). IsGatherLogged m.on.net.now kinds s.book s.cleared agent rights ps true log log' (words_of set) book) number logged in
+    done_stopped means m (IsGatherTurn kinds m.on.net.now s agent rights pieces) k k' log log' units words x y
+    (gather_stopped kinds m.on.net.now s (state_view k') agent rights pieces (Err DeviceFault) log log' (words_of set) book refl came)
+    (gather_caught kinds m.on.net.now s set units words fits on agent rights pieces log log' book came) halted
+
+-- a gather that was refused
+pub gather_unmade : {K D : Type 0} {V : K → Type 0} (means : (k : K) × V k → Meaning) (m : Machine K V) (k : Kept) (book : BookState) (ids : List (List ℕ)) (flats : Option FlatsView) (text : List ℕ) (agent : ℕ) (rights : Rights) (pieces : List PieceTarget) (asked : List Piece) (fault : GatherFault) (log : D → Option (List TableEvent)) (faults : D → Faults) (d d' : D) (units : List UnitSize) (words : Option (List UnitWords)) → IsMachine means m → IsState (kinds_of means m.on.kinds.now) m.on.net.now k → (◌≢◌ {A = Result ℕ GatherFault} (Err fault) (Err gather_fault.Device) → (book ≡ k.book) × (d' ≡ d)) → ids ≡ with_ids k.ids pieces → IfSome flats (AreFlats m.on.net.now) → IsOnDevice book.set units words → fault ≢ gather_fault.Device → fault ≢ gather_fault.OutOfMemory → asked ≡ numbered k.ids pieces → IsGatherOutcome m.on.net.now k.book.grants agent rights asked (gather_answer_view (Err fault)) book.grants → IfSome (gather_fault_view fault) (λ why. text ≡ gather_refused_text why) → IsChangeDone means m (IsGatherTurn (kinds_of means m.on.kinds.now) m.on.net.now (state_view k) agent rights pieces) (Ok text) k (refused_state k book ids flats) (log d) (log d') units words (faults d) (faults d')
+gather_unmade means m k book ids flats text agent rights pieces asked fault log faults d d' units words machine state unchanged named reach on device memory number outcome told =
+    let kinds : List Meaning = kinds_of means m.on.kinds.now in
+    let same = unchanged (err_differs fault gather_fault.Device device) in
+    done_refused means m (IsGatherTurn kinds m.on.net.now (state_view k) agent rights pieces) text k book ids (with_ids k.ids pieces) flats (log d) (log d') units words (faults d) (faults d') machine state same.0 named reach on (ap faults same.1)
+    (not_gathered_turn kinds m.on.net.now (state_view k) (state_view (refused_state k book ids flats)) agent rights pieces fault book.grants text (log d) (log d') device memory (subst (λ (ps : List Piece). IsGatherOutcome m.on.net.now k.book.grants agent rights ps (gather_answer_view (Err fault)) book.grants) number outcome) told (ap log same.1))

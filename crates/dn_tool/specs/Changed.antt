@@ -1,6 +1,9 @@
 -- The replies to the commands that change the book.
 use Rattle.std.specs.Prelude.{ℕ, List, ◌++◌, codes}
+use Rattle.std.specs.Fmt.{decimal}
 use Rattle.dn_grant.specs.Refusal.{GrantRefusal, id_used, no_agent, no_target, not_accepted, book_full, no_placement}
+use Rattle.dn_gather.specs.Refusal.{GatherRefusal}
+use Rattle.dn_gather.specs.Refusal as gather
 use Rattle.dn_vector.specs.Refusal.{RouteRefusal}
 use Rattle.dn_vector.specs.Refusal as route
 use Rattle.dn_print.specs.Names.{address_text}
@@ -41,6 +44,33 @@ route_refusal_text route.no_placement = codes "NoPlacement"
 -- the reply to a route that is refused
 abbrev pub route_refused_text : List ℕ → RouteRefusal → List ℕ
 route_refused_text id why = refused_text id (route_refusal_text why)
+
+-- the refusal of a piece as it is printed, which has the piece's number, counted from 0
+abbrev pub piece_refusal_text : List ℕ → ℕ → List ℕ
+piece_refusal_text refusal piece = refusal ++ (codes " " ++ decimal piece)
+
+-- the refusal of a gather as it is printed
+abbrev pub gather_refusal_text : GatherRefusal → List ℕ
+gather_refusal_text (gather.id_used piece) = piece_refusal_text (codes "IdUsed") piece
+gather_refusal_text gather.no_agent = codes "NoAgent"
+gather_refusal_text (gather.no_target piece) = piece_refusal_text (codes "NoTarget") piece
+gather_refusal_text (gather.not_accepted piece first) =
+    codes "NotAccepted " ++ (decimal piece ++ (codes " " ++ address_text first))
+gather_refusal_text gather.book_full = codes "BookFull"
+gather_refusal_text gather.no_placement = codes "NoPlacement"
+
+-- the reply to a gather, which has the agent's first address and the number of pieces
+abbrev pub gathered_text : ℕ → ℕ → List ℕ
+gathered_text v count =
+    codes "gather at " ++ (address_text v ++ (codes " pieces " ++ (decimal count ++ codes "\n")))
+
+-- the reply to a gather that is refused for a piece
+abbrev pub refused_piece_text : List ℕ → ℕ → List ℕ
+refused_piece_text refusal piece = refused_text (codes "gather") (piece_refusal_text refusal piece)
+
+-- the reply to a gather that is refused
+abbrev pub gather_refused_text : GatherRefusal → List ℕ
+gather_refused_text why = refused_text (codes "gather") (gather_refusal_text why)
 
 -- the reply to a revoke
 abbrev pub revoked_text : List ℕ → List ℕ

@@ -22,3 +22,4 @@ pub mod Reread
 pub mod Unmade
 pub mod Stopped
 pub mod Flown
+pub mod Asked

@@ -1,8 +1,9 @@
 -- The words of the crate that clauses cite, from one place.
 pub use Rattle.dn_tool.specs.Answer.{IsAnswered, IsInput, IsOutcome, IsSaid, answer, bytes_answer, commands_answer, demo_answer, is_script, reads, task_answer, text_answer, usage}
+pub use Rattle.dn_tool.specs.Asked.{number_or_none, numbered, piece_of, request_of, rights_of, with_ids}
 pub use Rattle.dn_tool.specs.Audited.{audit_answer, broken_line, image_answer}
 pub use Rattle.dn_tool.specs.Books.{BooksStayFaithful, FaithfulImageGivesOwed}
-pub use Rattle.dn_tool.specs.Changed.{grant_refused_text, granted_text, refused_text, revoked_text, route_refused_text, routed_text}
+pub use Rattle.dn_tool.specs.Changed.{gather_refused_text, gathered_text, grant_refused_text, granted_text, refused_piece_text, refused_text, revoked_text, route_refused_text, routed_text}
 pub use Rattle.dn_tool.specs.Compiled.{IsLegal, compilation, compile_fault_view, expansion_compilation, fault, platform_view, with_refusal}
 pub use Rattle.dn_tool.specs.Demo.{IsShown, IsShownOn, agent_rows, has_granted, has_revoked, held_records, held_slots, sum_below, summary_with}
 pub use Rattle.dn_tool.specs.Flown.{LookupsAreGiven}
@@ -19,6 +20,6 @@ pub use Rattle.dn_tool.specs.Reread.{AbsorbIsReadBack, CompiledIsReadBack, Split
 pub use Rattle.dn_tool.specs.Reshape.{absorb_text, absorbed_text, limit_text, made_text, no_node_text, reason_text, refusal_text, split_text, unfit_text}
 pub use Rattle.dn_tool.specs.State.{CameThrough, IsChangeDone, IsFirstView, IsReady, IsReadyOn, IsStill, state_view}
 pub use Rattle.dn_tool.specs.Stopped.{IsStopped}
-pub use Rattle.dn_tool.specs.Turn.{IsGrantTurn, IsRevokeTurn, IsRouteTurn, IsTurn, TurnIsOne, TurnsAreOne, is_change, is_pieced, number_or_none, reply, request_of, rights_of, start}
+pub use Rattle.dn_tool.specs.Turn.{IsGatherTurn, IsGrantTurn, IsRevokeTurn, IsRouteTurn, IsTurn, TurnIsOne, TurnsAreOne, is_change, is_pieced, reply, start}
 pub use Rattle.dn_tool.specs.Unmade.{AreUnmade, IsPassed, IsUnfit, IsUnfitFor}
 pub use Rattle.dn_tool.specs.Viewed.{OwedRowsAreNormal, owed_rows, view_heading, viewed_text}

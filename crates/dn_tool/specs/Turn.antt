@@ -1,21 +1,18 @@
 -- The turns of a script: what each command does to the device, what it is answered by, and the state
 -- that it leaves.
-use Rattle.std.specs.Prelude.{◌≡◌, ℕ, ◌⊎◌, Bool, true, false, List, [], ◌∷◌, ◌++◌, Option, Some, None}
+use Rattle.std.specs.Prelude.{◌≡◌, ℕ, ◌⊎◌, Bool, true, false, List, [], ◌∷◌, ◌++◌, length}
 use Rattle.std.specs.List.{flat_map}
 use Rattle.dn_base.specs.declared.device.TableEvent.{TableEvent}
 use Rattle.dn_net.specs.declared.node.NodeDecl.{NodeDecl}
 use Rattle.dn_net.specs.Chain.{Member}
 use Rattle.dn_net.specs.Legal.{IsLegalNet}
-use Rattle.dn_parse.specs.declared.syntax.Mode.{Mode}
-use Rattle.dn_parse.specs.declared.syntax.Mode.TheVariants.{Unsaid, Read, Write}
 use Rattle.dn_kind.specs.declared.rights.Rights.{Rights}
 use Rattle.dn_kind.specs.Kind.{Meaning}
-use Rattle.dn_kind.specs.Rights.{both_rights}
 use Rattle.dn_tables.specs.Placement.{Place}
 use Rattle.dn_image.specs.Image.{image}
 use Rattle.dn_module.specs.declared.command.Command.{Command}
-use Rattle.dn_module.specs.declared.command.Command.TheVariants.{Resolve, Lookup, View, Grant, Route, Revoke, Dump, Split, Absorb, Radix}
-use Rattle.dn_module.specs.declared.command.Target.{Target}
+use Rattle.dn_module.specs.declared.command.Command.TheVariants.{Resolve, Lookup, View, Grant, Route, Revoke, Dump, Split, Absorb, Radix, Gather}
+use Rattle.dn_module.specs.declared.command.PieceTarget.{PieceTarget}
 use Rattle.dn_placement.specs.declared.request.Request.{Request}
 use Rattle.dn_book.specs.declared.grant.Grant.{Grant as GrantPart}
 use Rattle.dn_book.specs.Book.{IsSound, has_id, without_id}
@@ -23,11 +20,16 @@ use Rattle.dn_book.specs.Tables.{tables_of}
 use Rattle.dn_book.specs.Writes.{grant_events, revoke_events}
 use Rattle.dn_grant.specs.Grant.{IsGrantRefused, IsPlaced, grant_of_request}
 use Rattle.dn_grant.specs.Refusal.{GrantRefusal}
+use Rattle.dn_gather.specs.declared.scatter.Scatter.{Scatter}
+use Rattle.dn_gather.specs.Gather.{IsGatherRefused, IsScattered, grants_of}
+use Rattle.dn_gather.specs.Grants.{gather_events}
+use Rattle.dn_gather.specs.Refusal.{GatherRefusal}
 use Rattle.dn_vector.specs.Refusal.{RouteRefusal}
 use Rattle.dn_vector.specs.Route.{IsPlacedRoute, IsRouteRefused, grant_of_route}
 use Rattle.dn_print.specs.Dump.{dump_text}
-use Rattle.dn_tool.specs.Changed.{grant_refused_text, granted_text, revoke_refused_text, revoked_text, route_refused_text, routed_text}
-use Rattle.dn_tool.specs.Found.{resolve_text, lookup_text}
+use Rattle.dn_tool.specs.Changed.{gather_refused_text, gathered_text, grant_refused_text, granted_text, revoke_refused_text, revoked_text, route_refused_text, routed_text}
+use Rattle.dn_tool.specs.Asked.{number_or_none, numbered, request_of, rights_of, with_ids}
+use Rattle.dn_tool.specs.Found.{lookup_text, resolve_text}
 use Rattle.dn_tool.specs.Ids.{id_number, with_id}
 use Rattle.dn_tool.specs.Radix.{radix_text}
 use Rattle.dn_tool.specs.Viewed.{view_text}
@@ -58,33 +60,36 @@ reply_turn reply s = record { events = []; reply = reply; next = s }
 abbrev pub state_with_id : State → List ℕ → State
 state_with_id s id = record { book = s.book; cleared = s.cleared; ids = with_id s.ids id }
 
--- the number of a node that a command names, or one that no node has
-abbrev pub number_or_none : Option ℕ → ℕ
-number_or_none (Some n) = n
-number_or_none None = 65535
-
--- the rights that a grant asks for: both, where it says none
-abbrev pub rights_of : Mode → Rights
-rights_of Unsaid = both_rights
-rights_of Read = record { 0 = 1 }
-rights_of Write = record { 0 = 2 }
-
--- what a grant asks for
-abbrev pub request_of : Target → Target → ℕ → ℕ → Mode → Request
-request_of agent node base size m = record {
-  agent = number_or_none agent.node;
-  node = number_or_none node.node;
-  base = base;
-  size = size;
-  rights = rights_of m;
-}
-
 -- the turn in which a grant comes into the book: a fence where one is due, and the writes of its records
 abbrev pub turn_with_grant : List NodeDecl → List Meaning → State → List ℕ → GrantPart → List ℕ → Turn
 turn_with_grant net kinds s id g reply = record {
   events = grant_events net kinds s.book s.cleared g;
   reply = reply;
   next = record { book = s.book ++ g ∷ []; cleared = false; ids = with_id s.ids id };
+}
+
+-- the state after the ids of pieces came, in order
+abbrev pub state_with_ids : State → List PieceTarget → State
+state_with_ids s pieces =
+    record { book = s.book; cleared = s.cleared; ids = with_ids s.ids pieces }
+
+-- whether a record was cleared since the last fence, after grants came into the book: the first waits for a fence
+abbrev pub cleared_after : Bool → List GrantPart → Bool
+cleared_after cleared [] = cleared
+cleared_after cleared (g ∷ gs) = false
+
+-- the turn in which the grants of pieces come into the book, in order: a fence where one is due, and the writes
+-- of their records
+abbrev pub turn_with_grants : List NodeDecl → List Meaning → State → List PieceTarget → List GrantPart →
+    List ℕ → Turn
+turn_with_grants net kinds s pieces gs reply = record {
+  events = gather_events net kinds s.book s.cleared gs;
+  reply = reply;
+  next = record {
+    book = s.book ++ gs;
+    cleared = cleared_after s.cleared gs;
+    ids = with_ids s.ids pieces;
+  };
 }
 
 -- a request is granted at the first admissible placement
@@ -135,6 +140,21 @@ pub record IsNotRevoked (s : State) (id : List ℕ) (t : Turn) : Type 0 where
   pub none : has_id (id_number s.ids id) s.book ≡ false
   pub is_turn : t ≡ reply_turn (revoke_refused_text id) (state_with_id s id)
 
+-- pieces are granted at the first admissible scattered placement, each under its own id
+pub record IsGathered (kinds : List Meaning) (net : List NodeDecl) (s : State) (agent : ℕ)
+    (rights : Rights) (pieces : List PieceTarget) (t : Turn) : Type 0 where
+  pub place : Scatter
+  pub placed : IsScattered net s.book agent rights (numbered s.ids pieces) place
+  pub is_turn : t ≡ turn_with_grants net kinds s pieces
+      (grants_of agent rights (numbered s.ids pieces) place) (gathered_text place.v (length pieces))
+
+-- pieces are refused, by the first refusal that holds; their ids have their numbers from then on
+pub record IsNotGathered (net : List NodeDecl) (s : State) (agent : ℕ) (rights : Rights)
+    (pieces : List PieceTarget) (t : Turn) : Type 0 where
+  pub why : GatherRefusal
+  pub refused : IsGatherRefused net s.book agent rights (numbered s.ids pieces) why
+  pub is_turn : t ≡ reply_turn (gather_refused_text why) (state_with_ids s pieces)
+
 -- the turn of a grant
 abbrev pub IsGrantTurn : List Meaning → List NodeDecl → State → List ℕ → Request → Turn → Type 0
 IsGrantTurn kinds net s id rq t = IsGranted kinds net s id rq t ⊎ IsNotGranted net s id rq t
@@ -147,6 +167,12 @@ IsRouteTurn kinds net s id agent line node t =
 -- the turn of a revoke
 abbrev pub IsRevokeTurn : List Meaning → List NodeDecl → State → List ℕ → Turn → Type 0
 IsRevokeTurn kinds net s id t = IsRevoked kinds net s id t ⊎ IsNotRevoked s id t
+
+-- the turn of a gather
+abbrev pub IsGatherTurn : List Meaning → List NodeDecl → State → ℕ → Rights → List PieceTarget →
+    Turn → Type 0
+IsGatherTurn kinds net s agent rights pieces t =
+    IsGathered kinds net s agent rights pieces t ⊎ IsNotGathered net s agent rights pieces t
 
 -- the reply to the command is written piece by piece
 abbrev pub is_pieced : Command → Bool
@@ -167,6 +193,7 @@ is_change Dump = false
 is_change Split = false
 is_change (Absorb target) = false
 is_change (Radix target pool) = false
+is_change (Gather agent pieces m) = true
 
 -- the reply to a command that changes nothing; the others have none here
 abbrev pub reply : List Meaning → List NodeDecl → List GrantPart → Command → List ℕ
@@ -180,6 +207,7 @@ reply kinds net book (Radix target pool) = radix_text kinds net book target pool
 reply kinds net book (Grant id agent node base size m) = []
 reply kinds net book (Route id agent line node) = []
 reply kinds net book (Revoke id) = []
+reply kinds net book (Gather agent pieces m) = []
 
 -- the turn of a command that changes nothing
 abbrev pub IsReplyTurn : List Meaning → List NodeDecl → State → Command → Turn → Type 0
@@ -199,6 +227,8 @@ IsTurn kinds net s Dump t = IsReplyTurn kinds net s Dump t
 IsTurn kinds net s Split t = IsReplyTurn kinds net s Split t
 IsTurn kinds net s (Absorb target) t = IsReplyTurn kinds net s (Absorb target) t
 IsTurn kinds net s (Radix target pool) t = IsReplyTurn kinds net s (Radix target pool) t
+IsTurn kinds net s (Gather agent pieces m) t =
+    IsGatherTurn kinds net s (number_or_none agent.node) (rights_of m) pieces t
 
 -- the turns of commands in order, each in the state that those before it left
 abbrev pub AreTurns : List Meaning → List NodeDecl → State → List Command → List Turn → Type 0

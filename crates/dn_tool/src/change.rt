@@ -1,7 +1,8 @@
-//! The commands that change the book: grants, routes and revokes.
+//! The commands that change the book: grants, routes, revokes, and buffers in pieces.
 
-ghost use Rattle.std.specs.Prelude.{◌≡◌, true, IfOk, IfSome, IsSome, IsTrue};
+ghost use Rattle.std.specs.Prelude.{◌≡◌, true, length, IfOk, IfSome, IsSome, IsTrue};
 ghost use Rattle.dn_kind.specs.Terms.{are_rights, kinds_of};
+ghost use Rattle.dn_module.specs.Terms.{names_within};
 ghost use Rattle.dn_grant.specs.Terms.{grant_fault_view, not_accepted};
 ghost use Rattle.dn_vector.specs.Terms.{route_fault_view};
 ghost use Rattle.dn_tool.specs.Terms.{IsChangeDone, IsGrantTurn, IsReadyOn, IsRevokeTurn, IsRouteTurn, IsTurn, grant_refused_text, granted_text, is_change, number_or_none, refused_text, request_of, revoked_text, rights_of, route_refused_text, routed_text, state_view};
@@ -9,6 +10,7 @@ ghost use Rattle.dn_tool.specs.Terms.{IsChangeDone, IsGrantTurn, IsReadyOn, IsRe
 use crate::OutOfMemory;
 use crate::halt::RunHalt;
 use crate::machine::Machine;
+use crate::pieces::gather_change;
 use crate::state::{Session, keep_flats, kept_flats, renew};
 use dn_base::device::Tables;
 use dn_base::items::Items;
@@ -34,6 +36,7 @@ pub(crate) fn change<D: Tables>(
     device: &mut D,
 ) -> Result<Items<u8>, RunHalt>
     requires ready { IsReadyOn meaning machine state.old (D.units device.old) (D.words device.old) }
+    requires known { IsTrue (names_within (length machine.on.net.now) command.now) }
     requires change { is_change command.now ≡ true }
     ensures { IsChangeDone meaning machine.entry (IsTurn
         (kinds_of meaning machine.entry.on.kinds.now) machine.entry.on.net.now
@@ -66,18 +69,28 @@ pub(crate) fn change<D: Tables>(
             route_change(alloc, machine, state, id, agent, *line, node, device)
         }
         Command::Revoke(id) => revoke_change(alloc, machine, state, id.as_str(), device),
+        Command::Gather {
+            agent: from,
+            pieces,
+            mode,
+        } => {
+            let agent = number_or_none(from.node);
+            let rights = rights_of(*mode);
+            let pieces = pieces.as_slice();
+            gather_change(alloc, machine, state, agent, pieces, rights, device)
+        }
         _ => unreachable!(),
     }
 }
 
 /// The number of a node that a command names, or one that no node has.
-fn number_or_none(node: Option<u16>) -> u16
+pub(crate) fn number_or_none(node: Option<u16>) -> u16
     ensures { result ≡ number_or_none node }
 {
     node.unwrap_or(65_535)
 }
 
-/// The rights that a grant asks for: both, where it says none.
+/// The rights that a grant or a gather asks for: both, where it says none.
 fn rights_of(mode: Mode) -> Rights
     ensures value { result ≡ rights_of mode }
     ensures rights { IsTrue (are_rights result) }
@@ -234,7 +247,11 @@ fn revoked_reply(alloc: Global, id: &str) -> Result<Items<u8>, OutOfMemory>
 }
 
 /// The reply that names an id and a refusal.
-fn refused_reply(alloc: Global, id: &str, refusal: &str) -> Result<Items<u8>, OutOfMemory>
+pub(crate) fn refused_reply(
+    alloc: Global,
+    id: &str,
+    refusal: &str,
+) -> Result<Items<u8>, OutOfMemory>
     ensures { IfOk result (λ text. text ≡ refused_text id.now refusal.now) }
 {
     let text = format!(in alloc; "{id} refused: {refusal}\n")?;

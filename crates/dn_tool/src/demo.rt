@@ -1,9 +1,11 @@
 //! A demonstration that is run: its commands without their replies, and one line that sums up what came of them.
 
-ghost use Rattle.std.specs.Prelude.{◌≡◌, ◌+◌, ◌-◌, ◌^◌, ◌<◌, None, if◌then◌else◌, length, Err, IfOk, OnOk};
+ghost use Rattle.std.specs.Prelude.{◌≡◌, ◌+◌, ◌-◌, ◌^◌, ◌<◌, None, if◌then◌else◌, length, Err, IfOk, IsTrue, OnOk};
+ghost use Rattle.std.specs.List.{list_all};
 ghost use Rattle.dn_net.specs.Terms.{unit_at};
 ghost use Rattle.dn_kind.specs.Terms.{kinds_of, record_held};
 ghost use Rattle.dn_flat.specs.Terms.{AreFlats};
+ghost use Rattle.dn_module.specs.Terms.{names_within};
 ghost use Rattle.dn_tables.specs.Terms.{FitsNet, words_of};
 ghost use Rattle.dn_demo.specs.Terms.{summary_text};
 ghost use Rattle.dn_tool.specs.Terms.{CameThrough, HaltsByDevice, HaltsByEither, HaltsBySink, IsMachine, IsReady, IsReadyOn, IsShownOn, IsStopped, IsTurn, Writes, agent_rows, ending_status, has_granted, has_revoked, held_records, held_slots, is_change, start, state_view, sum_below, summary_with};
@@ -47,6 +49,7 @@ pub(crate) fn play_all<K: Sink, D: Tables>(
     sink: &mut K,
     device: &mut D,
 ) -> Result<u8, RunHalt>
+    requires known { IsTrue (list_all (names_within (length machine.on.net.now)) commands.now) }
     requires ready { IsReadyOn meaning machine state.old (D.units device.old) (D.words device.old) }
     requires start { state_view state.old ≡ start }
     ensures shown { IsShownOn (kinds_of meaning machine.entry.on.kinds.now)
@@ -85,6 +88,7 @@ fn play<D: Tables>(
     command: &Command,
     device: &mut D,
 ) -> Result<(), RunHalt>
+    requires known { IsTrue (names_within (length machine.on.net.now) command.now) }
     requires ready { IsReadyOn meaning machine state.old (D.units device.old) (D.words device.old) }
     ensures through { CameThrough (IsTurn (kinds_of meaning machine.entry.on.kinds.now)
         machine.entry.on.net.now (state_view state.old) command.now) result
@@ -110,7 +114,7 @@ fn is_change(command: &Command) -> bool
 {
     matches!(
         command,
-        Command::Grant { .. } | Command::Route { .. } | Command::Revoke(_)
+        Command::Grant { .. } | Command::Route { .. } | Command::Revoke(_) | Command::Gather { .. }
     )
 }
 

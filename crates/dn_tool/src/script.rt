@@ -79,7 +79,10 @@ fn answer<K: Sink, D: Tables>(
         (D.faults device.old) (D.faults device.new) }
 {
     match command {
-        Command::Grant { .. } | Command::Route { .. } | Command::Revoke(..) => {
+        Command::Grant { .. }
+        | Command::Route { .. }
+        | Command::Revoke(..)
+        | Command::Gather { .. } => {
             let text = change(alloc, machine, state, command, device)?;
             write_output(sink, text.as_slice())
         }

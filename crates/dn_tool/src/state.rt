@@ -36,7 +36,7 @@ pub struct FirstView {
 pub struct Session {
     /// The live grants, and the tables that hold their records.
     pub book: Book,
-    /// The ids of grants, routes and revokes, with their numbers.
+    /// The ids of grants, routes, pieces and revokes, with their numbers.
     pub ids: Ids,
     /// The image of the tables, where a command asked for it since they changed last.
     pub image: Option<Items<u8>>,

@@ -9,7 +9,7 @@ use Rattle.dn_book.specs.Between.{IsCaught}
 use Rattle.dn_book.specs.Book.{has_id, without_id}
 use Rattle.dn_tool.specs.declared.halt.RunHalt.TheVariants.{DeviceFault}
 use Rattle.dn_tool.specs.Changed.{revoked_text}
-use Rattle.dn_tool.specs.Ids.{id_number}
+use Rattle.dn_tool.specs.Ids.{id_number, with_id}
 use Rattle.dn_tool.specs.State.{IsChanged, state_view}
 use Rattle.dn_tool.specs.Turn.{IsRevokeTurn, State}
 use Rattle.dn_tool.proofs.Changes.{not_revoked_turn, revoke_stopped, state_revoked}
@@ -38,7 +38,7 @@ returns-in_ok-refused_reply-in-Err-NoGrant g c =
     let same = c.revoke.ensures.unchanged failed in
     let state = c.args.state.now in
     let none : has_id (id_number state.ids c.args.id.now) state.book.grants ≡ false = subst (λ n. has_id n state.book.grants ≡ false) c.in_ok-number.ensures.number (c.revoke.ensures.unknown.0 failed) in
-    done_refused _ _ _ _ state c.revoke.new.self c.number.new.self state.flats c.args.id.now _ _ _ _ _ _ c.requires.ready.machine c.requires.ready.state same.0 c.in_ok-number.ensures.ids c.requires.ready.state.flat c.revoke.ensures.changed.on_device (ap g.D.Tables.faults same.1)
+    done_refused _ _ _ _ state c.revoke.new.self c.number.new.self (with_id state.ids c.args.id.now) state.flats _ _ _ _ _ _ c.requires.ready.machine c.requires.ready.state same.0 c.in_ok-number.ensures.ids c.requires.ready.state.flat c.revoke.ensures.changed.on_device (ap g.D.Tables.faults same.1)
     (not_revoked_turn (kinds_of (λ k. (goal.UnitKind-dyn g k).meaning k.1) c.args.machine.on.kinds.now) c.args.machine.on.net.now (state_view state) _ c.args.id.now _ _ _ none c.in_ok-refused_reply-in-Err-NoGrant.ensures (ap g.D.Tables.log same.1))
 
 pub returns-in-Err-Device : goal.returns-in-Err-Device

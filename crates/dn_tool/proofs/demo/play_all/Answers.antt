@@ -1,14 +1,17 @@
-use Rattle.std.proofs.Common.{rules, ◌≡◌, ◌∙◌, ◌+◌, if◌then◌else◌, ap, sym, subst, List, Bool, length, ℕ, Err, arith}
+use Rattle.std.proofs.Common.{rules, ◌≡◌, ◌∙◌, ◌+◌, if◌then◌else◌, ap, sym, subst, List, Bool, IsTrue, length, ℕ, Err, arith}
+use Rattle.std.specs.List.{list_all}
 use Rattle.dn_base.proofs.Counts.{counted_none, counted_then}
 use Rattle.dn_kind.specs.Kind.{Meaning}
 use Rattle.dn_kind.specs.Kinded.{kinds_of}
 use Rattle.dn_book.specs.declared.grant.Grant.{Grant}
+use Rattle.dn_module.specs.declared.command.Command.{Command}
+use Rattle.dn_module.specs.Commands.{names_within}
 use Rattle.dn_tool.specs.Demo.{has_granted, has_revoked}
 use Rattle.dn_tool.specs.Halt.{ending_status}
 use Rattle.dn_tool.specs.State.{state_view}
 use Rattle.dn_tool.proofs.Demos.{IsTallied, line_status, one_at_most, shown_halted, shown_unread, shown_written, tallied_more, tallied_start}
 use Rattle.dn_tool.proofs.Endings.{device_halts, halts_again, halts_later, memory_halts, sink_halts}
-use Rattle.dn_tool.proofs.Places.{first_place, first_rest, place, told_end, told_next}
+use Rattle.dn_tool.proofs.Places.{first_place, first_rest, known_next, place, told_end, told_next}
 use Rattle.dn_tool.proofs.Kept.{machine_lawful, machine_owed}
 use Rattle.dn_tool.proofs.demo.play_all.Goals as goal
 
@@ -19,6 +22,7 @@ commands-init g c =
       behind = first_rest c.args.commands.now c.cursor-rest.result all;
       few_granted = omega arith;
       few_revoked = omega arith;
+      known = subst (λ (l : List Command). IsTrue (list_all (names_within (length c.args.machine.on.net.now)) l)) (sym all) c.requires.known;
       ready = c.requires.ready;
       tallied = λ log made. tallied_start _ _ c.args.commands.now _ (state_view c.args.state.now) log _ (machine_lawful _ c.args.machine c.requires.ready.machine) (first_place c.args.commands.now c.cursor-rest.result all) c.requires.start (machine_owed _ c.args.machine c.args.state.now c.requires.ready.machine c.requires.ready.state) made;
       device_counted = counted_none _;
@@ -40,6 +44,11 @@ pub returns-in_err-ended-clause-halted : goal.returns-in_err-ended-clause-halted
 returns-in_err-ended-clause-halted g c =
     halts_again c.play-ended.result c.from_residual-in_err-ended.result c.in_err-ended.field-0.0 _ _ _ _ c.in_err-ended.was (search rules)
     (halts_later c.play-ended.result _ _ _ _ _ _ (counted_none _) c.commands.invariant.device_counted (device_halts _ _ _ _ c.play-ended.ensures.halted))
+
+pub play-ended-requires-clause-known : goal.play-ended-requires-clause-known
+play-ended-requires-clause-known g c =
+    let at = told_next c.args.commands.now c.commands.rest c.next.new.self _ c.in-Some.command c.commands.invariant.behind c.in_ok-command.ensures.next c.in-Some.is in
+    (known_next (names_within (length c.args.machine.on.net.now)) c.commands.rest c.next.new.self c.in-Some.command at.front c.commands.invariant.known).0
 
 pub commands-preserved : goal.commands-preserved
 commands-preserved g c =
@@ -68,6 +77,7 @@ commands-preserved g c =
       behind = at.behind;
       few_granted = omega (arith, further, granted, one, few_granted);
       few_revoked = omega (arith, further, revoked, other, few_revoked);
+      known = (known_next (names_within (length c.args.machine.on.net.now)) c.commands.rest c.next.new.self c.in-Some.command at.front c.commands.invariant.known).1;
       ready = c.in_ok-ended.ensures.ready;
       tallied = λ log made. subst (λ (n : ℕ). IsTallied kinds c.args.machine.on.net.now c.args.commands.now n (state_view c.play-ended.new.state) log (g.D.Tables.log c.play-ended.new.device) c.count_if-granted.result c.count_if-revoked.result) (sym at.next) (tallied_more kinds c.args.machine.on.net.now c.args.commands.now (place c.args.commands.now c.commands.rest) (state_view c.commands.state) command _ _ _ c.commands.granted c.commands.revoked c.count_if-granted.result c.count_if-revoked.result (state_view c.play-ended.new.state) (c.commands.invariant.tallied log made) at.within at.at c.in_ok-ended.ensures.through owed granted revoked);
       device_counted = counted_then _ _ _ _ c.commands.invariant.device_counted c.in_ok-ended.ensures.halted.counted;

@@ -1,5 +1,5 @@
 -- What an address of an agent resolves to is what it is owed.
-use Rattle.std.proofs.Common.{rules, ◌≡◌, ◌∙◌, ap, codes, List, ℕ}
+use Rattle.std.proofs.Common.{rules, ◌≡◌, ◌∙◌, ap, codes}
 use Rattle.std.specs.String.{string_bytes}
 use Rattle.dn_tool.specs.Found.{access_of, agent_of, asked_text, found_text}
 use Rattle.dn_tool.proofs.Lookups.{found_is_owed}

@@ -1,0 +1,52 @@
+use Rattle.std.proofs.Common.{rules, ◌≡◌, ◌∙◌, ap, subst, refl, false, length, List, Err}
+use Rattle.dn_kind.specs.Kinded.{kinds_of}
+use Rattle.dn_tables.specs.Set.{words_of}
+use Rattle.dn_gather.specs.Gather.{IsGatherLogged, IsGatherMade}
+use Rattle.dn_gather.specs.declared.piece.Piece.{Piece}
+use Rattle.dn_tool.specs.Asked.{numbered}
+use Rattle.dn_tool.specs.Changed.{gathered_text}
+use Rattle.dn_tool.specs.State.{IsChanged, state_view}
+use Rattle.dn_tool.specs.Turn.{IsGatherTurn}
+use Rattle.dn_tool.proofs.Changes.{gather_told, numbered_few, state_gathered}
+use Rattle.dn_tool.proofs.Stopped.{done_said, done_unsaid, gather_cut, gather_unmade}
+use Rattle.dn_tool.proofs.pieces.gather_change.Given.{Over}
+use Rattle.dn_tool.proofs.pieces.gather_change.Goals.{After-renew}
+use Rattle.dn_tool.proofs.pieces.gather_change.Goals as goal
+
+pub renew-requires-clause-faithful : goal.renew-requires-clause-faithful
+renew-requires-clause-faithful g c = c.in-Ok.ensures.faithful c.requires.ready.state.faithful
+
+-- the pieces that are asked for
+asked : (g : Over) (c : After-renew g) → c.deref.result.now ≡ numbered c.args.state.now.ids c.args.pieces.now
+asked g c = c.deref.ensures.value ∙ c.in_ok-asked.ensures.pieces
+
+pub gather-requires-clause-some : goal.gather-requires-clause-some
+gather-requires-clause-some g c = (numbered_few c.args.state.now.ids c.args.pieces.now _ (c.deref.ensures.value ∙ c.in_ok-asked.ensures.pieces) c.requires.some c.requires.few).0
+
+pub gather-requires-clause-few : goal.gather-requires-clause-few
+gather-requires-clause-few g c = (numbered_few c.args.state.now.ids c.args.pieces.now _ (c.deref.ensures.value ∙ c.in_ok-asked.ensures.pieces) c.requires.some c.requires.few).1
+
+-- the turn of the gather that was made
+made : (g : Over) (c : After-renew g) → IsChanged (IsGatherTurn (kinds_of (λ k. (goal.UnitKind-dyn g k).meaning k.1) c.args.machine.on.kinds.now) c.args.machine.on.net.now (state_view c.args.state.now) c.args.agent c.args.rights c.args.pieces.now) (state_view c.renew.new.state) (gathered_text c.in-Ok.v (length c.args.pieces.now)) (g.D.Tables.log c.args.device.now) (g.D.Tables.log c.gather.new.device)
+made g c =
+    state_gathered (kinds_of (λ k. (goal.UnitKind-dyn g k).meaning k.1) c.args.machine.on.kinds.now) c.args.machine.on.net.now c.args.state.now c.renew.new.state c.args.agent c.args.rights c.args.pieces.now c.in-Ok.v c.gather.new.book _ _ _ c.requires.some
+    (subst (λ (ps : List Piece). IsGatherMade c.args.machine.on.net.now c.args.state.now.book.grants c.args.agent c.args.rights ps c.in-Ok.v c.gather.new.book.grants) (asked g c) c.in-Ok.ensures.turn)
+    (subst (λ (ps : List Piece). IsGatherLogged c.args.machine.on.net.now (kinds_of (λ k. (goal.UnitKind-dyn g k).meaning k.1) c.args.machine.on.kinds.now) c.args.state.now.book.grants c.args.state.now.book.cleared c.args.agent c.args.rights ps false (g.D.Tables.log c.args.device.now) (g.D.Tables.log c.gather.new.device) (words_of c.gather.new.book.set) c.gather.new.book.grants) (asked g c) c.in-Ok.ensures.granted)
+    c.renew.ensures.still.book (c.renew.ensures.still.ids ∙ c.in_ok-asked.ensures.ids) c.in-Ok.ensures.changed.fenced
+
+pub returns-in_err-gathered_reply-in-Ok : goal.returns-in_err-gathered_reply-in-Ok
+returns-in_err-gathered_reply-in-Ok g c = done_unsaid _ _ _ c.from_residual-in_err-gathered_reply-in-Ok.result _ _ c.renew.new.state _ _ _ _ _ _ (search rules) (made g (goal.at.returns-in_err-gathered_reply-in-Ok g c).After-renew) c.in-Ok.ensures.changed.counted
+
+pub returns-in-Ok : goal.returns-in-Ok
+returns-in-Ok g c = done_said _ _ _ (gathered_text c.in-Ok.v (length c.args.pieces.now)) _ _ c.renew.new.state _ _ _ _ _ _ c.in_ok-gathered_reply-in-Ok.ensures (made g (goal.at.returns-in-Ok g c).After-renew) (search rules) c.in-Ok.ensures.changed.counted
+
+pub returns-in-Err-Device : goal.returns-in-Err-Device
+returns-in-Err-Device g c = gather_cut _ c.args.machine c.args.state.now _ c.args.agent c.args.rights c.args.pieces.now c.deref.result.now c.gather.new.book.set c.gather.new.book.grants _ _ _ _ _ _ c.gather.ensures.changed.fits c.gather.ensures.changed.on_device (c.deref.ensures.value ∙ c.in_ok-asked.ensures.pieces) (c.gather.ensures.stopped (c.in-Err-Device.is ∙ ap Err c.in-Err-Device.field-0-is)) (search rules)
+
+pub gather_refused-requires : goal.gather_refused-requires
+gather_refused-requires g c = gather_told c.in-Err.why (search rules) (search rules)
+
+pub returns : goal.returns
+returns g c =
+    gather_unmade _ c.args.machine c.args.state.now c.gather.new.book c.number_pieces.new.ids c.keep_flats.new.flats _ c.args.agent c.args.rights c.args.pieces.now c.deref.result.now c.in-Err.why g.D.Tables.log g.D.Tables.faults c.args.device.now c.gather.new.device _ _
+    c.requires.ready.machine c.requires.ready.state (c.in-Err.ensures.unchanged refl) c.in_ok-asked.ensures.ids c.in_ok-keep_flats.ensures.flat c.in-Err.ensures.changed.on_device (search rules) (search rules) (c.deref.ensures.value ∙ c.in_ok-asked.ensures.pieces) c.in-Err.ensures.turn c.in_ok-gather_refused-in-Err.ensures
