@@ -31,8 +31,12 @@ SEEDS = {
     "aliases": 200,
     "full": 240,
     "remappers": 240,
+    "lists": 60,
 }
 """How many seeds each shape has."""
+GATHERED = {"one_unit": 20, "two_units": 20, "three_units": 10, "fan": 20, "registers": 20, "bridges": 10, "ports": 20, "aliases": 20,
+            "full": 20, "lists": 240}
+"""How many seeds of a shape have buffers in pieces asked for over their nets."""
 BEGINNINGS = 6
 """From how many beginnings each request of a fixed net is made: from no live grant, and from others."""
 FULL_SEEDS = 40
@@ -107,6 +111,24 @@ def mixed(few=1, part=0, parts=1):
     for shape in SHAPES:
         for seed in range(FIRST_SEED, FIRST_SEED + SEEDS[shape.__name__] // few)[part::parts]:
             yield from of_seed(shape, seed)
+
+
+def of_pieces(shape, seed):
+    """The cases of buffers in pieces over a net of a shape, where it breaks no rule; and of some, drawn out."""
+    thrown, script = begun(shape, seed, 0)
+    if script is None:
+        return []
+    name, script = f"{shape.__name__} {seed}, in pieces", scripts.Script(thrown, script.net, scripts.MANY_IDS)
+    script.scattered()
+    found, bits = [case_of(name, thrown, script)], thrown.roll(drawn.most_bits(script.net) + 1)
+    return found + ([drawn_out(f"{name}, by {bits} bits", thrown, found[0], bits)] if bits and thrown.once_in(3) else [])
+
+
+def gathered(few=1, part=0, parts=1):
+    """The same of each shape that has some, and of one seed of so many; or of one part of these, where there are several."""
+    for shape in (each for each in SHAPES if each.__name__ in GATHERED):
+        for seed in range(FIRST_SEED, FIRST_SEED + max(GATHERED[shape.__name__] // few, 1))[part::parts]:
+            yield from of_pieces(shape, seed)
 
 
 def requests(net):
@@ -260,7 +282,8 @@ def of_name(name):
     """The cases of a name that was printed."""
     shape, seed = name.split(",")[0].split()[:2]
     if "," in name:
-        made = [*of_all_nodes(), *of_all_requests(), *of_refusals(), *of_small_refusals()]
+        named = of_pieces(next(each for each in SHAPES if each.__name__ == shape), int(seed)) if ", in pieces" in name else None
+        made = named or [*of_all_nodes(), *of_all_requests(), *of_refusals(), *of_small_refusals()]
     else:
         made = of_seed(next(each for each in SHAPES if each.__name__ == shape), int(seed))
     return [case for case in made if case.name == name]

@@ -39,6 +39,9 @@ class Drawing:
         if command[0] == "grant":
             word, id, agent, node, base, size, access = command
             return word, id, agent, node, self.first(base), size << self.bits, access
+        if command[0] == "gather":
+            word, agent, pieces, access = command
+            return word, agent, tuple((id, node, self.first(base), size << self.bits) for id, node, base, size in pieces), access
         return tuple(self.first(part) if isinstance(part, int) else part for part in command)
 
     def output(self, output):

@@ -191,7 +191,49 @@ def remappers(dice):
     return draft.net()
 
 
-SHAPES = (ports, rows, aliases, full, remappers)
+def split_windows(dice, slots, doors):
+    """One to three windows one after the other, each onto some of the slots of a unit; mostly from where a slot begins, and mostly
+    onto slots that no window before had.
+
+    A door is a unit and the exponent of its page."""
+    entries, at, used = [], dice.roll(2), {}
+    for _ in range(dice.between(1, 3)):
+        unit, page = dice.one_of(doors)
+        first, count = used.get(unit, dice.roll(2)), dice.between(1, 4)
+        if first + count > slots[unit]:
+            continue
+        length = (count << page) - (dice.roll(1 << page) if dice.once_in(4) else 0)
+        entries.append((at, at + length - 1, [(unit, (first << page) + (dice.roll(1 << page) if dice.once_in(6) else 0))]))
+        used[unit] = first + count + dice.roll(2) - dice.once_in(8)
+        at += length + dice.once_in(4)
+    return dice.mixed(entries), used
+
+
+def lists(dice):
+    """One or two units with some ports and many slots, and agents with windows onto different slots: room for buffers in pieces."""
+    draft, doors, slots = Draft(dice), [], {}
+    last = dice.between(5, 9)
+    memory(draft, "ram", last)
+    memory(draft, "rom", dice.between(1, 3))
+    for name in ["list0", "list1"][: 1 + dice.once_in(2)]:
+        page = dice.one_of([0, 0, 1, 1, 2])
+        ways = [f"{name}_way{number}" for number in range(2)]
+        slots[name], ports = dice.between(4, 9 - 2 * page), dice.mixed(["ram", *ways, "rom"])[: dice.between(1, 4)]
+        for each in (each for each in ways if each in ports):
+            way(draft, each, [("ram", last + 1), ("rom", 2)], 1 << page + 2)
+        draft.unit(name, "remap", page, slots[name], min(page + dice.between(1, 3), 4), ports)
+        doors.append((name, page))
+    entries, used = split_windows(dice, slots, doors)
+    draft.node("a", "agent", entries=entries)
+    if dice.once_in(2):
+        left = {name: slots[name] - used.get(name, 0) for name, _ in doors}
+        beside = [(at, at + (left[name] << page) - 1, [(name, used.get(name, 0) << page)]) for at, (name, page) in enumerate(doors[:1])
+                  if left[name] > 0]
+        draft.node("b", "agent", entries=beside if dice.roll(4) else entries)
+    return draft.net()
+
+
+SHAPES = (ports, rows, aliases, full, remappers, lists)
 
 
 def eight_ports(dice):

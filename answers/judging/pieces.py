@@ -43,6 +43,7 @@ agent core is over bus;
 begin;
 resolve core 1+2; lookup core 0; view core; grant g core dram 0x0 0x10;
 route r core 3 v; revoke g; dump; radix u (2-1); split; absorb bus;
+gather core p dram 0x0 0x10 and q dram 2*16 (0x20-0x10) for write; gather core s dram 0 1;
 """
 
 

@@ -7,13 +7,14 @@ import contextlib
 import re
 
 import books
+import gathers
 import nets
 import placements
 import replies
 import rules
 import units
 
-RIGHT = {module: dict(vars(module)) for module in (books, placements, replies, rules, units)}
+RIGHT = {module: dict(vars(module)) for module in (books, gathers, placements, replies, rules, units)}
 OWED, SLOTS = books.Book.owed, books.Book.slots
 
 
@@ -209,6 +210,49 @@ def last_not_accepted(net, node, base, size):
     return base if right(books, "first_not_accepted")(net, node, base, size) is not None else None
 
 
+def second_scatter(net, slots, requests):
+    """The second admissible scattered placement, where there is one."""
+    found, before = right(gathers, "first")(net, slots, requests), placements.seen(net, slots.held)
+    good = (each for each in gathers.scatters(net, slots, requests) if gathers.gives_all(
+        net, before, units.joined(slots.held, gathers.scattered_records(net, requests, each)), requests, each))
+    return next((each for each in good if each != found), found)
+
+
+def scatters_by(key):
+    """Scattered placements in another order."""
+    return lambda net, slots, requests: sorted(right(gathers, "scatters")(net, slots, requests), key=key)
+
+
+def first_start(net, slots, requests):
+    """Scattered placements at the first unit and address at which there is one."""
+    found = list(right(gathers, "scatters")(net, slots, requests))
+    return [each for each in found if each[:2] == found[0][:2]]
+
+
+def some_compared(kept):
+    """What is compared is what some of the pieces add."""
+    def gives_all(net, before, held, requests, scatter):
+        grants = gathers.grants_of(requests, scatter)[kept]
+        return all(placements.gives(net, {each: names for each, names in before.items() if each[1][0] != request.agent
+                                          or placement.v <= each[1][1] < placement.v + request.size}, held, request, placement.v)
+                   for request, placement in grants)
+    return gives_all
+
+
+def live_ids(book, agent, pieces):
+    """An id of an earlier piece may come again."""
+    parts = [(f"{place}{piece[0]}" if not book.live(piece[0]) else piece[0], *piece[1:]) for place, piece in enumerate(pieces)]
+    return right(gathers, "refusal")(book, agent, parts)
+
+
+def piece_by_piece(book, agent, pieces):
+    """All refusals are asked of a piece before the next one."""
+    found = ((place, right(gathers, "refusal")(book, agent, [piece])) for place, piece in enumerate(pieces))
+    place, refused = next(((place, each) for place, each in found if each), (0, None))
+    first = right(gathers, "refusal")(book, agent, pieces)
+    return re.sub(r" 0\b", f" {place}", refused, count=1) if refused else first
+
+
 def owed_for_reading(book, access, name):
     """What is owed for writing is what is owed for reading."""
     return OWED(book, units.READ, name)
@@ -325,6 +369,20 @@ DEFINITIONS = [
     ("the target is asked before the agent", books, "grant_refusal", target_before_agent),
     ("the agent is asked before the id", books, "grant_refusal", agent_before_id),
     ("the base is told as the address that is not accepted", books, "first_not_accepted", last_not_accepted),
+    ("pieces share a slot", gathers, "are_apart", lambda net, requests, hops: True),
+    ("the second admissible scattered placement is taken", gathers, "first", second_scatter),
+    ("nothing in pieces is admissible", gathers, "first", lambda net, slots, requests: None),
+    ("of scattered placements the address is compared first", gathers, "scatters", scatters_by(lambda each: (each.v, each.unit, each.hops))),
+    ("of scattered placements the outputs are compared before the ports", gathers, "scatters",
+     scatters_by(lambda each: (each.unit, each.v, [(hop.y, hop.port) for hop in each.hops]))),
+    ("pieces are tried at the first address alone", gathers, "scatters", first_start),
+    ("of each piece the first output alone is tried", gathers, "lone_hops",
+     lambda net, slots, request, v: right(gathers, "lone_hops")(net, slots, request, v)[:1]),
+    ("every scattered placement is admissible", gathers, "gives_all", lambda net, before, held, requests, scatter: True),
+    ("the last piece is not looked at", gathers, "gives_all", some_compared(slice(-1))),
+    ("the first piece alone is looked at", gathers, "gives_all", some_compared(slice(1))),
+    ("an id of an earlier piece is taken again", gathers, "refusal", live_ids),
+    ("all refusals are asked of a piece before the next", gathers, "refusal", piece_by_piece),
     ("what is owed for reading is owed for writing", books.Book, "owed", owed_for_reading),
     ("what the live grants give is not owed", books.Book, "owed", owed_by_net),
     ("adjacent rows are one", replies, "rows_of", joined_rows),
@@ -351,6 +409,8 @@ def changed(pattern, replacement):
 # Wrong texts: what is wrong, and what makes it of a right one.
 TEXTS = [
     ("an address is one more", changed(rb"at 0x(\d)\n", lambda found: b"at 0x%d\n" % (int(found[1]) + 1))),
+    ("a piece is not counted", changed(rb"at (0x\w+) pieces (\d)", lambda found: b"at %b pieces %d" % (found[1], int(found[2]) - 1))),
+    ("the number of a piece is dropped", changed(rb"(IdUsed|NoTarget|NotAccepted) \d", rb"\1")),
     ("a row is dropped", changed(rb"\n0x[^\n]*", b"")),
     ("a name is dropped", changed(rb", [a-z]+@0x[0-9a-f]+", b"")),
     ("two names are swapped", changed(rb" (\w+@\w+), (\w+@\w+)\n", rb" \2, \1\n")),
@@ -390,6 +450,8 @@ def finds(cases, plant):
     asks_rules = place in (rules, nets)
     # A wrong rule is found soonest by what a rule refuses.
     with_nets = sorted((case for case in cases if case.net), key=lambda case: asks_rules and bool(case.commands))
+    if place is gathers:
+        with_nets = [case for case in with_nets if any(command[0] == "gather" for command in case.commands)]
     with planted(place, name, wrong):
         return any(answer(case, asks_rules) != case.due[1] for case in with_nets)
 

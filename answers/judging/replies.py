@@ -1,6 +1,7 @@
 """The replies to commands, and the printed net, by docs/language.md."""
 
 import books
+import gathers
 import rules
 import units
 
@@ -67,6 +68,7 @@ def reply(book, command):
         "view": view,
         "dump": dump,
         "grant": books.granted,
+        "gather": gathers.gathered,
         "route": books.routed,
         "revoke": books.revoked,
     }

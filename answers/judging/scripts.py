@@ -1,6 +1,9 @@
 """Commands over a net, made by dice, and the text of a net with commands as a user might spell it."""
 
+import itertools
+
 import books
+import gathers
 import nets
 import placements
 import replies
@@ -10,6 +13,8 @@ IDS = ["g0", "g1", "g2", "g3", "g4", "g5"]
 MANY_IDS = [f"b{number}" for number in range(12)]
 TRIED = "tried"
 TRIES = 4
+MOST_SCATTERS = 400
+"""How many scattered placements are tried at most, so that trying them all takes no minutes."""
 NO_NODE = "nowhere"
 
 
@@ -52,6 +57,11 @@ class Script:
     def live_id(self):
         """An id: mostly one that is live."""
         return self.dice.one_of([grant.id for grant in self.book.grants] if self.book.grants and self.dice.roll(8) else self.ids)
+
+    def shown_at(self, stop):
+        """A name that some record could show at a stop, mostly the first of its page; or the first of any memory."""
+        ends = sorted(nets.resolved(self.net, self.led(self.book.slots(), stop)))
+        return ends[0] if ends else (self.dice.one_of(self.memories or [0]), 0)
 
     def sight(self):
         """A buffer's first name that an agent could be shown by some records, with the agent and a size; or None."""
@@ -209,7 +219,7 @@ class Script:
 
     def is_refused(self):
         """The last two changes that were asked for are refused."""
-        replies = [due for command, due in zip(self.commands, self.due) if command[0] in ("grant", "route")]
+        replies = [due for command, due in zip(self.commands, self.due) if command[0] in ("gather", "grant", "route")]
         return len(replies) > 1 and all(" refused: " in due for due in replies[-2:])
 
     def crowded(self):
@@ -227,6 +237,83 @@ class Script:
             self.ask("dump")
             if self.dice.once_in(6):
                 self.question()
+        self.views()
+        if self.dice.once_in(4):
+            self.addresses()
+
+    def piece_at(self, agent, at):
+        """A buffer that a record could show an agent from an address on, mostly by whole slots; or None where no unit is reached."""
+        stops = sorted(nets.stops(self.net, (agent, at)))
+        if not stops:
+            return None
+        page, (node, base) = 1 << self.net.nodes[stops[0][0]].unit.page, self.shown_at(stops[0])
+        size = self.dice.one_of([page, page, page, 2 * page, page - stops[0][1] % page, 1])
+        room = next((by for by in range(size) if not nets.is_accepted(self.net, (node, base + by))), size)
+        return placements.Request(agent, node, base, room if room and self.dice.roll(30) else size, units.BOTH)
+
+    def run_of(self, count):
+        """An agent and so many buffers that records of one unit could show it one after the other; or None."""
+        names, slots, found = placements.asked_names(self.net), self.book.slots(), []
+        free = [name for name in names if any(slots.is_free(units.slot_of(self.net, stop)) for stop in nets.stops(self.net, name))]
+        if not names:
+            return None
+        agent, at = self.dice.one_of(free if free and self.dice.roll(12) else names)
+        for _ in range(count):
+            tried = [self.piece_at(agent, at) for _ in range(TRIES)]
+            if None in tried:
+                break
+            request = next((each for each in tried if gathers.stands(self.net, slots, each, at)), tried[0])
+            half = request.size // 2 if self.dice.once_in(6) else 0
+            found += [(self.net.nodes[request.node].name, request.base, half)] * bool(half)
+            found.append((self.net.nodes[request.node].name, request.base + half, request.size - half))
+            at += request.size
+        return (self.net.nodes[agent].name, found) if found else None
+
+    def pieces(self):
+        """An agent, one to four pieces and an access or none: mostly the first of a few lists that is granted, and one of which not
+        too many scattered placements are to be tried."""
+        made = []
+        for last in (*[False] * TRIES, True):
+            run = self.run_of(self.dice.one_of([1, 2, 2, 2, 3, 3, 4]))
+            agent, parts = run or (self.mostly(self.agents), [(self.mostly(self.all), self.addr(), self.dice.roll(4))])
+            free = self.dice.mixed([id for id in self.ids if not self.book.live(id)])
+            ids = [free[place] if place < len(free) and self.dice.roll(20) else self.dice.one_of(self.ids) for place in range(len(parts))]
+            made, access = tuple((id, *part) for id, part in zip(ids, parts)), self.access()
+            number = self.net.number(agent)
+            if gathers.refusal(self.book, number, made):
+                if last or self.dice.once_in(8):
+                    break
+                continue
+            requests = gathers.requests_of(self.net, number, made, books.rights_of(access))
+            every = gathers.scatters(self.net, self.book.slots(), requests)
+            count = sum(1 for _ in itertools.islice(every, MOST_SCATTERS + 1))
+            if 0 < count <= MOST_SCATTERS or count == 0 and (last or self.dice.once_in(4)):
+                break
+        return agent, made, access
+
+    def wrong_pieces(self):
+        """Adds pieces of which each part may be wrong, so that one refusal comes before another."""
+        pick = self.dice.one_of
+        agent = pick([self.mostly(self.agents), self.mostly(self.agents), NO_NODE, pick(self.all)])
+        nodes = [pick([pick(self.all), pick(self.all), self.mostly(self.all), NO_NODE]) for _ in range(self.dice.between(1, 3))]
+        made = [(pick([self.new_id(), self.live_id()]), node, self.addr(), self.dice.roll(4)) for node in nodes]
+        if not gathers.refusal(self.book, self.net.number(agent), made):
+            made[0] = (made[0][0], NO_NODE, *made[0][2:])
+        self.ask("gather", agent, tuple(made), self.access())
+
+    def scattered(self):
+        """Adds buffers in pieces and buffers in one, some of which are taken back, the tables behind each of these, and at the end
+        what all agents see."""
+        for _ in range(self.dice.between(6, 12)):
+            if self.dice.once_in(8):
+                self.wrong_pieces()
+            elif self.book.grants and self.dice.once_in(2 if self.is_refused() else 4):
+                self.ask("revoke", self.live_id())
+            elif self.dice.once_in(6):
+                self.ask("grant", *self.fitting())
+            else:
+                self.ask("gather", *self.pieces())
+            self.ask("dump")
         self.views()
         if self.dice.once_in(4):
             self.addresses()
@@ -278,10 +365,19 @@ def spelled_node(dice, net, node):
     return " ".join(parts) + ";" + (" // " + node.name if dice.once_in(8) else "")
 
 
+def spelled_words(dice, words):
+    """Words and numbers, as they may be spelled."""
+    return " ".join(number_text(dice, word) if isinstance(word, int) else word for word in words)
+
+
 def spelled_command(dice, command):
     """A command, as it may be spelled."""
-    *words, access = command if command[0] in ("resolve", "lookup", "view", "grant") else (*command, None)
-    spelled = " ".join(number_text(dice, word) if isinstance(word, int) else word for word in words)
+    if command[0] == "gather":
+        word, agent, pieces, access = command
+        spelled = f"{word} {agent} " + " and ".join(spelled_words(dice, piece) for piece in pieces)
+    else:
+        *words, access = command if command[0] in ("resolve", "lookup", "view", "grant") else (*command, None)
+        spelled = spelled_words(dice, words)
     return spelled + ("" if access is None else f" for {access}") + ";"
 
 
