@@ -1,4 +1,4 @@
-"""What the grants, routes, revokes and trees of a description are answered, and what may be behind a refusal.
+"""What the grants, buffers in pieces, routes, revokes and trees of a description are answered, and what may be behind a refusal.
 
 The program answers them; the notes on a refusal are read off the description, and say where to look."""
 
@@ -9,8 +9,8 @@ from netconf_layout import WORDS
 from netconf_source import CommandRows, commands_of, nodes_of, script_of
 from netconf_text import Trouble, run
 
-CHANGES = ("grant", "route", "revoke")
-"""The commands that change tables. The reply to each is one line, which begins with its id."""
+CHANGES = ("grant", "gather", "route", "revoke")
+"""The commands that change tables. The reply to each is one line, which begins with its id; that to `gather` with this word."""
 
 ASKED = (*CHANGES, "radix")
 """The commands whose refusals are looked for. A tree of pages is asked for with a pool of none, since then its reply is one line:
@@ -38,6 +38,15 @@ FAULTS = {
 }
 """What each refusal says, in a few words."""
 
+GATHER_FAULTS = {
+    "IdUsed": "a grant or a route with the id of this piece is live, or an earlier piece has it",
+    "NoTarget": "the node of this piece is none, or has interrupt vectors",
+    "NotAccepted": "the size of this piece is 0, or its node does not accept this address",
+    "BookFull": "with the pieces there would be more than 4,096 grants and routes",
+    "NoPlacement": "no unit gives the agent exactly the pieces, one after the other, and nobody anything else",
+}
+"""What those of a `gather` say that say something else; the number is that of the piece, counted from 0."""
+
 
 def changes_of(text):
     """The commands of a description that change tables."""
@@ -46,7 +55,7 @@ def changes_of(text):
 
 def replies_to(text, commands):
     """What the program replies to commands that change tables, over the declarations of a description."""
-    return replied(text, [(command.source, command.word, command.id) for command in commands])
+    return replied(text, [(command.source, command.word, command.title) for command in commands])
 
 
 def replied(text, rows):
@@ -65,7 +74,9 @@ def replied(text, rows):
 
 def question(row):
     """The row of a command as it is asked: one for a tree with a pool of none. It is no longer than the command."""
-    source, word, title = row
+    source, word, _ = row
+    if word == "gather":
+        return source, word, word
     if word != "radix":
         return row
     name = TREE.match(source)["name"]
@@ -111,23 +122,38 @@ def refused_in(data, most):
             found += 1
             if found <= most:
                 command, net = commands.command(index), net or Net(nodes_of(text))
-                yield command, fault, list(notes_of(command, fault.split(" ")[0], net, live))
+                yield command, fault, list(notes_of(part_of(command, fault), fault.split(" ")[0], net, live))
         elif word == "revoke":
             live.pop(title)
         elif word in CHANGES:
-            live[title] = commands.command(index)
+            live.update((part.id, part) for part in commands.command(index).parts)
     if found > most:
         yield found - most
+
+
+def what_of(command, fault):
+    """What the refusal of a command says, in a few words."""
+    name = fault.split(" ")[0]
+    return (GATHER_FAULTS if command.word == "gather" else {}).get(name) or FAULTS.get(name, "a refusal of a later netconf")
+
+
+def part_of(command, fault):
+    """The piece of which a refusal of a `gather` tells the number; any other command itself."""
+    words = fault.split(" ")
+    return command.parts[int(words[1])] if command.word == "gather" and len(words) > 1 else command
 
 
 def notes_of(command, fault, net, live):
     """The notes on a refusal; `live` has the grants and routes that live, by their ids."""
     if fault == "IdUsed":
-        yield live[command.id].line, f"{command.id} stands here"
+        if command.id in live:
+            yield live[command.id].line, f"{command.id} stands here"
+        else:
+            yield command.line, f"{command.id} is the id of an earlier piece"
     elif fault == "NoAgent":
         yield notes_on_node(command, net.nodes, command.names[0], "is no agent")
     elif fault == "NoTarget":
-        other = "has interrupt vectors: use `route`" if command.word == "grant" else "has no interrupt vectors"
+        other = "has no interrupt vectors" if command.word == "route" else "has interrupt vectors: use `route`"
         yield notes_on_node(command, net.nodes, command.names[1], other)
     elif fault == "NoUnit":
         yield notes_on_node(command, net.nodes, command.names[0], "is no unit")
@@ -137,10 +163,11 @@ def notes_of(command, fault, net, live):
         yield from notes_on_accepts(command, net.nodes[command.names[1]])
     elif fault == "NoPlacement":
         yield from notes_on_units(command, net)
-        if command.word == "grant":
-            yield from notes_on_pages(command, net)
-        else:
+        if command.word == "route":
             yield from notes_on_vectors(command, net.nodes, live)
+        else:
+            for part in command.parts:
+                yield from notes_on_pages(part, net)
         yield from notes_on_others(command, net, live)
 
 
@@ -188,7 +215,8 @@ def notes_on_pages(command, net):
     units = net.units_from(command.names[0])
     page = min((1 << unit.shape[1] for unit in units), default=1)
     if (base | size) % page:
-        yield command.line, f"{base:#x}-{base + size - 1:#x} is no whole number of pages: the smallest on the way has {page:#x}"
+        what = f"{base:#x}-{base + size - 1:#x}" if command.word == "grant" else f"{command.id}, {base:#x}-{base + size - 1:#x},"
+        yield command.line, f"{what} is no whole number of pages: the smallest on the way has {page:#x}"
 
 
 def notes_on_vectors(command, nodes, live):

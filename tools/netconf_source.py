@@ -50,8 +50,8 @@ LARGE = 1 << 80
 
 COMMANDS = {"resolve": (False, 1, 1, 0), "lookup": (False, 1, 1, 0), "view": (False, 1, 0, 0), "grant": (True, 2, 2, 0),
             "route": (True, 1, 1, 1), "revoke": (True, 0, 0, 0), "dump": (False, 0, 0, 0), "radix": (False, 1, 1, 0),
-            "split": (False, 0, 0, 0), "absorb": (False, 1, 0, 0)}
-"""For each command whether an id follows it, and how many names, expressions, and names again."""
+            "split": (False, 0, 0, 0), "absorb": (False, 1, 0, 0), "gather": (False, 1, 0, 0)}
+"""For each command whether an id follows it, and how many names, expressions, and names again; pieces of a `gather` follow."""
 
 
 class Unreadable(Exception):
@@ -215,11 +215,22 @@ class Scope:
     notes: tuple = ()
 
 
+@dataclass
+class Piece:
+    """A piece of a `gather`: its line, its id, the full names of the agent and of its node, and its base and size."""
+    line: int
+    id: str
+    names: list
+    numbers: list
+    word: str = "gather"
+
+
 class Command:
     """A command: its word, its line, its id (or empty), the full names of its nodes, its numbers, and its access.
 
     `source` is the command as it stands in the text, without comments. All but it, the word and the id are read when they
-    are asked for. The access is `read`, `write` or empty."""
+    are asked for. The access is `read`, `write` or empty. Of a `gather` the names are the agent and the node of each piece, and
+    the numbers the base and the size of each; it has its ids in its parts."""
 
     def __init__(self, text, word, title, source, start):
         self.word, self.id, self.source = word, title, source
@@ -250,8 +261,25 @@ class Command:
         """The access that it says."""
         return self._parts[2]
 
+    @property
+    def title(self):
+        """What the reply to a command that changes tables begins with."""
+        return self.id or self.word
+
+    @property
+    def parts(self):
+        """The pieces of a `gather`; of any other command it alone."""
+        if self.word != "gather":
+            return [self]
+        agent, *nodes = self.names
+        rows = zip(self._parts[3], nodes, self.numbers[::2], self.numbers[1::2])
+        return [Piece(line, title, [agent, node], [base, size]) for (line, title), node, base, size in rows]
+
     def __str__(self):
         names, numbers = self.names, [f"{number:#x}" for number in self.numbers]
+        if self.word == "gather":
+            pieces = [f"{part.id} {part.names[1]} {part.numbers[0]:#x} {part.numbers[1]:#x}" for part in self.parts]
+            names, numbers = [names[0], " and ".join(pieces)], []
         behind = [names[0], *numbers, names[1]] if self.word == "route" else names + numbers
         access = ["for", self.access] if self.access else []
         return " ".join([self.word, *([self.id] if self.id else []), *behind, *access]) + ";"
@@ -312,16 +340,26 @@ class Reader:
         return parts
 
     def command(self):
-        """The names of a command, its expressions, and its access."""
-        has_id, names, expressions, names_behind = COMMANDS[self.want(*COMMANDS)]
+        """The names of a command, its expressions, its access, and the line and the id of each of its pieces."""
+        word = self.want(*COMMANDS)
+        has_id, names, expressions, names_behind = COMMANDS[word]
         if has_id:
             self.take()
         names = [self.name() for _ in range(names)]
         expressions = [self.expression() for _ in range(expressions)]
         names += [self.name() for _ in range(names_behind)]
+        pieces = self.list_of(self.piece, "and") if word == "gather" else []
+        names += [name for _, name, _, _ in pieces]
+        expressions += [expression for *_, base, size in pieces for expression in (base, size)]
         access = self.want("read", "write") if self.has("for") else ""
         self.want(";")
-        return names, expressions, access
+        return names, expressions, access, [place for place, *_ in pieces]
+
+    def piece(self):
+        """A piece of a `gather`: its line and id, its name, and its two expressions."""
+        self.peek()
+        place = self.line, self.take()
+        return place, self.name(), self.expression(), self.expression()
 
     def read_node(self):
         """What stands behind the role of a node."""

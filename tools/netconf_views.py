@@ -111,8 +111,8 @@ class Board:
 
     def _read(self, lines, changes, agents, accesses):
         """Takes the replies to the commands, and then those to the questions for views."""
-        self._refused = [(change.line, change.word, change.id, line.split(" ", 2)[2]) for change, line in zip(changes, lines)
-                         if line.startswith(f"{change.id} refused: ")]
+        self._refused = [(change.line, change.word, change.id or change.names[0], line.split(" ", 2)[2])
+                         for change, line in zip(changes, lines) if line.startswith(f"{change.title} refused: ")]
         at = len(changes)
         for agent in agents:
             for access in accesses:

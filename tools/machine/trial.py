@@ -97,7 +97,7 @@ class Trial:
         lookups = [f"lookup {names[agent]} {address:#x} for {'write' if is_write else 'read'};" for agent, address, is_write in questions]
         lines = [*lookups]
         for command in commands_of(self.text):
-            if command.word in ("grant", "route", "revoke", "dump"):
+            if command.word in ("grant", "gather", "route", "revoke", "dump"):
                 lines += [str(command), *(lookups if command.word == "dump" else [])]
         text = declarations_of(self.text) + "begin;\n" + "\n".join(lines) + "\n"
         _, output = run("run", text.encode("latin-1"))

@@ -72,8 +72,11 @@ def states_of(text, commands):
         if answer == "revoked":
             del live[command.id]
         elif command and not answer.startswith("refused: "):
-            where, size = (int(answer.split()[1], 16), command.numbers[1]) if command.word == "grant" else (command.numbers[0], 1)
-            live[command.id] = [(agents[command.names[0]], address) for address in pages_of(where, size)]
+            where = command.numbers[0] if command.word == "route" else int(answer.split()[1], 16)
+            for part in command.parts:
+                size = 1 if command.word == "route" else part.numbers[1]
+                live[part.id] = [(agents[part.names[0]], address) for address in pages_of(where, size)]
+                where += size
         lookups = [lookup for some in live.values() for lookup in some]
         script += [command.source] if command else []
         script += trees + [f"lookup {layout.agents[agent].name} {address:#x} for {access};" for agent, address in lookups for access in ("read", "write")]

@@ -101,7 +101,7 @@ def check_limit(checks, folder):
 def check_trees(checks, folder):
     """Many commands for trees: each is asked by a command that is no longer, and the pool of each is looked at."""
     head = "agent a is over u[0];unit u[0] kind pages page 0 slots 1 reach 8 to m;m is accept [0x0-0xff];begin;"
-    for source, count in (("radix u[0]1;", 0), ("radix u[0] 0;", 501), ("radix u[(1-1)](0+1);", 0), ("radix m(1);", 501), ("radix m 1;", 501)):
+    for source, count in (("gather a p m(1)0;", 501), ("gather a p m 1 1 and p m 1 1;", 501), ("radix u[0]1;", 0), ("radix u[0] 0;", 501), ("radix u[(1-1)](0+1);", 0), ("radix m(1);", 501), ("radix m 1;", 501)):
         text = head + source * 5000
         rows = CommandRows(text, ASKED).rows
         checks.equal((len(rows), len(script_of(text, [question(row)[0] for row in rows])) <= len(text)), (5000, True), f"hostile: {source} is asked by no longer a command")

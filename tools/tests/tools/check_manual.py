@@ -11,9 +11,9 @@ from checks import TOOLS, TOP, outcome
 
 NAMED = {
     "netconf.1": ["run", "check", "demo", "audit", "NoImage", "accept", "map", "over", "agent", "vectors", "unit", "module", "use", "for", "begin", "resolve", "lookup",
-                  "view", "dump", "radix", "split", "absorb", "grant", "route", "revoke", "IdUsed", "NoAgent", "NoTarget", "NotAccepted", "BookFull",
+                  "view", "dump", "radix", "split", "absorb", "grant", "gather", "route", "revoke", "IdUsed", "NoAgent", "NoTarget", "NotAccepted", "BookFull",
                   "NoPlacement", "NoGrant", "NoUnit", "Pool"],
-    "netconf-lint.1": ["--audit", "--help", "--version", "NETCONF", "Overlap", "Range", "Repeat", "VectorSpace", "Loop", "Deep", "Duplicate", "warning", "IdUsed",
+    "netconf-lint.1": ["--audit", "--help", "--version", "NETCONF", "Overlap", "Range", "Repeat", "VectorSpace", "Loop", "Deep", "Duplicate", "warning", "gather", "IdUsed",
                        "NoAgent", "NoTarget", "NotAccepted", "NoPlacement", "NoUnit", "Pool"],
     "netconf-layout.1": ["--json", "--c", "--prefix", "--help", "--version", "NETCONF", "//@"],
     "netconf-dump2bin.1": ["--changes", "--dump", "--tree", "--output", "--help", "--version", "fence"],
@@ -51,7 +51,7 @@ def check_examples(checks):
 def check_documents(checks):
     """What the README and the pages of the language and of images show behind a text is what the program prints."""
     words = {"prints": "run", "is answered by": "run", "is printed as": "check"}
-    for name, count in (("README.md", 1), ("docs/language.md", 6), ("docs/image.md", 1)):
+    for name, count in (("README.md", 1), ("docs/language.md", 7), ("docs/image.md", 1)):
         parts = (TOP / name).read_text().split("```\n")
         pairs = [part for part in range(1, len(parts) - 2, 2) if parts[part + 1].strip() in words]
         checks.equal(len(pairs), count, f"documents: how many texts {name} shows with what they print")

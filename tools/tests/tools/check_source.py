@@ -33,7 +33,8 @@ HEAD = "m is accept [0x0-0xffff]; agent a is over m;\n"
 SCRIPT = ("for i in 0..1; agent a[i] is map [0x0-0xfff to u[i] at 0x0, 0x2000 to irt at i]; unit u[i] kind pages page 12 slots 1 reach 16 "
           "to m; end; m is accept [0x0-0xffff]; vectors v is accept [0x20-0x21]; unit irt kind vectors page 0 slots 2 reach 8 to v; "
           "read is; radix is over m; // begin;\nbegin; resolve a[0+1] 2*(4-1)\nfor write; grant write a[1*1] m 0x1000+0x1000 0x1000 for read; "
-          "route r a[0] 0x2000 v; lookup a[1] 8; view a[1] for read; view a[0]; dump; radix u[(2-1)] 2*1; radix u[0] 0; radix radix 1; split; absorb m; resolve read 0; revoke write; view a[1];")
+          "route r a[0] 0x2000 v; lookup a[1] 8; view a[1] for read; view a[0]; dump; radix u[(2-1)] 2*1; radix u[0] 0; radix radix 1; split; absorb m; resolve read 0; revoke write; view a[1]; "
+          "gather a[1] p m 0x0 0x1000; revoke p; gather a[0] q m 0x2000+0 4096 and r m (0x4000-0x1000) 1 for write; view a[0] for write;")
 """A description with each command."""
 
 

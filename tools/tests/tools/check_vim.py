@@ -11,11 +11,13 @@ agent cpu[3].core is accept [0x1F-007] map [0x8 to node_b at i*2] over bus;
 resolve a 0xg;
 view read for write;
 dump; radix smmu 0x10; radix is over radix;
+gather nic p m 1 2; gather is over gather; gather.x is;
 """
 PLACES = {(1, 4): "netconfComment", (2, 1): "netconfDeclaration", (2, 7): "netconfIndexed", (2, 11): "netconfNumber",
           (2, 20): "netconfPart", (2, 31): "netconfNumber", (2, 36): "netconfNumber", (2, 53): "", (2, 63): "netconfOperator",
           (3, 1): "netconfCommand", (3, 9): "", (3, 11): "netconfBadNumber", (4, 6): "", (4, 11): "netconfDeclaration", (4, 15): "netconfAccess",
-          (5, 7): "netconfCommand", (5, 13): "", (5, 18): "netconfNumber", (5, 24): "", (5, 38): ""}
+          (5, 7): "netconfCommand", (5, 13): "", (5, 18): "netconfNumber", (5, 24): "", (5, 38): "",
+          (6, 1): "netconfCommand", (6, 8): "", (6, 16): "netconfNumber", (6, 21): "", (6, 36): "", (6, 44): ""}
 """Lines and columns of the text, and the group by which each is coloured."""
 
 

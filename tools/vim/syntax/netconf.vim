@@ -9,8 +9,8 @@ syntax keyword netconfDeclaration agent vectors unit module use for in end begin
 syntax keyword netconfPart is accept map to and at over kind page slots reach as
 syntax keyword netconfSort num node
 syntax keyword netconfCommand resolve lookup view grant route revoke dump split absorb
-" This word is not reserved: it is a command where a name comes next.
-syntax match netconfCommand "\%(\%(^\|;\)\s*\)\@<=radix\>\ze\s\+\%(is\>\)\@!\h"
+" These words are not reserved: each is a command where a name comes next.
+syntax match netconfCommand "\%(\%(^\|;\)\s*\)\@<=\%(radix\|gather\)\>\ze\s\+\%(is\>\)\@!\h"
 
 " A number, and what begins as one and is none.
 syntax match netconfBadNumber "\<\d\w*\>"
