@@ -41,7 +41,7 @@ def map_rows():
     for part in files.split("\n### ")[1:]:
         heading, _, table = part.partition("\n")
         for cell in re.findall(r"^\| (`[^|]*) \|", table, re.M):
-            yield heading.split(" and "), cell
+            yield re.split(", | and ", heading), cell
 
 
 def check_map(checks):
