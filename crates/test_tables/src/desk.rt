@@ -9,6 +9,9 @@ use bitflags::Flags;
 use dn_base::memory_tables::MemTables;
 use dn_book::book::{Book, RevokeFault};
 use dn_flat::flats::Flats;
+use dn_gather::fault::GatherFault;
+use dn_gather::gather::gather;
+use dn_gather::piece::Piece;
 use dn_grant::fault::GrantFault;
 use dn_grant::grant::grant;
 use dn_kind::rights::{Access, Rights};
@@ -58,6 +61,36 @@ impl<'a> Desk<'a> {
         }
         let system = self.system;
         Some(grant(alloc, &mut self.book, system, id, request, &mut self.device))
+    }
+
+    /// Grants one to eight pieces. `None`, and nothing is done, where the book is not sound, or the rights or the pieces
+    /// are none or too many.
+    pub fn gather(
+        &mut self,
+        alloc: Global,
+        agent: u16,
+        pieces: &[Piece],
+        rights: Rights,
+    ) -> Option<Result<u64, GatherFault>>
+        requires { IsDesk meaning self.old }
+        ensures { IsDesk meaning self.new }
+    {
+        if !self.book.is_unfailed() || !are_rights(rights) {
+            return None;
+        }
+        if pieces.is_empty() || pieces.len() > 8 {
+            return None;
+        }
+        let system = self.system;
+        Some(gather(
+            alloc,
+            &mut self.book,
+            system,
+            agent,
+            pieces,
+            rights,
+            &mut self.device,
+        ))
     }
 
     /// Routes a line of an agent to a vector of a node. `None`, and nothing is done, where the book is not sound.

@@ -7,15 +7,17 @@
 
 use crate::grants::exact::place_and_compare;
 use crate::grants::faults::fail_each_call;
+use crate::grants::pieces::gather_pieces;
 use test_plans::run_with_kinds;
 
 mod boards;
 mod commands;
 mod exact;
 mod faults;
+mod pieces;
 mod words;
 
 #[test]
 fn places_exactly_and_leaves_each_address_as_before_or_after(rt: HostRuntime) {
-    run_with_kinds!(rt; place_and_compare, fail_each_call)
+    run_with_kinds!(rt; place_and_compare, fail_each_call, gather_pieces)
 }
