@@ -4,13 +4,14 @@
 //! The wanted values are worked out by hand from the layouts and the limits. No text with a unit is taken, so the
 //! nets are made by calls.
 
-ghost use Rattle.std.specs.Prelude.{◌≡◌, IfOk};
+ghost use Rattle.std.specs.Prelude.{◌≡◌};
 ghost use Rattle.dn_kind.specs.Terms.{unit_shape};
 
 use dn_base::items::Items;
 use dn_kind::shape::Shape;
 use dn_net::node::Unit;
-use std::alloc::{AllocError, Global};
+use std::alloc::Global;
+use std::process::Abort;
 
 mod layouts;
 mod slots;
@@ -28,16 +29,16 @@ pub fn shape(page: u8, slots: u32, reach: u8, ports: u8) -> Shape
     }
 }
 
-/// A unit of this shape, of the kind of a number. Its ports are all node 0. `Err` is want of memory.
-pub fn unit_of(alloc: Global, kind: u8, shape: Shape) -> Result<Unit, AllocError>
-    ensures { IfOk result (λ u. unit_shape u ≡ shape) }
+/// A unit of this shape, of the kind of a number. Its ports are all node 0.
+pub fn unit_of(rt: &impl Abort, alloc: Global, kind: u8, shape: Shape) -> Unit
+    ensures { unit_shape result ≡ shape }
 {
-    let ports = vec![in alloc; 0; usize::from(shape.ports)]?;
-    Ok(Unit {
+    let ports = vec![in alloc; 0; usize::from(shape.ports)].expect(rt, "memory");
+    Unit {
         kind,
         page: shape.page,
         slots: shape.slots,
         reach: shape.reach,
         ports: Items::from_vec(ports),
-    })
+    }
 }

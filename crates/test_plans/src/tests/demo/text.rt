@@ -1,7 +1,6 @@
 //! The generated text.
 
 use dn_demo::text;
-use std::test::Fail;
 
 /// The text for one agent.
 const ONE: &str = "\
@@ -38,23 +37,21 @@ const ONE: &str = "\
     revoke g_0_15;\n";
 
 #[test]
-fn writes_the_text_of_one_agent(rt: HostRuntime) -> Result<(), Fail> {
-    let made = text::demo_text(rt.alloc(), 1)?;
+fn writes_the_text_of_one_agent(rt: HostRuntime) {
+    let made = text::demo_text(rt.alloc(), 1).expect(&rt, "memory");
     assert!(rt; made.as_slice() == ONE.as_bytes());
-    Ok(())
 }
 
 /// How many bytes the text for 64 agents has.
 const MOST: usize = 49_989;
 
 #[test]
-fn writes_the_text_of_64_agents(rt: HostRuntime) -> Result<(), Fail> {
-    let made = text::demo_text(rt.alloc(), 64)?;
+fn writes_the_text_of_64_agents(rt: HostRuntime) {
+    let made = text::demo_text(rt.alloc(), 64).expect(&rt, "memory");
     assert!(rt; made.len() == MOST);
     let head =
         b"dram is accept [0x0-0xffffffff];\nbus is map [0x100000000-0x1ffffffff to dram at 0x0];\nfor i in 0..63;\n";
     assert!(rt; made.as_slice().starts_with(head));
     let tail = b"revoke g_63_11;\nrevoke g_63_13;\nrevoke g_63_15;\n";
     assert!(rt; made.as_slice().ends_with(tail));
-    Ok(())
 }

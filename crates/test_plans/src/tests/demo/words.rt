@@ -1,28 +1,31 @@
 //! The words of a command line.
 
 use dn_words::words::{Task, Words};
-use std::alloc::{AllocError, Global};
-use std::test::Fail;
+use std::alloc::Global;
+use std::process::Abort;
 
-/// What these words ask for.
-fn asked(alloc: Global, list: &[&str]) -> Result<Option<Task>, AllocError> {
+/// Compares what these words ask for.
+fn compare(rt: &impl Abort, alloc: Global, list: &[&str], wanted: Option<Task>) {
     let mut words = Words::new(alloc);
     for word in list {
-        words.push(word)?;
+        words.push(word).expect(rt, "memory");
     }
-    words.task()
+    let asked = words.task().expect(rt, "memory");
+    assert!(rt; asked == wanted, "{list:?}");
 }
 
 #[test]
-fn takes_each_form_of_words(rt: HostRuntime) -> Result<(), Fail> {
-    let alloc = rt.alloc();
-    assert!(rt; asked(alloc, &["run"])? == Some(Task::Run));
-    assert!(rt; asked(alloc, &["check"])? == Some(Task::Check));
-    assert!(rt; asked(alloc, &["audit"])? == Some(Task::Audit));
-    assert!(rt; asked(alloc, &["demo", "1"])? == Some(Task::Demo(1)));
-    assert!(rt; asked(alloc, &["demo", "10"])? == Some(Task::Demo(10)));
-    assert!(rt; asked(alloc, &["demo", "64"])? == Some(Task::Demo(64)));
-    Ok(())
+fn takes_each_form_of_words(rt: HostRuntime) {
+    for (word, wanted) in [
+        ("run", Task::Run),
+        ("check", Task::Check),
+        ("audit", Task::Audit),
+    ] {
+        compare(&rt, rt.alloc(), &[word], Some(wanted));
+    }
+    for (number, wanted) in [("1", 1), ("10", 10), ("64", 64)] {
+        compare(&rt, rt.alloc(), &["demo", number], Some(Task::Demo(wanted)));
+    }
 }
 
 /// Numbers of which none is spelled as that of a demonstration.
@@ -31,23 +34,20 @@ const NO_NUMBERS: [&str; 12] = [
 ];
 
 #[test]
-fn takes_no_other_number(rt: HostRuntime) -> Result<(), Fail> {
+fn takes_no_other_number(rt: HostRuntime) {
     for number in NO_NUMBERS {
-        assert!(rt; asked(rt.alloc(), &["demo", number])? == None, "{number}");
+        compare(&rt, rt.alloc(), &["demo", number], None);
     }
-    Ok(())
 }
 
 #[test]
-fn takes_no_other_words(rt: HostRuntime) -> Result<(), Fail> {
-    let alloc = rt.alloc();
-    assert!(rt; asked(alloc, &[])? == None);
-    assert!(rt; asked(alloc, &["demo"])? == None);
-    assert!(rt; asked(alloc, &["run", "4"])? == None);
-    assert!(rt; asked(alloc, &["audit", "4"])? == None);
-    assert!(rt; asked(alloc, &["demo", "4", "4"])? == None);
-    assert!(rt; asked(alloc, &["--help"])? == None);
-    assert!(rt; asked(alloc, &["--", "run"])? == None);
-    assert!(rt; asked(alloc, &["help"])? == None);
-    Ok(())
+fn takes_no_other_words(rt: HostRuntime) {
+    compare(&rt, rt.alloc(), &[], None);
+    for word in ["demo", "--help", "help"] {
+        compare(&rt, rt.alloc(), &[word], None);
+    }
+    for (first, second) in [("run", "4"), ("audit", "4"), ("--", "run")] {
+        compare(&rt, rt.alloc(), &[first, second], None);
+    }
+    compare(&rt, rt.alloc(), &["demo", "4", "4"], None);
 }

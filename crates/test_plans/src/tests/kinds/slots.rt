@@ -6,7 +6,6 @@ use dn_kind::rights::Rights;
 use dn_kind::slots::held_record;
 use dn_kind::unit_kind::{Record, UnitKind};
 use dn_kinds::shipped::ShippedKind::{Radix, Remap};
-use std::test::Fail;
 
 /// A record of both rights that is held.
 fn held(port: u8, page: u64) -> Option<Record> {
@@ -15,7 +14,7 @@ fn held(port: u8, page: u64) -> Option<Record> {
 }
 
 #[test]
-fn holds_records_within_the_unit(rt: HostRuntime) -> Result<(), Fail> {
+fn holds_records_within_the_unit(rt: HostRuntime) {
     // Outputs are below 2^32 and pages have 2^12 addresses, so output pages are below 0x100000.
     for (number, kind, word, wanted) in [
         (REMAP, Remap, 0x8000403, held(1, 0x80004)),
@@ -29,9 +28,8 @@ fn holds_records_within_the_unit(rt: HostRuntime) -> Result<(), Fail> {
         (RADIX, Radix, 0x100000001, None),
         (RADIX, Radix, 0x80004002, None),
     ] {
-        let unit = unit_of(rt.alloc(), number, shape(12, 16, 32, 2))?;
+        let unit = unit_of(&rt, rt.alloc(), number, shape(12, 16, 32, 2));
         assert!(rt; kind.words() == 1);
         assert!(rt; held_record(&unit, &kind, &[word]) == wanted, "{word:x}");
     }
-    Ok(())
 }

@@ -35,7 +35,7 @@ fn found_at(
     slot: u32,
 ) -> Result<Option<Record>, Bad> {
     shipped_are_lawful();
-    let unit = unit_of(alloc, PAGES, shape(12, slots, 40, 1)).expect(rt, "memory");
+    let unit = unit_of(rt, alloc, PAGES, shape(12, slots, 40, 1));
     assert!(rt; unit.has_plain_shape());
     assert!(rt; kind.words() == 1);
     assert!(rt; slot < slots && slots <= 262_144 && image.len() <= 4_194_304);
@@ -159,7 +159,7 @@ fn bad_entries_are_named(rt: HostRuntime) {
 /// What a walk finds at a slot of a unit of 300 slots of three words.
 fn wide_at(rt: &impl Abort, alloc: Global, image: &[u8], slot: u32) -> Result<Option<Record>, Bad> {
     wide_is_lawful();
-    let unit = unit_of(alloc, PAGES, shape(12, 300, 40, 1)).expect(rt, "memory");
+    let unit = unit_of(rt, alloc, PAGES, shape(12, 300, 40, 1));
     assert!(rt; unit.has_plain_shape());
     assert!(rt; slot < 300 && image.len() <= 4_194_304);
     walk(image, &unit, &Wide, slot)

@@ -7,7 +7,6 @@ use dn_base::whole;
 use dn_base::whole::InputFault;
 use std::io;
 use std::io::{ErrorKind, Read, Write};
-use std::test::Fail;
 
 /// A reader and writer whose every call fails.
 #[derive(Drop)]
@@ -66,23 +65,24 @@ const ERRORS: [ErrorKind; 3] = [
 ];
 
 #[test]
-fn reads_a_reader_of_the_system(rt: HostRuntime) -> Result<(), Fail> {
+fn reads_a_reader_of_the_system(rt: HostRuntime) {
     let mut source = StdSource::new(b"abc".as_slice());
     let mut piece = [0; 2];
     for (wanted, front) in [(2, b"ab".as_slice()), (1, b"c"), (0, b"")] {
         assert!(rt; source.read(&mut piece) == Ok(wanted));
         assert!(rt; piece.starts_with(front), "{wanted} bytes");
     }
-    let text = whole::read_whole(rt.alloc(), &mut StdSource::new(b"abc".as_slice()))?;
+    let text = whole::read_whole(rt.alloc(), &mut StdSource::new(b"abc".as_slice())).expect(
+        &rt, "a text",
+    );
     assert!(rt; text.as_slice() == b"abc".as_slice());
     assert!(rt; StdSource::new(Broken).read(&mut piece) == Err(ReadFault::Failed));
-    Ok(())
 }
 
 #[test]
-fn writes_to_a_writer_of_the_system(rt: HostRuntime) -> Result<(), Fail> {
+fn writes_to_a_writer_of_the_system(rt: HostRuntime) {
     let mut kept = Vec::new(rt.alloc());
-    whole::write_whole(&mut StdSink::new(&mut kept), b"abc")?;
+    whole::write_whole(&mut StdSink::new(&mut kept), b"abc").expect(&rt, "a write");
     assert!(rt; kept.as_slice() == b"abc".as_slice());
     let mut room = [0; 2];
     let mut full = StdSink::new(room.as_mut_slice());
@@ -90,7 +90,6 @@ fn writes_to_a_writer_of_the_system(rt: HostRuntime) -> Result<(), Fail> {
     assert!(rt; full.write(b"c") == Err(WriteFault::Failed));
     assert!(rt; full.write(b"") == Ok(0));
     assert!(rt; StdSink::new(Broken).write(b"c") == Err(WriteFault::Failed));
-    Ok(())
 }
 
 /// A reader or writer whose first call fails by an error.
@@ -102,7 +101,7 @@ fn failing_once<S>(error: ErrorKind, inner: S) -> FailsOnce<S> {
 }
 
 #[test]
-fn answers_each_fault_of_a_reader(rt: HostRuntime) -> Result<(), Fail> {
+fn answers_each_fault_of_a_reader(rt: HostRuntime) {
     for error in ERRORS {
         let mut source = StdSource::new(failing_once(error, b"abc".as_slice()));
         let mut piece = [0; 2];
@@ -111,14 +110,13 @@ fn answers_each_fault_of_a_reader(rt: HostRuntime) -> Result<(), Fail> {
         let mut source = StdSource::new(failing_once(error, b"abc".as_slice()));
         let read = whole::read_whole(rt.alloc(), &mut source);
         assert!(rt; matches!(&read, Err(InputFault::Failed)));
-        let text = whole::read_whole(rt.alloc(), &mut source)?;
+        let text = whole::read_whole(rt.alloc(), &mut source).expect(&rt, "a text");
         assert!(rt; text.as_slice() == b"abc".as_slice());
     }
-    Ok(())
 }
 
 #[test]
-fn answers_each_fault_of_a_writer(rt: HostRuntime) -> Result<(), Fail> {
+fn answers_each_fault_of_a_writer(rt: HostRuntime) {
     for error in ERRORS {
         let mut kept = Vec::new(rt.alloc());
         let mut sink = StdSink::new(failing_once(error, &mut kept));
@@ -132,5 +130,4 @@ fn answers_each_fault_of_a_writer(rt: HostRuntime) -> Result<(), Fail> {
         assert!(rt; written == Err(WriteFault::Failed));
         assert!(rt; kept.is_empty());
     }
-    Ok(())
 }
