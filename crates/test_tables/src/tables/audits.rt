@@ -28,15 +28,17 @@ pub fn audit_images(rt: &impl Abort, alloc: Global, kinds: &Kinds)
     audit_overlaps(rt, alloc, kinds);
 }
 
-/// The audit of the board with pages where slot 0 holds a record of both accesses.
-const BOTH: &str = "audit bytes 144 records 1 shut 0 shared 1
-view core0 for read rows 2
+/// What the core sees on the board with pages, whatever the unit holds.
+const CORE: &str = "view core0 for read rows 2
 0x10000000-0x10000fff uart@0x0
 0x80000000-0xbfffffff dram@0x0
 view core0 for write rows 2
 0x10000000-0x10000fff uart@0x0
 0x80000000-0xbfffffff dram@0x0
-view dma for read rows 1
+";
+
+/// What the engine sees where slot 0 holds a record of both accesses.
+const BOTH: &str = "view dma for read rows 1
 0x0-0xfff dram@0x4000
 view dma for write rows 1
 0x0-0xfff dram@0x4000
@@ -44,41 +46,20 @@ shared dram 0x4000-0x4fff core0 dma
 ";
 
 /// The same where it holds one of writing alone.
-const WRITING: &str = "audit bytes 144 records 1 shut 0 shared 1
-view core0 for read rows 2
-0x10000000-0x10000fff uart@0x0
-0x80000000-0xbfffffff dram@0x0
-view core0 for write rows 2
-0x10000000-0x10000fff uart@0x0
-0x80000000-0xbfffffff dram@0x0
-view dma for read rows 0
+const WRITING: &str = "view dma for read rows 0
 view dma for write rows 1
 0x0-0xfff dram@0x4000
 shared dram 0x4000-0x4fff core0 dma
 ";
 
 /// The same where its record is shut out.
-const SHUT: &str = "audit bytes 144 records 0 shut 1 shared 0
-view core0 for read rows 2
-0x10000000-0x10000fff uart@0x0
-0x80000000-0xbfffffff dram@0x0
-view core0 for write rows 2
-0x10000000-0x10000fff uart@0x0
-0x80000000-0xbfffffff dram@0x0
-view dma for read rows 0
+const SHUT: &str = "view dma for read rows 0
 view dma for write rows 0
 shut smmu 0
 ";
 
 /// The same where its gate is shut.
-const EMPTY: &str = "audit bytes 144 records 0 shut 0 shared 0
-view core0 for read rows 2
-0x10000000-0x10000fff uart@0x0
-0x80000000-0xbfffffff dram@0x0
-view core0 for write rows 2
-0x10000000-0x10000fff uart@0x0
-0x80000000-0xbfffffff dram@0x0
-view dma for read rows 0
+const EMPTY: &str = "view dma for read rows 0
 view dma for write rows 0
 ";
 
@@ -94,18 +75,33 @@ fn audit_pages(rt: &impl Abort, alloc: Global, kinds: &Kinds)
 fn audit_words(rt: &impl Abort, alloc: Global, system: System)
     requires { IsSystem meaning system }
 {
-    for (version, word, wanted) in [
-        (2, 0x8000401, BOTH),
-        (2, 0x8000411, WRITING),
+    for (version, word, counts, rest) in [
+        (2, 0x8000401, "records 1 shut 0 shared 1", BOTH),
+        (2, 0x8000411, "records 1 shut 0 shared 1", WRITING),
         // In the first version a record of one access counts for nothing.
-        (1, 0x8000411, SHUT),
+        (1, 0x8000411, "records 0 shut 1 shared 0", SHUT),
         // A bit that must be 0 is set.
-        (2, 0x8000403, SHUT),
-        (2, 0x8000400, EMPTY),
+        (2, 0x8000403, "records 0 shut 1 shared 0", SHUT),
+        (2, 0x8000400, "records 0 shut 0 shared 0", EMPTY),
     ] {
-        compare_text(rt, alloc, system, &page_image(version, word), wanted);
+        compare_page(rt, alloc, system, &page_image(version, word), counts, rest);
     }
     refuse_bytes(rt, alloc, system);
+}
+
+/// Compares the text of the audit of an image of the board with pages: these counts, what the core sees, and the rest.
+fn compare_page(
+    rt: &impl Abort,
+    alloc: Global,
+    system: System,
+    image: &[u8],
+    counts: &str,
+    rest: &str,
+)
+    requires { IsSystem meaning system }
+{
+    let text = format!(in alloc; "audit bytes 144 {counts}\n{CORE}{rest}").expect(rt, "memory");
+    compare_text(rt, alloc, system, image, text.as_str());
 }
 
 /// Compares the text of the audit of an image.
