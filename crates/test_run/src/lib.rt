@@ -8,29 +8,17 @@
 //! no form read nothing (`faults`). Each call of the device fails in turn: where the units of a net
 //! are made (`devices`), in grants, routes and revokes (`stops`, and with rights of each access
 //! `rights`), and in a demonstration (`demos`). How much an audit reads, and what it writes before
-//! a fault, is in `audits`. `failing` says which calls fail, `outcome` runs the
-//! words over a text, `rows` compares what comes of it, and `words` has the words of the faults of a
-//! text.
+//! a fault, is in `audits`. `failing` says which calls fail, `boards` has the nets of the scripts,
+//! `outcome` runs the words over a text, `rows` compares what comes of it, and `words` has the words of
+//! the faults of a text.
 //!
-//! Lookups in flight are tested over worked events (`flights`), for each answer of a world that
-//! refuses (`worlds`), and over the logs of runs, which are played event by event with lookups
-//! between (`played`), all by the calls of `playing`. What needs the kinds of the program is called
-//! by one test, in `in_flight`.
+//! Lookups in flight are tested by one test, in `flying`, over tables of what is done with a world and
+//! asked of it: worked events (`flights`), each answer of a world that refuses (`worlds`), and the logs
+//! of runs, which are played event by event with lookups between (`played`). `playing` goes over such a
+//! table.
 #![tactic(auto)]
 
 pub mod failing;
-#[cfg(test)]
-mod flights;
-#[cfg(test)]
-mod in_flight;
-#[cfg(test)]
-mod outcome;
-#[cfg(test)]
-mod played;
-#[cfg(test)]
-mod playing;
 pub mod sky;
 #[cfg(test)]
 mod tests;
-#[cfg(test)]
-mod worlds;

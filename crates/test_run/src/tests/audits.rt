@@ -1,10 +1,12 @@
 //! Tests of audits: how much is read, what comes of a read, a write or a call of the device that fails, and that no unit
 //! is made.
 
-use crate::failing::{failing_calls, failing_reads, failing_writes};
-use crate::outcome::answer;
-use crate::tests::rows::comes_to;
+use crate::failing::{Failing, failing_calls, failing_reads, failing_writes};
+use crate::tests::outcome::{Outcome, answer};
+use crate::tests::rows::{comes_to, keeps_limit};
 use dn_tool::run::{DONE, READ_FAULT, REFUSED, WRITE_FAULT};
+use std::alloc::Global;
+use std::process::Abort;
 
 /// A unit with a record for page 4, by which an engine sees a page of the memory that a core sees whole. Its command is
 /// read, and not run.
@@ -28,20 +30,17 @@ view dma for write rows 1
 shared dram 0x4000-0x4fff core dma
 ";
 
+/// Audits the text, where these calls fail.
+fn audit(rt: &impl Abort, alloc: Global, failing: Failing<'_>) -> Outcome {
+    answer(rt, alloc, &["audit"], TEXT.as_bytes(), 4096, failing)
+}
+
 #[test]
 fn makes_no_unit_for_an_audit(rt: HostRuntime) {
-    let first = [0];
-    let outcome = answer(
-        &rt,
-        rt.alloc(),
-        &["audit"],
-        TEXT.as_bytes(),
-        4096,
-        failing_calls(&first),
-    );
-    assert_eq!(rt; outcome.status, DONE);
-    assert_eq!(rt; outcome.sink.written(), REPORT.as_bytes());
-    assert_eq!(rt; outcome.device.log().len(), 0);
+    let outcome = audit(&rt, rt.alloc(), failing_calls(&[0]));
+    assert!(rt; outcome.status == DONE);
+    assert!(rt; outcome.sink.written() == REPORT.as_bytes());
+    assert!(rt; outcome.device.log().len() == 0);
 }
 
 #[test]
@@ -65,30 +64,11 @@ fn writes_nothing_where_a_read_of_an_audit_fails(rt: HostRuntime) {
 #[test]
 fn stops_where_a_write_of_an_audit_fails(rt: HostRuntime) {
     // The heading is one write, that of a view another, then its rows, and the shared rows are one.
-    let fronts = [
-        (0, 0),
-        (1, 41),
-        (2, 67),
-        (3, 87),
-        (4, 114),
-        (5, 134),
-        (6, 159),
-        (7, 181),
-        (8, 207),
-        (9, 229),
-    ];
-    for (call, bytes) in fronts {
-        let calls = [call];
-        let outcome = answer(
-            &rt,
-            rt.alloc(),
-            &["audit"],
-            TEXT.as_bytes(),
-            4096,
-            failing_writes(&calls),
-        );
-        assert_eq!(rt; outcome.status, WRITE_FAULT, "{call}");
-        assert_eq!(rt; outcome.sink.written().len(), bytes, "{call}");
+    let fronts = [0, 41, 67, 87, 114, 134, 159, 181, 207, 229];
+    for (call, bytes) in (0..10u32).zip(fronts) {
+        let outcome = audit(&rt, rt.alloc(), failing_writes(&[call]));
+        assert!(rt; outcome.status == WRITE_FAULT, "{call}");
+        assert!(rt; outcome.sink.written().len() == bytes, "{call}");
     }
     comes_to(
         &rt,
@@ -104,13 +84,8 @@ fn stops_where_a_write_of_an_audit_fails(rt: HostRuntime) {
 #[test]
 fn reads_an_audit_to_its_own_limit(rt: HostRuntime) {
     // 67,108,865 bytes are taken by 1,024 reads of 65,536 bytes and one of a byte.
-    let text = " ".repeat(rt.alloc(), 67_108_874).expect(&rt, "memory");
-    let text = text.as_str();
-    let last = failing_reads(&[1024]);
-    comes_to(&rt, &["audit"], text, 65_536, last, READ_FAULT, "");
-    let after = failing_reads(&[1025]);
     let line = "refused: InputLength\n";
-    comes_to(&rt, &["audit"], text, 65_536, after, REFUSED, line);
+    keeps_limit(&rt, "audit", 67_108_874, 65_536, (1024, 1025), line);
 }
 
 #[test]

@@ -2,7 +2,7 @@
 //! of the sink.
 
 use crate::failing::Failing;
-use crate::outcome::{Outcome, answer};
+use crate::tests::outcome::{Outcome, answer};
 use crate::tests::rows::front;
 use dn_base::source::Source;
 use dn_tool::run::{DEVICE_FAULT, DONE, WRITE_FAULT};
@@ -35,9 +35,9 @@ fn sums_up_demonstrations(rt: HostRuntime) {
     let rows = [("1", ONE, CALLS), ("4", FOUR, 4 * CALLS)];
     for (agents, line, calls) in rows {
         let shown = show(&rt, rt.alloc(), agents, &[], &[]);
-        assert_eq!(rt; shown.status, DONE, "{agents}");
-        assert_eq!(rt; shown.sink.written(), line.as_bytes(), "{agents}");
-        assert_eq!(rt; shown.device.log().len(), calls as usize, "{agents}");
+        assert!(rt; shown.status == DONE, "{agents}");
+        assert!(rt; shown.sink.written() == line.as_bytes(), "{agents}");
+        assert!(rt; shown.device.log().len() == calls as usize, "{agents}");
     }
 }
 
@@ -56,8 +56,8 @@ fn reads_nothing_for_a_demonstration(rt: HostRuntime) {
         4096,
         failing,
     );
-    assert_eq!(rt; outcome.status, DONE);
-    assert_eq!(rt; outcome.sink.written(), FOUR.as_bytes());
+    assert!(rt; outcome.status == DONE);
+    assert!(rt; outcome.sink.written() == FOUR.as_bytes());
     // The first read, which fails, is this one.
     assert!(rt; outcome.source.read(&mut [0; 1]).is_err());
 }
@@ -67,11 +67,10 @@ fn writes_nothing_where_the_device_fails(rt: HostRuntime) {
     let whole = show(&rt, rt.alloc(), "1", &[], &[]);
     for call in 0..CALLS {
         let shown = show(&rt, rt.alloc(), "1", &[], &[call]);
-        assert_eq!(rt; shown.status, DEVICE_FAULT, "{call}");
-        assert_eq!(rt; shown.sink.written(), "".as_bytes(), "{call}");
-        assert_eq!(rt;
-            shown.device.log(),
-            front(whole.device.log(), call),
+        assert!(rt; shown.status == DEVICE_FAULT, "{call}");
+        assert!(rt; shown.sink.written() == "".as_bytes(), "{call}");
+        assert!(rt;
+            shown.device.log() == front(whole.device.log(), call),
             "{call}"
         );
     }
@@ -82,8 +81,8 @@ fn writes_the_line_once_all_is_done(rt: HostRuntime) {
     // The only write fails, or a second one would, which is not made.
     for (call, status, line) in [(0, WRITE_FAULT, ""), (1, DONE, ONE)] {
         let shown = show(&rt, rt.alloc(), "1", &[call], &[CALLS]);
-        assert_eq!(rt; shown.status, status, "{call}");
-        assert_eq!(rt; shown.sink.written(), line.as_bytes(), "{call}");
-        assert_eq!(rt; shown.device.log().len(), CALLS as usize, "{call}");
+        assert!(rt; shown.status == status, "{call}");
+        assert!(rt; shown.sink.written() == line.as_bytes(), "{call}");
+        assert!(rt; shown.device.log().len() == CALLS as usize, "{call}");
     }
 }

@@ -1,7 +1,7 @@
 //! Tests of runs over a device: the units that are made, and a run that stops at one of them.
 
 use crate::failing::failing_calls;
-use crate::outcome::answer;
+use crate::tests::outcome::answer;
 use dn_base::device::TableEvent;
 use dn_tool::run::{DEVICE_FAULT, DONE, REFUSED};
 
@@ -23,13 +23,13 @@ fn makes_each_unit_with_words_of_zero(rt: HostRuntime) {
     let alloc = rt.alloc();
     let none = failing_calls(&[]);
     let outcome = answer(&rt, alloc, &["run"], UNITS.as_bytes(), 4096, none);
-    assert_eq!(rt; outcome.status, DONE);
-    assert_eq!(rt; outcome.sink.written(), ANSWERED.as_bytes());
+    assert!(rt; outcome.status == DONE);
+    assert!(rt; outcome.sink.written() == ANSWERED.as_bytes());
     let made = [
         TableEvent::Make { unit: 2, words: 8 },
         TableEvent::Make { unit: 3, words: 3 },
     ];
-    assert_eq!(rt; outcome.device.log(), &made[..]);
+    assert!(rt; outcome.device.log() == &made[..]);
 }
 
 #[test]
@@ -45,9 +45,9 @@ fn stops_where_a_unit_is_not_made(rt: HostRuntime) {
             4096,
             failing_calls(&calls),
         );
-        assert_eq!(rt; outcome.status, DEVICE_FAULT);
-        assert_eq!(rt; outcome.sink.written(), "".as_bytes());
-        assert_eq!(rt; outcome.device.log().len(), call as usize);
+        assert!(rt; outcome.status == DEVICE_FAULT);
+        assert!(rt; outcome.sink.written() == "".as_bytes());
+        assert!(rt; outcome.device.log().len() == call as usize);
     }
 }
 
@@ -63,8 +63,8 @@ fn leaves_the_device_where_no_script_is_run(rt: HostRuntime) {
         4096,
         failing_calls(&first),
     );
-    assert_eq!(rt; printed.status, DONE);
-    assert_eq!(rt; printed.device.log().len(), 0);
+    assert!(rt; printed.status == DONE);
+    assert!(rt; printed.device.log().len() == 0);
     let refused = answer(
         &rt,
         alloc,
@@ -73,6 +73,6 @@ fn leaves_the_device_where_no_script_is_run(rt: HostRuntime) {
         4096,
         failing_calls(&first),
     );
-    assert_eq!(rt; refused.status, REFUSED);
-    assert_eq!(rt; refused.device.log().len(), 0);
+    assert!(rt; refused.status == REFUSED);
+    assert!(rt; refused.device.log().len() == 0);
 }

@@ -1,22 +1,13 @@
 //! Tests of runs with rights, of which each call of the device fails in turn: by the words that are left each page and
 //! each line leads for each access where it did before the command or where it does after it.
 
+use crate::tests::boards::Board;
 use crate::tests::rows::front;
-use crate::tests::stops::{Board, Done, end_of, fail_each, freed, made, script_of, written};
+use crate::tests::stops::{Script, compare_leads, fail_each, freed, made, written};
 use dn_base::device::TableEvent;
-use dn_kind::rights::Access;
 
-/// Buffers of three rights for a card behind two units in a row, and a line of a network card.
-const RIGHTS: &str = "dram is accept [0x0-0xffff];
-agent card is map [0x0-0xffff to bridge at 0x0];
-unit bridge kind remap page 14 slots 4 reach 16 to host;
-host is map [0x0-0x3fff to smmu at 0x0];
-unit smmu kind pages page 12 slots 4 reach 16 to dram;
-vectors cpu0 is accept [0x20-0x2f];
-agent nic is map [0x0-0x3 to irt at 0x0];
-unit irt kind vectors page 0 slots 4 reach 8 to cpu0;
-begin;
-grant rx card dram 0x4000 0x1000 for write;
+/// Buffers of three rights for the card, and a line of the network card.
+const RIGHTS: &str = "grant rx card dram 0x4000 0x1000 for write;
 route r1 nic 2 cpu0;
 grant tx card dram 0x9000 0x2000 for read;
 revoke rx;
@@ -24,7 +15,7 @@ revoke r1;
 grant all card dram 0x2000 0x1000;
 ";
 
-/// What it is answered.
+/// What they are answered.
 const ANSWERED: &str = "rx at 0x0
 r1 vector 0x20
 tx at 0x1000
@@ -52,28 +43,22 @@ fn stops_with_rights_of_both_accesses(rt: HostRuntime) {
         TableEvent::Fence,
         written(4, 0, 0x201),
     ];
-    let script = script_of(Board::Both, RIGHTS, ANSWERED, &events);
     // With both buffers and the line each access leads where its rights allow, and no other page anywhere.
-    let granted = front(&events, 9);
-    for (input, read, write) in [
+    let leads = [
         (0, None, Some(4)),
         (1, Some(9), None),
         (2, Some(10), None),
         (3, None, None),
         (18, Some(0x20), Some(0x20)),
         (19, None, None),
-    ] {
-        assert_eq!(rt;
-            end_of(Board::Both, granted, input, Access::Read),
-            read,
-            "{input}"
-        );
-        assert_eq!(rt;
-            end_of(Board::Both, granted, input, Access::Write),
-            write,
-            "{input}"
-        );
-    }
+    ];
+    compare_leads(&rt, Board::Both, front(&events, 9), &leads);
+    let script = Script {
+        board: Board::Both,
+        commands: RIGHTS,
+        replies: ANSWERED,
+        events: &events,
+    };
     let turns = [
         (3, 0),
         (5, 10),
@@ -82,22 +67,12 @@ fn stops_with_rights_of_both_accesses(rt: HostRuntime) {
         (10, 49),
         (12, 60),
         (14, 71),
-    ]
-    .map(|(events, bytes)| Done { events, bytes });
+    ];
     fail_each(&rt, rt.alloc(), &script, &turns);
 }
 
-/// A buffer of two pages for a card behind two units in a row, granted and taken back.
-const BUS: &str = "dram is accept [0x0-0x3fffffff];
-uart is accept [0x0-0xfff];
-bus is map [0x10000000-0x10000fff to uart at 0x0, 0x80000000-0xbfffffff to dram at 0x0];
-agent core0 is over bus;
-agent phi is map [0x0-0x3fffff to smpt at 0x0];
-unit smpt kind remap page 20 slots 4 reach 24 to hostin;
-hostin is map [0x0-0xfffff to iommu at 0x0];
-unit iommu kind pages page 12 slots 256 reach 32 to bus;
-begin;
-grant g1 phi dram 0x4000 0x2000;
+/// A buffer of two pages for the card `phi`, granted and taken back.
+const TWO_PAGES: &str = "grant g1 phi dram 0x4000 0x2000;
 revoke g1;
 ";
 
@@ -113,24 +88,21 @@ fn sees_the_buffer_or_nothing_at_each_call(rt: HostRuntime) {
         freed(7, 0),
         freed(7, 1),
     ];
-    let script = script_of(Board::Bus, BUS, "g1 at 0x0\ng1 revoked\n", &events);
-    let turns = [(2, 0), (5, 10), (8, 21)].map(|(events, bytes)| Done { events, bytes });
-    fail_each(&rt, rt.alloc(), &script, &turns);
     // Only where the first write of the revoke fails are the words of the whole grant left: the card sees both pages.
     for call in 2..9 {
-        let left = front(&events, call);
-        for (page, end) in [(0, Some(4)), (1, Some(5)), (2, None)] {
-            let seen = if call == 5 { end } else { None };
-            assert_eq!(rt;
-                end_of(Board::Bus, left, page, Access::Read),
-                seen,
-                "{call}"
-            );
-            assert_eq!(rt;
-                end_of(Board::Bus, left, page, Access::Write),
-                seen,
-                "{call}"
-            );
-        }
+        let ends = if call == 5 {
+            (Some(4), Some(5))
+        } else {
+            (None, None)
+        };
+        let leads = [(0, ends.0, ends.0), (1, ends.1, ends.1), (2, None, None)];
+        compare_leads(&rt, Board::Phi, front(&events, call), &leads);
     }
+    let script = Script {
+        board: Board::Phi,
+        commands: TWO_PAGES,
+        replies: "g1 at 0x0\ng1 revoked\n",
+        events: &events,
+    };
+    fail_each(&rt, rt.alloc(), &script, &[(2, 0), (5, 10), (8, 21)]);
 }

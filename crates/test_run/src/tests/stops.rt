@@ -1,7 +1,8 @@
 //! Tests of runs with grants, routes and revokes, of which each call of the device fails in turn.
 
 use crate::failing::failing_calls;
-use crate::outcome::{Outcome, answer};
+use crate::tests::boards::{Board, text_of};
+use crate::tests::outcome::{Outcome, answer};
 use crate::tests::rows::front;
 use dn_base::device::TableEvent;
 use dn_kind::rights::Access;
@@ -9,49 +10,21 @@ use dn_tool::run::{DEVICE_FAULT, DONE};
 use std::alloc::Global;
 use std::process::Abort;
 
-/// The board of a script.
-#[derive(Clone, Copy)]
-pub(crate) enum Board {
-    /// A card behind `bridge`, node 2, and `smmu`, node 4.
-    Card,
-    /// A network card whose interrupts go through `irt`, node 2.
-    Network,
-    /// The same card, and a network card behind `irt`, node 7, whose four lines come after the pages of the card.
-    Both,
-    /// A card behind `smpt`, node 5, and `iommu`, node 7, which leads to a bus.
-    Bus,
-}
-
 /// A script, and what is worked out by hand for a run in which no call fails: the replies and the
 /// events.
 #[derive(Clone, Copy)]
 pub(crate) struct Script<'a> {
-    platform: Board,
-    text: &'a str,
-    replies: &'a str,
-    events: &'a [TableEvent],
-}
-
-/// A script with these replies and events.
-pub(crate) fn script_of<'a>(
-    platform: Board,
-    text: &'a str,
-    replies: &'a str,
-    events: &'a [TableEvent],
-) -> Script<'a> {
-    Script {
-        platform,
-        text,
-        replies,
-        events,
-    }
+    pub(crate) board: Board,
+    pub(crate) commands: &'a str,
+    pub(crate) replies: &'a str,
+    pub(crate) events: &'a [TableEvent],
 }
 
 /// How many events there are, and how many bytes of replies, once some turns were gone through.
 #[derive(Clone, Copy)]
-pub(crate) struct Done {
-    pub(crate) events: u32,
-    pub(crate) bytes: usize,
+struct Done {
+    events: u32,
+    bytes: usize,
 }
 
 /// The event of a unit that is made.
@@ -125,22 +98,32 @@ fn line_end(events: &[TableEvent], unit: u16, line: u16, access: Access) -> Opti
     is_open(word_in(events, unit, 2 * line + 1), access).then_some(vector)
 }
 
-/// Where the words that events leave lead a page of the card or a line of the network card, for an
-/// access: to a page of the memory or to a vector, or nowhere.
-pub(crate) fn end_of(
-    platform: Board,
-    events: &[TableEvent],
-    input: u16,
-    access: Access,
-) -> Option<u64> {
-    match platform {
+/// Where the words that events leave lead a page of a card or a line of the network card, for an access: to a page of
+/// the memory or to a vector, or nowhere. The lines of the board with both cards are the inputs from 16 on.
+fn end_of(board: Board, events: &[TableEvent], input: u16, access: Access) -> Option<u64> {
+    match board {
         Board::Card => page_end(events, input, access),
         Board::Network => line_end(events, 2, input, access),
         Board::Both => match input.checked_sub(16) {
             Some(line) => line_end(events, 7, line, access),
             None => page_end(events, input, access),
         },
-        Board::Bus => bus_end(events, input, access),
+        Board::Phi => bus_end(events, input, access),
+        // No script is for the engine.
+        Board::Engine => None,
+    }
+}
+
+/// An input, and where it is to lead for reading and for writing.
+pub(crate) type Lead = (u16, Option<u64>, Option<u64>);
+
+/// Compares where the words that events leave lead inputs.
+pub(crate) fn compare_leads(rt: &impl Abort, board: Board, events: &[TableEvent], leads: &[Lead]) {
+    for (input, read, write) in leads {
+        let given = end_of(board, events, *input, Access::Read);
+        assert!(rt; given == *read, "{input}");
+        let given = end_of(board, events, *input, Access::Write);
+        assert!(rt; given == *write, "{input}");
     }
 }
 
@@ -148,7 +131,8 @@ pub(crate) fn end_of(
 fn run_failing(rt: &impl Abort, alloc: Global, script: &Script<'_>, call: u32) -> Outcome {
     let calls = [call];
     let failing = failing_calls(&calls);
-    answer(rt, alloc, &["run"], script.text.as_bytes(), 4096, failing)
+    let text = text_of(rt, alloc, script.board, script.commands);
+    answer(rt, alloc, &["run"], text.as_bytes(), 4096, failing)
 }
 
 /// Each page or line leads for each access where it did before a turn, or where it does after it.
@@ -157,60 +141,64 @@ fn compare_ends(
     script: &Script<'_>,
     log: &[TableEvent],
     before: Done,
-    behind: Done,
+    after: Done,
 ) {
     let old = front(script.events, before.events);
-    let new = front(script.events, behind.events);
+    let new = front(script.events, after.events);
     for input in 0..20u16 {
         for access in [Access::Read, Access::Write] {
-            let given = end_of(script.platform, log, input, access);
-            let is_old = given == end_of(script.platform, old, input, access);
-            let is_new = given == end_of(script.platform, new, input, access);
+            let given = end_of(script.board, log, input, access);
+            let is_old = given == end_of(script.board, old, input, access);
+            let is_new = given == end_of(script.board, new, input, access);
             assert!(rt; is_old || is_new, "input {input} of {log:?}");
         }
     }
 }
 
 /// Fails each call of a turn: the replies of the turns before it are written, exactly the events
-/// before the call were done, and each page or line leads where it did before the turn or behind
-/// it.
-fn fail_in_turn(rt: &impl Abort, alloc: Global, script: &Script<'_>, before: Done, behind: Done) {
+/// before the call were done, and each page or line leads where it did before the turn or
+/// after it.
+fn fail_in_turn(rt: &impl Abort, alloc: Global, script: &Script<'_>, before: Done, after: Done) {
     let replies = script.replies.as_bytes();
     let bytes = before.bytes.min(replies.len());
-    for call in before.events..behind.events {
+    for call in before.events..after.events {
         let outcome = run_failing(rt, alloc, script, call);
         let log = outcome.device.log();
-        assert_eq!(rt; outcome.status, DEVICE_FAULT, "{call}");
-        assert_eq!(rt; outcome.sink.written(), &replies[..bytes], "{call}");
-        assert_eq!(rt; log, front(script.events, call), "{call}");
-        compare_ends(rt, script, log, before, behind);
+        assert!(rt; outcome.status == DEVICE_FAULT, "{call}");
+        assert!(rt; outcome.sink.written() == &replies[..bytes], "{call}");
+        assert!(rt; log == front(script.events, call), "{call}");
+        compare_ends(rt, script, log, before, after);
     }
 }
 
-/// Fails each call of a script, turn by turn, and then one more, which is not made.
-pub(crate) fn fail_each(rt: &impl Abort, alloc: Global, script: &Script<'_>, turns: &[Done]) {
+/// Fails each call of a script, turn by turn, and then one more, which is not made. Of each turn there is how many events
+/// and how many bytes of replies there are after it.
+pub(crate) fn fail_each(
+    rt: &impl Abort,
+    alloc: Global,
+    script: &Script<'_>,
+    turns: &[(u32, usize)],
+) {
     let mut before = Done {
         events: 0,
         bytes: 0,
     };
-    for behind in turns {
-        fail_in_turn(rt, alloc, script, before, *behind);
-        before = *behind;
+    for (events, bytes) in turns {
+        let after = Done {
+            events: *events,
+            bytes: *bytes,
+        };
+        fail_in_turn(rt, alloc, script, before, after);
+        before = after;
     }
     let outcome = run_failing(rt, alloc, script, before.events);
-    assert_eq!(rt; outcome.status, DONE);
-    assert_eq!(rt; outcome.sink.written(), script.replies.as_bytes());
-    assert_eq!(rt; outcome.device.log(), script.events);
+    assert!(rt; outcome.status == DONE);
+    assert!(rt; outcome.sink.written() == script.replies.as_bytes());
+    assert!(rt; outcome.device.log() == script.events);
 }
 
-/// Three buffers for a card behind two units in a row.
-const CARD: &str = "dram is accept [0x0-0xffff];
-agent card is map [0x0-0xffff to bridge at 0x0];
-unit bridge kind remap page 14 slots 4 reach 16 to host;
-host is map [0x0-0x3fff to smmu at 0x0];
-unit smmu kind pages page 12 slots 4 reach 16 to dram;
-begin;
-grant a card dram 0x4000 0x1000;
+/// Three buffers for the card.
+const BUFFERS: &str = "grant a card dram 0x4000 0x1000;
 grant b card dram 0x9000 0x2000;
 revoke a;
 grant c card dram 0x2000 0x1000;
@@ -218,7 +206,7 @@ revoke b;
 revoke c;
 ";
 
-/// What it is answered.
+/// What they are answered.
 const GRANTED: &str = "a at 0x0
 b at 0x1000
 a revoked
@@ -244,22 +232,21 @@ fn stops_in_grants_and_revokes(rt: HostRuntime) {
         freed(2, 0),
         freed(4, 0),
     ];
-    let script = script_of(Board::Card, CARD, GRANTED, &events);
     // With both buffers the first pages lead to them, and no other page leads anywhere.
-    for (page, end) in [
-        (0, Some(4)),
-        (1, Some(9)),
-        (2, Some(10)),
-        (3, None),
-        (4, None),
-    ] {
-        let granted = front(&events, 6);
-        assert_eq!(rt;
-            end_of(Board::Card, granted, page, Access::Read),
-            end,
-            "{page}"
-        );
-    }
+    let leads = [
+        (0, Some(4), Some(4)),
+        (1, Some(9), Some(9)),
+        (2, Some(10), Some(10)),
+        (3, None, None),
+        (4, None, None),
+    ];
+    compare_leads(&rt, Board::Card, front(&events, 6), &leads);
+    let script = Script {
+        board: Board::Card,
+        commands: BUFFERS,
+        replies: GRANTED,
+        events: &events,
+    };
     let turns = [
         (2, 0),
         (4, 9),
@@ -268,23 +255,18 @@ fn stops_in_grants_and_revokes(rt: HostRuntime) {
         (9, 40),
         (11, 50),
         (13, 60),
-    ]
-    .map(|(events, bytes)| Done { events, bytes });
+    ];
     fail_each(&rt, rt.alloc(), &script, &turns);
 }
 
-/// Two lines of a network card, one after the other.
-const NETWORK: &str = "vectors cpu0 is accept [0x20-0x2f];
-agent nic is map [0x0-0x3 to irt at 0x0];
-unit irt kind vectors page 0 slots 4 reach 8 to cpu0;
-begin;
-route r1 nic 2 cpu0;
+/// Two lines of the network card, one after the other.
+const LINES: &str = "route r1 nic 2 cpu0;
 lookup nic 2;
 revoke r1;
 route r2 nic 3 cpu0;
 ";
 
-/// What it is answered.
+/// What they are answered.
 const ROUTED: &str = "r1 vector 0x20
 nic@0x2: cpu0@0x20
 r1 revoked
@@ -303,16 +285,14 @@ fn stops_in_routes(rt: HostRuntime) {
         written(2, 6, 0x20),
         written(2, 7, 1),
     ];
-    let script = script_of(Board::Network, NETWORK, ROUTED, &events);
-    let routed = front(&events, 3);
-    assert_eq!(rt;
-        end_of(Board::Network, routed, 2, Access::Write),
-        Some(0x20)
-    );
-    assert_eq!(rt; end_of(Board::Network, routed, 3, Access::Write), None);
-    let turns = [(1, 0), (3, 15), (3, 34), (5, 45), (8, 60)].map(|(events, bytes)| Done {
-        events,
-        bytes,
-    });
+    let leads = [(2, Some(0x20), Some(0x20)), (3, None, None)];
+    compare_leads(&rt, Board::Network, front(&events, 3), &leads);
+    let script = Script {
+        board: Board::Network,
+        commands: LINES,
+        replies: ROUTED,
+        events: &events,
+    };
+    let turns = [(1, 0), (3, 15), (3, 34), (5, 45), (8, 60)];
     fail_each(&rt, rt.alloc(), &script, &turns);
 }

@@ -11,7 +11,7 @@ fn names_each_fault_of_a_text(rt: HostRuntime) {
     let refusal = Refusal::of_text(alloc, Rule::Length).expect(&rt, "memory");
     let (refused, memory) = (CompileFault::Refused(refusal), CompileFault::OutOfMemory);
     let words = format!(in alloc; "{refused} {memory}").expect(&rt, "memory");
-    assert_eq!(rt; words.as_str(), "Refused OutOfMemory");
+    assert!(rt; words.as_str() == "Refused OutOfMemory");
 }
 
 #[test]
@@ -27,7 +27,7 @@ fn names_each_fault_of_an_expansion(rt: HostRuntime) {
         (ExpandFault::OutOfMemory, "OutOfMemory"),
     ] {
         let words = format!(in alloc; "{fault}").expect(&rt, "memory");
-        assert_eq!(rt; words.as_str(), word);
+        assert!(rt; words.as_str() == word);
     }
 }
 
@@ -44,6 +44,6 @@ fn names_each_fault_of_the_reader(rt: HostRuntime) {
         (ParseFault::OutOfMemory, "OutOfMemory"),
     ] {
         let words = format!(in alloc; "{fault}").expect(&rt, "memory");
-        assert_eq!(rt; words.as_str(), word);
+        assert!(rt; words.as_str() == word);
     }
 }

@@ -1,7 +1,7 @@
 -- Each world is one.
 use Rattle.dn_kind.specs.Kinded.{kinds_of}
 use Rattle.dn_flight.specs.Words.{IsWorld}
-use Rattle.test_run.proofs.worlds.begin_often.Given as goal
+use Rattle.test_run.proofs.tests.flying.playing.fill.Given as goal
 
 abbrev pub invariant-loop : goal.invariant-loop
 invariant-loop g l = IsWorld l.system.on.net.now (kinds_of (λ k. (goal.UnitKind-dyn g k).meaning k.1) l.system.on.kinds.now) l.world

@@ -1,11 +1,15 @@
-//! The one test of lookups in flight that makes the kinds of the program, and calls all that needs them.
+//! The one test of lookups in flight, which makes the kinds of the program, since making these kinds is the dearest
+//! part of it, and plays all that is worked out by hand.
 
 ghost use Rattle.dn_kind.specs.Terms.{AreKinds};
 
-use crate::flights::{clear_before_a_read, follow_two_units, put_before_a_lookup};
-use crate::played::{play_one_unit, play_two_units};
-use crate::playing::{sky_of, system_of};
-use crate::worlds::{
+use crate::tests::boards::Board;
+use crate::tests::flying::flights::{clear_before_a_read, follow_two_units, put_before_a_lookup};
+use crate::tests::flying::played::{
+    FOR_ENGINE, FOR_PHI, play_one_unit, play_two_units, run_commands,
+};
+use crate::tests::flying::playing::{play_all, sky_of, system_of};
+use crate::tests::flying::worlds::{
     ask_for_rights, begin_too_many, refuse_by_the_first_in_flight, refuse_what_is_not_there,
 };
 use dn_kind::kinds::Kinds;
@@ -13,6 +17,11 @@ use dn_net::node::Role;
 use std::alloc::Global;
 use std::process::Abort;
 use test_plans::{PAGES, Plan, REMAP, run_with_kinds, to};
+
+mod flights;
+mod played;
+mod playing;
+mod worlds;
 
 #[test]
 fn looks_up_while_tables_are_written(rt: HostRuntime) {
@@ -25,13 +34,15 @@ fn fly_over_one_unit(rt: &impl Abort, alloc: Global, kinds: &Kinds)
 {
     let sky = sky_of(rt, alloc, kinds, Plan::pages(alloc).expect(rt, "a plan"));
     let system = system_of(&sky, kinds);
-    put_before_a_lookup(rt, alloc, system);
-    clear_before_a_read(rt, alloc, system);
-    refuse_what_is_not_there(rt, alloc, system);
-    refuse_by_the_first_in_flight(rt, alloc, system);
-    ask_for_rights(rt, alloc, system);
-    begin_too_many(rt, alloc, system);
-    play_one_unit(rt, alloc, system);
+    play_all(rt, alloc, system, &[], &put_before_a_lookup());
+    play_all(rt, alloc, system, &[], &clear_before_a_read());
+    play_all(rt, alloc, system, &[], &refuse_what_is_not_there());
+    play_all(rt, alloc, system, &[], &refuse_by_the_first_in_flight());
+    play_all(rt, alloc, system, &[], &ask_for_rights());
+    play_all(rt, alloc, system, &[], &begin_too_many());
+    let device = run_commands(rt, alloc, kinds, Board::Engine, FOR_ENGINE);
+    assert!(rt; device.log().len() == 5);
+    play_all(rt, alloc, system, device.log(), &play_one_unit());
 }
 
 /// All that is looked up behind two units in a row.
@@ -40,8 +51,10 @@ fn fly_over_two_units(rt: &impl Abort, alloc: Global, kinds: &Kinds)
 {
     let sky = sky_of(rt, alloc, kinds, two_unit_plan(rt, alloc));
     let system = system_of(&sky, kinds);
-    follow_two_units(rt, alloc, system);
-    play_two_units(rt, alloc, system);
+    play_all(rt, alloc, system, &[], &follow_two_units());
+    let device = run_commands(rt, alloc, kinds, Board::Phi, FOR_PHI);
+    assert!(rt; device.log().len() == 9);
+    play_all(rt, alloc, system, device.log(), &play_two_units());
 }
 
 /// The bus, and behind it an agent `phi`, node 4, whose addresses go through `smpt`, node 5, then over
