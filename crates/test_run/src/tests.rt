@@ -7,6 +7,7 @@ mod devices;
 mod faults;
 mod flying;
 mod outcome;
+mod pieces;
 mod rights;
 mod rows;
 mod stops;

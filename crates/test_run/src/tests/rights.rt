@@ -3,7 +3,7 @@
 
 use crate::tests::boards::Board;
 use crate::tests::rows::front;
-use crate::tests::stops::{Script, compare_leads, fail_each, freed, made, written};
+use crate::tests::stops::{compare_leads, fail_each, freed, made, script_of, written};
 use dn_base::device::TableEvent;
 
 /// Buffers of three rights for the card, and a line of the network card.
@@ -53,12 +53,7 @@ fn stops_with_rights_of_both_accesses(rt: HostRuntime) {
         (19, None, None),
     ];
     compare_leads(&rt, Board::Both, front(&events, 9), &leads);
-    let script = Script {
-        board: Board::Both,
-        commands: RIGHTS,
-        replies: ANSWERED,
-        events: &events,
-    };
+    let script = script_of(Board::Both, RIGHTS, ANSWERED, &events);
     let turns = [
         (3, 0),
         (5, 10),
@@ -98,11 +93,6 @@ fn sees_the_buffer_or_nothing_at_each_call(rt: HostRuntime) {
         let leads = [(0, ends.0, ends.0), (1, ends.1, ends.1), (2, None, None)];
         compare_leads(&rt, Board::Phi, front(&events, call), &leads);
     }
-    let script = Script {
-        board: Board::Phi,
-        commands: TWO_PAGES,
-        replies: "g1 at 0x0\ng1 revoked\n",
-        events: &events,
-    };
+    let script = script_of(Board::Phi, TWO_PAGES, "g1 at 0x0\ng1 revoked\n", &events);
     fail_each(&rt, rt.alloc(), &script, &[(2, 0), (5, 10), (8, 21)]);
 }

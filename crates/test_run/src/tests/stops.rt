@@ -20,6 +20,21 @@ pub(crate) struct Script<'a> {
     pub(crate) events: &'a [TableEvent],
 }
 
+/// A script of a board, with what is worked out for it.
+pub(crate) fn script_of<'a>(
+    board: Board,
+    commands: &'a str,
+    replies: &'a str,
+    events: &'a [TableEvent],
+) -> Script<'a> {
+    Script {
+        board,
+        commands,
+        replies,
+        events,
+    }
+}
+
 /// How many events there are, and how many bytes of replies, once some turns were gone through.
 #[derive(Clone, Copy)]
 struct Done {
@@ -91,6 +106,13 @@ fn bus_end(events: &[TableEvent], page: u16, access: Access) -> Option<u64> {
     page.checked_sub(0x80000)
 }
 
+/// Where they lead a page of the engine behind `smmu`, by the bus to the memory.
+fn engine_end(events: &[TableEvent], page: u16, access: Access) -> Option<u64> {
+    let word = word_in(events, 5, u32::from(page));
+    let page = is_open(word, access).then_some(word / 256)?;
+    page.checked_sub(0x80000)
+}
+
 /// Where they lead a line of the network card behind a unit.
 fn line_end(events: &[TableEvent], unit: u16, line: u16, access: Access) -> Option<u64> {
     let line = u32::from(line);
@@ -109,8 +131,7 @@ fn end_of(board: Board, events: &[TableEvent], input: u16, access: Access) -> Op
             None => page_end(events, input, access),
         },
         Board::Phi => bus_end(events, input, access),
-        // No script is for the engine.
-        Board::Engine => None,
+        Board::Engine => engine_end(events, input, access),
     }
 }
 
@@ -241,12 +262,7 @@ fn stops_in_grants_and_revokes(rt: HostRuntime) {
         (4, None, None),
     ];
     compare_leads(&rt, Board::Card, front(&events, 6), &leads);
-    let script = Script {
-        board: Board::Card,
-        commands: BUFFERS,
-        replies: GRANTED,
-        events: &events,
-    };
+    let script = script_of(Board::Card, BUFFERS, GRANTED, &events);
     let turns = [
         (2, 0),
         (4, 9),
@@ -287,12 +303,7 @@ fn stops_in_routes(rt: HostRuntime) {
     ];
     let leads = [(2, Some(0x20), Some(0x20)), (3, None, None)];
     compare_leads(&rt, Board::Network, front(&events, 3), &leads);
-    let script = Script {
-        board: Board::Network,
-        commands: LINES,
-        replies: ROUTED,
-        events: &events,
-    };
+    let script = script_of(Board::Network, LINES, ROUTED, &events);
     let turns = [(1, 0), (3, 15), (3, 34), (5, 45), (8, 60)];
     fail_each(&rt, rt.alloc(), &script, &turns);
 }
