@@ -2,6 +2,7 @@
 
 use dn_base::device::DeviceOrMemory;
 use dn_book::book::RevokeFault;
+use dn_gather::fault::GatherFault;
 use dn_grant::fault::GrantFault;
 use dn_vector::fault::RouteFault;
 use std::test::Fail;
@@ -34,5 +35,19 @@ fn names_each_fault_of_a_book(rt: HostRuntime) -> Result<(), Fail> {
     let (none, failed) = (RevokeFault::NoGrant, RevokeFault::Device);
     let printed = format!(in rt.alloc(); "{Device} {OutOfMemory} {none} {failed}")?;
     assert!(rt; printed.as_str() == "Device OutOfMemory NoGrant Device");
+    Ok(())
+}
+
+#[test]
+fn names_each_refusal_of_pieces(rt: HostRuntime) -> Result<(), Fail> {
+    use GatherFault::{BookFull, IdUsed, NoAgent, NoPlacement, NoTarget, NotAccepted};
+    let (used, none) = (IdUsed { piece: 1 }, NoTarget { piece: 2 });
+    let (piece, first) = (7, 0x1000);
+    let past = NotAccepted { piece, first };
+    let printed = format!(in rt.alloc(); "{used} {NoAgent} {none} {past} {BookFull}")?;
+    assert!(rt; printed.as_str() == "IdUsed 1 NoAgent NoTarget 2 NotAccepted 7 0x1000 BookFull");
+    let (failed, short) = (GatherFault::Device, GatherFault::OutOfMemory);
+    let last = format!(in rt.alloc(); "{NoPlacement} {failed} {short}")?;
+    assert!(rt; last.as_str() == "NoPlacement Device OutOfMemory");
     Ok(())
 }
