@@ -5,4 +5,5 @@ pub mod Kept
 pub mod Made
 pub mod Slots
 pub mod Units
+pub mod Users
 pub mod Values

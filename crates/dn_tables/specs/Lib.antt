@@ -1,4 +1,5 @@
 pub mod Placement
 pub mod Set
 pub mod Terms
+pub mod Uses
 pub mod Writes

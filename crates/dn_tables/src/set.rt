@@ -1,21 +1,25 @@
 //! The tables of all units of a net.
 
-ghost use Rattle.std.specs.Prelude.{◌≡◌, ◌+◌, ◌-◌, ◌^◌, ◌<◌, ◌≤◌, ◌⊎◌, ◌++◌, [], ◌∷◌, false, length, map, replicate, List, Option, Some, None, IsSome, IfOk, OnOk, OnErr, IsTrue, is_err, is_ok};
+ghost use Rattle.std.specs.Prelude.{ℕ, ◌≡◌, ◌+◌, ◌-◌, ◌^◌, ◌<◌, ◌≤◌, ◌⊎◌, ◌++◌, [], ◌∷◌, false, length, map, replicate, List, Option, Some, None, IsSome, IfOk, OnOk, OnErr, IsTrue, is_err, is_ok};
 ghost use Rattle.std.specs.List.{All, list_all};
 ghost use Rattle.std.specs.Option.{option_map};
 ghost use Rattle.dn_base.specs.Terms.{IsCounted, Logged, has_unit, is_device_fault, sizes_of};
 ghost use Rattle.dn_kind.specs.Terms.{AreKinds, IsLawful, IsShaped, Meaning, kinds_of, slot_words};
-ghost use Rattle.dn_tables.specs.Terms.{AreMade, AreUnitsMade, FitsNet, IsEmpty, IsOnDevice, IsPackableIn, IsSet, KeepsFit, clear_writes, fits_kinds, fresh_set, has_slot, is_sized, is_zero, make_event, packed_in, put_writes, record_kept, table_on_device, tables_of_set, unit_in, use_in, width_in, with_slot, with_use, words_in};
+ghost use Rattle.dn_tables.specs.Terms.{AreMade, AreUnitsMade, FitsNet, IsEmpty, IsOnDevice, IsOwned, IsPackableIn, IsSet, KeepsFit, clear_writes, fits_kinds, fresh_set, has_slot, is_sized, is_zero, make_event, packed_in, put_writes, record_kept, table_on_device, tables_of_set, unit_in, use_in, width_in, with_slot, with_use, words_in};
 
 use crate::table::{NodeTable, SlotUse};
 use crate::words::SlotWords;
-use dn_base::device::{DeviceFault, DeviceOrMemory, Tables};
+use crate::writes::Written;
+use dn_base::device::{DeviceOrMemory, Tables};
 use dn_base::filled::Filled;
 use dn_kind::kinded::KindedNet;
 use dn_kind::kinds::Kinds;
 use dn_kind::unit_kind::Record;
 use std::alloc::{AllocError, Global};
 use std::marker::Model;
+
+/// What is made with the units of a net on a device.
+pub type Made<T> = Result<T, DeviceOrMemory>;
 
 /// The words of all units of a net, with the uses and owners of their slots. Contracts see a table
 /// for each node.
@@ -46,11 +50,7 @@ impl TableSet {
     /// value of its counter: the units that were made are then a prefix of those of the net, which
     /// lacks at least the last one. `OutOfMemory` for want of memory: none were made, or a prefix that
     /// lacks at least the last one. Nothing else was done to the device.
-    pub fn make<D: Tables>(
-        alloc: Global,
-        on: KindedNet,
-        device: &mut D,
-    ) -> Result<TableSet, DeviceOrMemory>
+    pub fn make<D: Tables>(alloc: Global, on: KindedNet, device: &mut D) -> Made<TableSet>
         requires on { IsShaped meaning on }
         requires none { D.units device.old ≡ [] }
         ensures ok { IfOk result (λ set. set
@@ -93,7 +93,7 @@ impl TableSet {
         slot: u32,
         record: Record,
         device: &mut D,
-    ) -> Result<(), DeviceFault>
+    ) -> Written
         requires kinds { AreKinds meaning kinds.now }
         requires fits { IsTrue (fits_kinds (kinds_of meaning kinds.now) self.old) }
         requires on_device { IsOnDevice self.old (D.units device.old) (D.words device.old) }
@@ -125,12 +125,7 @@ impl TableSet {
     /// `DeviceFault` only where the device's count of faults rose in this call, or stands at the
     /// last value of its counter. Exactly the writes before the one that failed are done: none, or
     /// the slot holds no record any more.
-    pub fn clear<D: Tables>(
-        &mut self,
-        unit: u16,
-        slot: u32,
-        device: &mut D,
-    ) -> Result<(), DeviceFault>
+    pub fn clear<D: Tables>(&mut self, unit: u16, slot: u32, device: &mut D) -> Written
         requires on_device { IsOnDevice self.old (D.units device.old) (D.words device.old) }
         requires there { IsTrue (has_slot self.old unit slot) }
         ensures ok { OnOk result (self.new
@@ -178,6 +173,31 @@ impl TableSet {
         table.slot_words(slot)
     }
 
+    /// Who uses a slot.
+    pub fn use_at(&self, unit: u16, slot: u32) -> SlotUse
+        requires { IsTrue (has_slot self.now unit slot) }
+        ensures value { result ≡ use_in self.now unit slot }
+        ensures few { result.uses < 2 ^ 16 }
+    {
+        let table = &self.nodes[usize::from(unit)];
+        table.uses.get(slot as usize)
+    }
+
+    /// Before which slot those of a unit from one on are owned, of those before an end.
+    pub fn owned_end(&self, unit: u16, from: u32, end: u32) -> u32
+        requires { (slot : ℕ) → slot < end → IsTrue (has_slot self.now unit slot) }
+        ensures onward { from ≤ result }
+        ensures most { from ≤ end → result ≤ end }
+        ensures owned { (slot : ℕ) → from ≤ slot → slot < result →
+            IsOwned (use_in self.now unit slot) }
+    {
+        if end <= from {
+            return from;
+        }
+        let table = &self.nodes[usize::from(unit)];
+        table.uses.owned_end(from as usize, end as usize) as u32
+    }
+
     /// How many live grants use a slot.
     pub fn uses_at(&self, unit: u16, slot: u32) -> u32
         requires { IsTrue (has_slot self.now unit slot) }
@@ -220,20 +240,13 @@ impl TableSet {
 
     /// Sets who uses a slot.
     fn set_use(&mut self, unit: u16, slot: u32, users: SlotUse)
-        requires { IsTrue (has_slot self.old unit slot) }
+        requires there { IsTrue (has_slot self.old unit slot) }
+        requires few { users.uses < 2 ^ 16 }
+        requires alone { IsSome users.owner → users.uses ≡ 1 }
         ensures { self.new ≡ with_use self.old unit slot users }
     {
         let table = &mut self.nodes[usize::from(unit)];
         table.uses.set(slot as usize, users);
-    }
-
-    /// Who uses a slot.
-    fn use_at(&self, unit: u16, slot: u32) -> SlotUse
-        requires { IsTrue (has_slot self.now unit slot) }
-        ensures { result ≡ use_in self.now unit slot }
-    {
-        let table = &self.nodes[usize::from(unit)];
-        table.uses.get(slot as usize)
     }
 }
 
@@ -252,7 +265,7 @@ fn fresh_set(alloc: Global, on: KindedNet) -> Result<TableSet, AllocError>
 }
 
 /// Makes the units of nodes on a device that has none.
-fn make_units<D: Tables>(nodes: &[NodeTable], device: &mut D) -> Result<(), DeviceOrMemory>
+fn make_units<D: Tables>(nodes: &[NodeTable], device: &mut D) -> Made<()>
     requires few { length nodes.now ≤ 1024 }
     requires sized { IsTrue (list_all is_sized nodes.now) }
     requires zero { IsTrue (list_all is_zero nodes.now) }
@@ -270,7 +283,7 @@ fn make_units<D: Tables>(nodes: &[NodeTable], device: &mut D) -> Result<(), Devi
 }
 
 /// Makes the unit of a node, where it is one.
-fn make_unit<D: Tables>(table: &NodeTable, node: u16, device: &mut D) -> Result<(), DeviceOrMemory>
+fn make_unit<D: Tables>(table: &NodeTable, node: u16, device: &mut D) -> Made<()>
     requires few { length table.now.words < 2 ^ 32 }
     requires zero { IsTrue (is_zero table.now) }
     requires new { has_unit (D.units device.old) node ≡ false }

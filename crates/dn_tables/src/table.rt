@@ -7,9 +7,10 @@ ghost use Rattle.dn_net.specs.declared.node.Unit.{Unit as UnitPart};
 ghost use Rattle.dn_kind.specs.Terms.{AreKinds, IsPackable, Meaning, gate_word, has_shape, is_shaped, kinds_of, record_of_unit, slot_words, unit_shape};
 ghost use Rattle.dn_tables.specs.Terms.{AreWordsWritten, HasSlot, clears_from, fits_by, fresh_by, packed_for, width_by, with_words, writes_from};
 
+use crate::uses::Uses;
 use crate::words::SlotWords;
-use crate::writes::{clear_all, write_all};
-use dn_base::device::{DeviceFault, Tables};
+use crate::writes::{Written, clear_all, write_all};
+use dn_base::device::Tables;
 use dn_base::filled::Filled;
 use dn_base::items::Items;
 use dn_kind::kinds::Kinds;
@@ -38,7 +39,7 @@ pub struct NodeTable {
     /// The words of the slots, those of each slot together.
     pub words: Filled<u64>,
     /// The use of each slot.
-    pub uses: Filled<SlotUse>,
+    pub uses: Uses,
 }
 
 impl NodeTable {
@@ -59,7 +60,7 @@ impl NodeTable {
                 unit: None,
                 width: 0,
                 words: Filled::new(alloc, 0, 0)?,
-                uses: Filled::new(alloc, UNUSED, 0)?,
+                uses: Uses::unused(alloc, 0)?,
             }),
         }
     }
@@ -118,7 +119,7 @@ impl NodeTable {
         unit: u16,
         slot: u32,
         record: Record,
-    ) -> Result<(), DeviceFault>
+    ) -> Written
         requires kinds { AreKinds meaning kinds.now }
         requires fits { IsTrue (fits_by (kinds_of meaning kinds.now) self.old.width self.old.unit) }
         requires slot { HasSlot self.old slot }
@@ -150,12 +151,7 @@ impl NodeTable {
     /// # Errors
     ///
     /// `DeviceFault` at the first write that fails; those before it are made and kept.
-    pub(crate) fn clear<D: Tables>(
-        &mut self,
-        device: &mut D,
-        unit: u16,
-        slot: u32,
-    ) -> Result<(), DeviceFault>
+    pub(crate) fn clear<D: Tables>(&mut self, device: &mut D, unit: u16, slot: u32) -> Written
         requires slot { HasSlot self.old slot }
         requires on_device { (word : ℕ) → word < length self.old.words →
             has_word (D.units device.old) unit word ≡ true }
@@ -201,7 +197,7 @@ fn fresh_unit(alloc: Global, unit: &Unit, kinds: &Kinds) -> Result<NodeTable, Al
 {
     let width = kinds.kind(usize::from(unit.kind)).words();
     let words = Filled::new(alloc, 0, unit.slots as usize * usize::from(width))?;
-    let uses = Filled::new(alloc, UNUSED, unit.slots as usize)?;
+    let uses = Uses::unused(alloc, unit.slots as usize)?;
     let unit = copy_of(alloc, unit)?;
     Ok(NodeTable {
         unit: Some(unit),
@@ -210,12 +206,6 @@ fn fresh_unit(alloc: Global, unit: &Unit, kinds: &Kinds) -> Result<NodeTable, Al
         uses,
     })
 }
-
-/// The use of a slot that no live grant uses.
-const UNUSED: SlotUse = SlotUse {
-    uses: 0,
-    owner: None,
-};
 
 /// A copy of a unit.
 fn copy_of(alloc: Global, unit: &Unit) -> Result<Unit, AllocError>

@@ -7,6 +7,9 @@ ghost use Rattle.dn_tables.specs.Terms.{AreWordsWritten, clears_from, writes_fro
 use dn_base::device::{DeviceFault, Tables};
 use dn_base::filled::Filled;
 
+/// Whether a write to a device was done, or several in order.
+pub type Written = Result<(), DeviceFault>;
+
 /// The words of a record that is cleared, but for its gate word.
 const ZEROS: [u64; 3] = [0; 3];
 
@@ -21,7 +24,7 @@ pub(crate) fn write_all<D: Tables>(
     unit: u16,
     first: u32,
     values: &[u64],
-) -> Result<(), DeviceFault>
+) -> Written
     requires room { first + length values.now ≤ length words.old }
     requires small { first + length values.now < 2 ^ 32 }
     requires there { (word : ℕ) → word < length words.old →
@@ -52,7 +55,7 @@ pub(crate) fn clear_all<D: Tables>(
     unit: u16,
     first: u32,
     width: u8,
-) -> Result<(), DeviceFault>
+) -> Written
     requires least { 1 ≤ width }
     requires most { width ≤ 4 }
     requires room { first + width ≤ length words.old }

@@ -7,7 +7,7 @@ use Rattle.dn_tables.proofs.set.TableSet.set_use.Goals as goal
 
 -- the slot, in the table of its node
 slot_of : (c : After-index_mut-table) → IsSlot c.args.self.now c.args.unit c.args.slot c.index_mut-table.result.now
-slot_of c = slot_in_set c.self.inside.nodes.items c.args.self.now c.from.result c.args.unit c.args.slot c.index_mut-table.result.now c.self.view_is c.from.ensures c.self.invariant c.requires c.index_mut-table.ensures.value
+slot_of c = slot_in_set c.self.inside.nodes.items c.args.self.now c.from.result c.args.unit c.args.slot c.index_mut-table.result.now c.self.view_is c.from.ensures c.self.invariant c.requires.there c.index_mut-table.ensures.value
 
 pub set-requires : goal.set-requires
 set-requires c =
