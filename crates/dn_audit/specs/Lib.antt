@@ -4,7 +4,6 @@ pub mod Input
 pub mod Nodes
 pub mod Records
 pub mod Shared
-pub mod Sizes
 pub mod Taking
 pub mod Terms
 pub mod Text

@@ -14,7 +14,6 @@ pub mod input;
 pub mod laws;
 pub mod report;
 mod shared;
-mod sizes;
 mod stored;
 mod taking;
 pub mod text;

@@ -9,13 +9,13 @@ ghost use Rattle.dn_audit.specs.Terms.{HoldsRecords, IsFilledTo, IsStored, held_
 
 use crate::OutOfMemory;
 use crate::report::Shut;
-use crate::sizes::Sizes;
 use crate::stored::{StoredImage, counted_record, has_gate};
 use dn_base::device::Tables;
 use dn_base::items::Items;
 use dn_image::slots::unit_bytes;
 use dn_net::node::Unit;
 use dn_tables::set::TableSet;
+use dn_tables::sizes::Sizes;
 use std::alloc::Global;
 
 /// What is found in the slots of an image: how many hold a record, and those with shut-out records.

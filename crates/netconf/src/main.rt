@@ -1,12 +1,12 @@
 //! The program: it hands its words, standard input and standard output to the tool, and ends with its status.
 #![tactic(auto)]
 
-use dn_base::memory_tables::MemTables;
 use dn_base::sink::Sink;
 use dn_base::source::Source;
 use dn_base::streams::{StdSink, StdSource};
 use dn_kind::kinds::Kinds;
 use dn_kinds::listed::{Pages, Radix, Remap, Vectors, listed_are_lawful};
+use dn_tables::sizes::Sizes;
 use dn_tool::run;
 use dn_tool::words::Words;
 use std::alloc::{AllocError, Global};
@@ -48,8 +48,9 @@ fn words_of<R: Env + AllocGlobal>(rt: &R) -> Result<Words, WordsFault> {
 }
 
 /// Answers the words with the kinds of units that the program knows: `pages`, `remap`, `vectors` and
-/// `radix`, in this order. The tables are emulated in memory, and keep no log. Want of memory for kinds and
-/// tables is an error, and then nothing was read or written.
+/// `radix`, in this order. No hardware is touched: the device keeps how many words each unit was given, and
+/// the words of the tables stand in the program's memory alone. Want of memory for the kinds is an error, and
+/// then nothing was read or written.
 fn answer<S: Source, K: Sink>(
     alloc: Global,
     words: &Words,
@@ -62,7 +63,7 @@ fn answer<S: Source, K: Sink>(
     kinds.add(Box::new(alloc, Remap)?)?;
     kinds.add(Box::new(alloc, Vectors)?)?;
     kinds.add(Box::new(alloc, Radix)?)?;
-    let mut device = MemTables::new(alloc, 0, Vec::new(alloc))?;
+    let mut device = Sizes::none(alloc);
     Ok(run::run(alloc, words, &kinds, source, sink, &mut device))
 }
 

@@ -6,7 +6,7 @@ use Rattle.dn_kind.specs.Tables.{Held}
 use Rattle.dn_tables.proofs.Slots.{all_of_map}
 use Rattle.dn_tables.specs.Set.{FitsNet, IsOnDevice, fresh_set}
 use Rattle.dn_book.proofs.Packed.{AreKindsOf}
-use Rattle.dn_audit.specs.Sizes.{sizes_by}
+use Rattle.dn_tables.specs.Sizes.{sizes_by}
 use Rattle.dn_audit.specs.Taking.{records_in, words_in}
 use Rattle.dn_audit.proofs.Counting.{held_next, shut_next}
 use Rattle.dn_audit.proofs.Filled.{filled_all, filled_first, image_held}

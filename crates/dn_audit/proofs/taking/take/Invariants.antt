@@ -2,7 +2,7 @@
 use Rattle.std.proofs.Common.{◌≡◌, ◌+◌, ◌*◌, ◌≤◌, ◌++◌, None, drop}
 use Rattle.dn_kind.specs.Kinded.{kinds_of}
 use Rattle.dn_audit.specs.Records.{held_of_nodes, shut_of_nodes}
-use Rattle.dn_audit.specs.Sizes.{sizes_by}
+use Rattle.dn_tables.specs.Sizes.{sizes_by}
 use Rattle.dn_audit.specs.Taking.{IsFilledTo, records_in, words_in}
 use Rattle.dn_audit.proofs.taking.take.Given as goal
 

@@ -2,28 +2,31 @@
 
 ghost use Rattle.std.specs.Prelude.{◌≡◌, [], ◌∷◌, ◌++◌, None, false, true, OnOk, OnErr, is_err};
 ghost use Rattle.dn_base.specs.Terms.{Faults, IsCounted, has_unit, has_word, is_device_fault};
-ghost use Rattle.dn_audit.specs.Terms.{no_faults, sizes_by};
+ghost use Rattle.dn_tables.specs.Terms.{no_faults, sizes_by};
 
 use dn_base::device::{DeviceFault, DeviceOrMemory, Tables};
 use std::alloc::Global;
 
 /// How many words a unit was given.
 #[derive(Clone, Copy)]
-pub(crate) struct Size {
-    pub(crate) unit: u16,
-    pub(crate) words: u32,
+pub struct Size {
+    /// The number of the unit's node.
+    pub unit: u16,
+    /// How many words it has.
+    pub words: u32,
 }
 
 /// A device that keeps how many words each unit was given, and nothing else. It tells neither words
 /// nor a log, and never fails.
 #[derive(Drop)]
-pub(crate) struct Sizes {
-    pub(crate) sizes: Vec<Size>,
+pub struct Sizes {
+    /// The units that were made, in order.
+    pub sizes: Vec<Size>,
 }
 
 impl Sizes {
     /// No unit was made. It takes no memory.
-    pub(crate) fn none(alloc: Global) -> Sizes
+    pub fn none(alloc: Global) -> Sizes
         ensures { result.sizes.items ≡ [] }
     {
         Sizes {

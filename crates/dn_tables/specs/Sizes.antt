@@ -2,7 +2,7 @@
 use Rattle.std.specs.Prelude.{true, List, map}
 use Rattle.dn_base.specs.Device.{UnitSize}
 use Rattle.dn_base.specs.Outside.{Faults}
-use Rattle.dn_audit.specs.declared.sizes.Size.{Size}
+use Rattle.dn_tables.specs.declared.sizes.Size.{Size}
 
 -- the numbers of words, as a device tells them
 abbrev pub sizes_by : List Size → List UnitSize
