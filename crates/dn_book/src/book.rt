@@ -18,7 +18,7 @@ use crate::uses::{add_uses, end_uses};
 use dn_base::OutOfMemory;
 use dn_base::device::{DeviceOrMemory, Tables};
 use dn_kind::kinded::KindedNet;
-use dn_tables::set::TableSet;
+use dn_tables::set::{Made, TableSet};
 use std::alloc::Global;
 use std::marker::Model;
 use thiserror::Error;
@@ -68,11 +68,7 @@ impl Book {
     /// As `TableSet::make`: `Device` only where the device's count of faults rose in this call, or
     /// stands at the last value of its counter; `OutOfMemory` for want of memory. Units were made on
     /// the device in order so far, and nothing else was done to it.
-    pub fn make<D: Tables>(
-        alloc: Global,
-        on: KindedNet,
-        device: &mut D,
-    ) -> Result<Book, DeviceOrMemory>
+    pub fn make<D: Tables>(alloc: Global, on: KindedNet, device: &mut D) -> Made<Book>
         requires on { IsKinded meaning on }
         requires none { D.units device.old ≡ [] }
         ensures empty { IfOk result (λ book. book.grants ≡ []) }

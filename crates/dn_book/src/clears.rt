@@ -12,11 +12,12 @@ ghost use Rattle.dn_book.specs.Terms.{AreCleared, AreFit, TakesSlots, grant_slot
 use crate::grant::Grant;
 use crate::slots::{end_slot, first_slot};
 use crate::uses::is_used_alone;
-use dn_base::device::{DeviceFault, Tables};
+use dn_base::device::Tables;
 use dn_net::net::Net;
 use dn_net::node::Unit;
 use dn_tables::placement::Hop;
 use dn_tables::set::TableSet;
+use dn_tables::writes::Written;
 
 /// Clears those slots of a grant that one live grant uses.
 ///
@@ -28,7 +29,7 @@ pub(crate) fn clear_grant<D: Tables>(
     net: &Net,
     grant: &Grant,
     device: &mut D,
-) -> Result<(), DeviceFault>
+) -> Written
     requires units { units_of tables.old ≡ map (λ d. d.unit) net.now }
     requires on_device { IsOnDevice tables.old (D.units device.old) (D.words device.old) }
     requires hops { AreFit net.now grant.now.request.size grant.now.placement.hops }
@@ -50,7 +51,7 @@ fn clear_hop<D: Tables>(
     size: u64,
     hop: &Hop,
     device: &mut D,
-) -> Result<(), DeviceFault>
+) -> Written
     requires units { units_of tables.old ≡ map (λ d. d.unit) net.now }
     requires on_device { IsOnDevice tables.old (D.units device.old) (D.words device.old) }
     requires there { (u : UnitPart) × (unit_at net.now hop.now.unit ≡ Some u) ×
@@ -73,7 +74,7 @@ fn clear_slots<D: Tables>(
     size: u64,
     hop: &Hop,
     device: &mut D,
-) -> Result<(), DeviceFault>
+) -> Written
     requires on_device { IsOnDevice tables.old (D.units device.old) (D.words device.old) }
     requires is_unit { unit_in tables.old hop.now.unit ≡ Some unit.now }
     requires there { TakesSlots unit.now size hop.now }
@@ -90,12 +91,7 @@ fn clear_slots<D: Tables>(
 }
 
 /// Clears a slot, where one live grant uses it.
-fn clear_slot<D: Tables>(
-    tables: &mut TableSet,
-    unit: u16,
-    slot: u32,
-    device: &mut D,
-) -> Result<(), DeviceFault>
+fn clear_slot<D: Tables>(tables: &mut TableSet, unit: u16, slot: u32, device: &mut D) -> Written
     requires on_device { IsOnDevice tables.old (D.units device.old) (D.words device.old) }
     requires there { IsTrue (has_slot tables.old unit slot) }
     ensures cleared { (holds : RecordPart) → AreCleared (put_at unit slot holds ∷ [])

@@ -11,7 +11,7 @@ ghost use Rattle.dn_book.specs.Terms.{AreAdded, ArePut, AreWritten, MayPut, MayP
 use crate::grant::Grant;
 use crate::slots::{end_slot, first_slot, slot_record};
 use crate::uses::is_unused;
-use dn_base::device::{DeviceFault, Tables};
+use dn_base::device::Tables;
 use dn_kind::kinded::KindedNet;
 use dn_kind::kinds::Kinds;
 use dn_kind::rights::Rights;
@@ -19,6 +19,7 @@ use dn_kind::unit_kind::Record;
 use dn_net::node::Unit;
 use dn_tables::placement::Hop;
 use dn_tables::set::TableSet;
+use dn_tables::writes::Written;
 
 /// The rights of the records of a hop: those of the grant in its own hop, and both in every other.
 fn hop_rights(rights: Rights, own: usize, place: usize) -> Rights
@@ -39,7 +40,7 @@ pub(crate) fn write_grant<D: Tables>(
     grant: &Grant,
     is_due: bool,
     device: &mut D,
-) -> Result<(), DeviceFault>
+) -> Written
     requires { MayPutGrant meaning on grant.now tables.old
         (D.units device.old) (D.words device.old) }
     ensures done { OnOk result (tables.new ≡ after_puts
@@ -62,7 +63,7 @@ pub(crate) fn write_grant<D: Tables>(
 /// # Errors
 ///
 /// `DeviceFault` where it fails.
-fn fence<D: Tables>(is_due: bool, device: &mut D) -> Result<(), DeviceFault>
+fn fence<D: Tables>(is_due: bool, device: &mut D) -> Written
     ensures units { D.units device.new ≡ D.units device.old }
     ensures words { D.words device.new ≡ D.words device.old }
     ensures added { AreAdded (fence_events is_due) (is_err result) (D.log device.old)
@@ -85,7 +86,7 @@ fn put_grant<D: Tables>(
     on: KindedNet,
     grant: &Grant,
     device: &mut D,
-) -> Result<(), DeviceFault>
+) -> Written
     requires { MayPutGrant meaning on grant.now tables.old
         (D.units device.old) (D.words device.old) }
     ensures put { ArePut (kinds_of meaning on.entry.kinds.now)
@@ -113,7 +114,7 @@ fn put_hop<D: Tables>(
     rights: Rights,
     hop: &Hop,
     device: &mut D,
-) -> Result<(), DeviceFault>
+) -> Written
     requires { MayPutHop (unit_at on.net.now hop.now.unit) size rights hop.now
         meaning on.kinds.now tables.old (D.units device.old) (D.words device.old) }
     ensures put { ArePut
@@ -137,7 +138,7 @@ fn put_slots<D: Tables>(
     rights: Rights,
     hop: &Hop,
     device: &mut D,
-) -> Result<(), DeviceFault>
+) -> Written
     requires { MayPutHop (Some unit.now) size rights hop.now meaning kinds.now tables.old
         (D.units device.old) (D.words device.old) }
     ensures put { ArePut (kinds_of meaning kinds.now) (hop_slots_by (Some unit.now) size rights
@@ -161,7 +162,7 @@ fn put_slot<D: Tables>(
     slot: u32,
     holds: Record,
     device: &mut D,
-) -> Result<(), DeviceFault>
+) -> Written
     requires { MayPut (put_at unit slot holds) meaning kinds.now tables.old
         (D.units device.old) (D.words device.old) }
     ensures put { ArePut (kinds_of meaning kinds.now) (put_at unit slot holds ∷ [])

@@ -69,8 +69,7 @@ write_grant-requires g c =
 
 pub returns-then-is_err-clause-added : goal.returns-then-is_err-clause-added
 returns-then-is_err-clause-added g c other =
-    let was : is_err c.write_grant.result ≡ true = search rules in
-    logged g (goal.at.returns-then-is_err-clause-added g c).After-write_grant true (same_grant g (goal.at.returns-then-is_err-clause-added g c).In-Some) (coming g (goal.at.returns-then-is_err-clause-added g c).In-Some) was
+    logged g (goal.at.returns-then-is_err-clause-added g c).After-write_grant true (same_grant g (goal.at.returns-then-is_err-clause-added g c).In-Some) (coming g (goal.at.returns-then-is_err-clause-added g c).In-Some) (search rules)
 
 pub returns-then-is_err-clause-caught : goal.returns-then-is_err-clause-caught
 returns-then-is_err-clause-caught g c e =
@@ -102,8 +101,7 @@ returns-clause-changed g c =
 
 pub returns-clause-added : goal.returns-clause-added
 returns-clause-added g c other =
-    let was : is_err c.write_grant.result ≡ false = search rules in
-    logged g (goal.at.returns-clause-added g c).After-write_grant false (same_grant g (goal.at.returns-clause-added g c).In-Some) (coming g (goal.at.returns-clause-added g c).In-Some) was
+    logged g (goal.at.returns-clause-added g c).After-write_grant false (same_grant g (goal.at.returns-clause-added g c).In-Some) (coming g (goal.at.returns-clause-added g c).In-Some) (search rules)
 
 pub returns-then-is_err-clause-refused : goal.returns-then-is_err-clause-refused
 returns-then-is_err-clause-refused g c =

@@ -73,8 +73,7 @@ clear_grant-requires-clause-hops g c = going_fit _ _ _ _ _ (going g (goal.at.cle
 
 pub returns-then-is_err-clause-added : goal.returns-then-is_err-clause-added
 returns-then-is_err-clause-added g c =
-    let was : is_err c.clear_grant.result ≡ true = search rules in
-    logged g (goal.at.returns-then-is_err-clause-added g c).After-clear_grant true (found g (goal.at.returns-then-is_err-clause-added g c).In-Some) (going g (goal.at.returns-then-is_err-clause-added g c).In-Some) was
+    logged g (goal.at.returns-then-is_err-clause-added g c).After-clear_grant true (found g (goal.at.returns-then-is_err-clause-added g c).In-Some) (going g (goal.at.returns-then-is_err-clause-added g c).In-Some) (search rules)
 
 pub returns-then-is_err-clause-caught : goal.returns-then-is_err-clause-caught
 returns-then-is_err-clause-caught g c e =
@@ -119,8 +118,7 @@ returns-clause-changed g c =
 
 pub returns-clause-added : goal.returns-clause-added
 returns-clause-added g c =
-    let was : is_err c.clear_grant.result ≡ false = search rules in
-    logged g (goal.at.returns-clause-added g c).After-clear_grant false (found g (goal.at.returns-clause-added g c).In-Some) (going g (goal.at.returns-clause-added g c).In-Some) was
+    logged g (goal.at.returns-clause-added g c).After-clear_grant false (found g (goal.at.returns-clause-added g c).In-Some) (going g (goal.at.returns-clause-added g c).In-Some) (search rules)
 
 pub returns-clause-unknown : goal.returns-clause-unknown
 returns-clause-unknown g c = ((λ e. cc), (λ e. absurd (false≢true (sym e ∙ known g (goal.at.returns-clause-unknown g c).In-Some))))
