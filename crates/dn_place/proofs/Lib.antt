@@ -12,6 +12,7 @@ pub mod Outputs
 pub mod Pages
 pub mod Proper
 pub mod Readies
+pub mod Runs
 pub mod Shut
 pub mod Stretches
 pub mod Tops

@@ -72,6 +72,12 @@ abbrev pub AreRun : Bool → Slots → ℕ → ℕ → ℕ → Type 0
 AreRun barred slots unit first to = (slot : ℕ) → first ≤ slot → slot < to →
     IsTrue (is_in_run barred (slot_of slots unit slot))
 
+-- so they are up to a slot, which is not past an end
+pub record IsRun (barred : Bool) (slots : Slots) (unit first end to : ℕ) : Type 0 where
+  pub onward : first ≤ to
+  pub most : first ≤ end → to ≤ end
+  pub run : AreRun barred slots unit first to
+
 -- no hop that begins in a slot from a first one on, and before another, can take a slot for the pages
 -- of a port that it would meet there
 abbrev pub AreShut : SlotState → ℕ → ℕ → ℕ → ℕ → ℕ → Type 0

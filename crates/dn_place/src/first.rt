@@ -1,11 +1,11 @@
 //! The first admissible placement.
 
-ghost use Rattle.std.specs.Prelude.{◌≡◌, ◌<◌, ◌↔◌, length, IfOk, IfSome, IsTrue, None, []};
-ghost use Rattle.dn_kind.specs.Terms.{AreKinds, are_rights, kinds_of};
+ghost use Rattle.std.specs.Prelude.{◌≡◌, ◌<◌, ◌↔◌, ℕ, List, length, IfOk, IfSome, IsTrue, None, []};
+ghost use Rattle.dn_kind.specs.Terms.{AreKinds, Meaning, are_rights, kinds_of};
 ghost use Rattle.dn_tables.specs.Terms.{FitsNet, fits_kinds, has_slot, record_kept};
 ghost use Rattle.dn_placement.specs.Terms.{IsAdmissible, IsFirst, IsPlacement, NoneSuited, slots_of_set};
 ghost use Rattle.dn_view.specs.Terms.{IsSystem};
-ghost use Rattle.dn_place.specs.Terms.{IsFirstOrNone, IsHopReach, IsRequest, IsSearchReady, hops_view, slot_of};
+ghost use Rattle.dn_place.specs.Terms.{IsFirstOrNone, IsHopReach, IsRequest, IsRun, IsSearchReady, hops_view, slot_of};
 
 use crate::OutOfMemory;
 use crate::blocks::block_of;
@@ -15,7 +15,7 @@ use crate::problem::{Aim, SearchProblem};
 use crate::quest::{FoundPlacement, Quest};
 use crate::reach::{ReachMarks, reach_of};
 use crate::slot_state::SlotState;
-use crate::tables::slot_at;
+use crate::tables::{run_end, slot_at};
 use dn_placement::request::Request;
 use dn_tables::placement::Placement;
 use dn_tables::set::TableSet;
@@ -99,6 +99,11 @@ fn by_tables<A: Aim>(
         ensures { result
             ≡ slot_of (slots_of_set (kinds_of meaning kinds.entry.now) tables.entry.now) unit slot }
     { slot_at(kinds, tables, unit, slot) };
+    let run = |unit: u16, from: u32, end: u32, barred: bool| -> u32
+        requires { (slot : ℕ) → slot < end → IsTrue (has_slot tables.now unit slot) }
+        ensures { (kinds : List Meaning)
+            → IsRun barred (slots_of_set kinds tables.entry.now) unit from end result }
+    { run_end(tables, unit, from, end, barred) };
     let exact = |v: u64, hops: Hops, own: u8| -> Result<bool, OutOfMemory>
         requires system { IsSystem meaning system }
         requires fits { FitsNet system.on.net.now
@@ -115,12 +120,13 @@ fn by_tables<A: Aim>(
         let placement = hops.into_placement(alloc, v, own);
         exact(alloc, system, tables, request, &placement)
     };
-    let problem = SearchProblem::<'_, A, _, _> {
+    let problem = SearchProblem::<'_, A, _, _, _> {
         net: system.on.net,
         flats: system.flats,
         request: *request,
         at: reach.at,
         met,
+        run,
         exact,
         aim: PhantomData,
     };

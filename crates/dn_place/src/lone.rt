@@ -65,15 +65,19 @@ fn by_problem<A: Aim>(
     let met = |_unit: u16, _slot: u32| -> SlotState
         ensures { result ≡ SlotState.Barred }
     { SlotState::Barred };
+    let run = |_unit: u16, from: u32, _end: u32, _barred: bool| -> u32
+        ensures { result ≡ from }
+    { from };
     let exact = |_v: u64, _hops: Hops, _own: u8| -> Result<bool, OutOfMemory>
         ensures { IfOk result (λ _. ⊥) }
     { Err(OutOfMemory) };
-    let problem = SearchProblem::<'_, A, _, _> {
+    let problem = SearchProblem::<'_, A, _, _, _> {
         net: system.on.net,
         flats: system.flats,
         request: *request,
         at: None,
         met,
+        run,
         exact,
         aim: PhantomData,
     };

@@ -34,13 +34,15 @@ impl Aim for Brand {
 
 /// A request, and the net and the slots in which a placement of it is looked for.
 #[derive(Drop)]
-pub(crate) struct SearchProblem<'a, A, F, E> {
+pub(crate) struct SearchProblem<'a, A, F, G, E> {
     pub(crate) net: &'a Net,
     pub(crate) flats: &'a Flats,
     pub(crate) request: Request,
     pub(crate) at: Option<u64>,
     /// What a hop meets in a slot of a unit.
     pub(crate) met: F,
+    /// Before which slot those of a unit from one on, and before an end, are free, or barred where that is asked.
+    pub(crate) run: G,
     /// Whether the placement at an address of the agent, with these hops and this own one, is
     /// admissible.
     pub(crate) exact: E,
@@ -51,14 +53,16 @@ impl<
     'a,
     A: Aim,
     F: Fn(u16, u32) -> SlotState + Drop,
+    G: Fn(u16, u32, u32, bool) -> u32 + Drop,
     E: Fn(u64, Hops, u8) -> Result<bool, OutOfMemory> + Drop,
-> Quest for SearchProblem<'a, A, F, E> {
+> Quest for SearchProblem<'a, A, F, G, E> {
     ghost use Rattle.dn_place.specs.Problems.{IsSearchProblem};
 
     ghost sought = { λ _. A.sought };
 
     ghost is_consistent = { λ s. IsSearchProblem s.net.now s.flats.now s.request s.at
-        (F.pre s.met) (F.post s.met) (E.pre s.exact) (E.post s.exact) A.sought };
+        (F.pre s.met) (F.post s.met) (G.pre s.run) (G.post s.run)
+        (E.pre s.exact) (E.post s.exact) A.sought };
 
     fn request(&self) -> Request {
         self.request
@@ -98,6 +102,10 @@ impl<
 
     fn slot(&self, unit: u16, slot: u32) -> SlotState {
         (self.met)(unit, slot)
+    }
+
+    fn run_end(&self, unit: u16, from: u32, end: u32, barred: bool) -> u32 {
+        (self.run)(unit, from, end, barred)
     }
 
     fn is_exact(&self, v: u64, hops: Hops, own: u8) -> Result<bool, OutOfMemory> {

@@ -2,7 +2,7 @@
 
 ghost use Rattle.std.specs.Prelude.{◌≡◌, ◌<◌, ◌≤◌, ◌+◌, ◌-◌, ◌*◌, ◌/◌, ◌%◌, ◌^◌, IsTrue, ◌↔◌, IfSome, IfNone, false};
 ghost use Rattle.dn_net.specs.Terms.{unit_at};
-ghost use Rattle.dn_place.specs.Terms.{AreBarred, AreFree, AreFreeTo, AreRun, AreShut, AreUsable, IsSearchReady, IsWithin, is_barred_slot, is_free_slot, is_in_run, is_usable_slot, slot_count, slot_of};
+ghost use Rattle.dn_place.specs.Terms.{AreBarred, AreFree, AreFreeTo, AreShut, AreUsable, IsSearchReady, IsWithin, is_barred_slot, is_free_slot, is_usable_slot, slot_count, slot_of};
 
 use crate::quest::Quest;
 use crate::slot_state::SlotState;
@@ -45,36 +45,6 @@ fn are_free<Q: Quest>(quest: &Q, unit: u16, first: u32, last: u32) -> bool
         }
     }
     true
-}
-
-/// Before which slot those of a unit from one on are free, or all barred, of those up to a last one.
-fn run_end<Q: Quest>(quest: &Q, unit: u16, from: u32, last: u32, barred: bool) -> u32
-    requires consistent { Q.is_consistent quest.now }
-    requires within { last < slot_count (unit_at (Q.sought quest.now).net unit) }
-    requires few { last < 262144 }
-    ensures onward { from ≤ result }
-    ensures most { from ≤ last + 1 → result ≤ last + 1 }
-    ensures run { AreRun barred (Q.sought quest.now).slots unit from result }
-{
-    let mut end = from;
-    'slots: while end <= last {
-        if !is_in_run(quest.slot(unit, end), barred) {
-            return end;
-        }
-        end += 1;
-    }
-    end
-}
-
-/// Whether a slot is free, or barred where that is asked.
-fn is_in_run(slot: SlotState, barred: bool) -> bool
-    ensures { result ≡ is_in_run barred slot }
-{
-    if barred {
-        is_barred_slot(slot)
-    } else {
-        is_free_slot(slot)
-    }
 }
 
 /// Whether no hop may take a slot.
@@ -232,7 +202,7 @@ pub(crate) fn next_input<Q: Quest>(quest: &Q, translator: &Unit, hop: Hop, free:
     let slots = slots_of_hop(quest, translator, hop);
     let output = hop.y / slots.page;
     let from = slots.first.max(free);
-    let end = run_end(quest, hop.unit, from, slots.last, false);
+    let end = quest.run_end(hop.unit, from, slots.last + 1, false);
     match last_unusable(
         quest,
         hop.unit,
@@ -245,7 +215,7 @@ pub(crate) fn next_input<Q: Quest>(quest: &Q, translator: &Unit, hop: Hop, free:
         Some(slot) => {
             let found = quest.slot(hop.unit, slot);
             let past = past_slot(found, slot, slots.first, hop.port, output);
-            let next = run_end(quest, hop.unit, past, translator.slots - 1, true);
+            let next = quest.run_end(hop.unit, past, translator.slots, true);
             let x = u64::from(next) * slots.page + hop.x % slots.page;
             Input { x, free: end }
         }

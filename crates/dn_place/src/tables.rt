@@ -1,11 +1,11 @@
 //! What a set of tables says of slots and of placements.
 
-ghost use Rattle.std.specs.Prelude.{◌≡◌, ◌↔◌, IsTrue, false};
-ghost use Rattle.dn_kind.specs.Terms.{AreKinds, kinds_of};
+ghost use Rattle.std.specs.Prelude.{◌≡◌, ◌<◌, ◌≤◌, ◌↔◌, ℕ, List, IsTrue, false};
+ghost use Rattle.dn_kind.specs.Terms.{AreKinds, Meaning, kinds_of};
 ghost use Rattle.dn_tables.specs.Terms.{FitsNet, fits_kinds, has_slot};
 ghost use Rattle.dn_placement.specs.Terms.{is_free_in, is_zero_slot, slots_of_set};
 ghost use Rattle.dn_view.specs.Terms.{IsSystem};
-ghost use Rattle.dn_place.specs.Terms.{IsBarred, shared_by, slot_of};
+ghost use Rattle.dn_place.specs.Terms.{IsBarred, IsRun, shared_by, slot_of};
 
 use crate::slot_state::SlotState;
 use crate::slots::{is_barred_slot, power};
@@ -24,13 +24,45 @@ pub(crate) fn slot_at(kinds: &Kinds, tables: &TableSet, unit: u16, slot: u32) ->
     requires there { IsTrue (has_slot tables.now unit slot) }
     ensures { result ≡ slot_of (slots_of_set (kinds_of meaning kinds.now) tables.now) unit slot }
 {
-    if is_free(tables, unit, slot) {
+    let users = tables.use_at(unit, slot);
+    if users.uses == 0 && has_zero_words(tables, unit, slot) {
         return SlotState::Free;
     }
-    if tables.owner_at(unit, slot).is_some() {
+    if users.owner.is_some() {
         return SlotState::Barred;
     }
     shared_by(tables.record_at(kinds, unit, slot))
+}
+
+/// Before which slot those of a unit from one on are free, or owned where barred ones are asked for, of
+/// those before an end.
+pub(crate) fn run_end(tables: &TableSet, unit: u16, from: u32, end: u32, barred: bool) -> u32
+    requires { (slot : ℕ) → slot < end → IsTrue (has_slot tables.now unit slot) }
+    ensures { (kinds : List Meaning)
+        → IsRun barred (slots_of_set kinds tables.now) unit from end result }
+{
+    if barred {
+        return tables.owned_end(unit, from, end);
+    }
+    free_end(tables, unit, from, end)
+}
+
+/// Before which slot those of a unit from one on are free, of those before an end.
+fn free_end(tables: &TableSet, unit: u16, from: u32, end: u32) -> u32
+    requires { (slot : ℕ) → slot < end → IsTrue (has_slot tables.now unit slot) }
+    ensures onward { from ≤ result }
+    ensures most { from ≤ end → result ≤ end }
+    ensures free { (slot : ℕ) → from ≤ slot → slot < result →
+        IsTrue (is_free_in tables.now unit slot) }
+{
+    let mut slot = from;
+    'slots: while slot < end {
+        if !is_free(tables, unit, slot) {
+            return slot;
+        }
+        slot += 1;
+    }
+    slot
 }
 
 /// Whether a slot of a set of tables is free.

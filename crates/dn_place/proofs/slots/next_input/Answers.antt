@@ -4,7 +4,7 @@ use Rattle.dn_view.proofs.Pages.{power_below}
 use Rattle.dn_place.specs.declared.slot_state.SlotState.{SlotState}
 use Rattle.dn_place.specs.Slots.{AreFreeTo, AreShut, slot_of}
 use Rattle.dn_place.proofs.Nexts.{barred_on, shut_bars}
-use Rattle.dn_place.proofs.Pages.{input_bound, past_bound, quotient_within, slot_there}
+use Rattle.dn_place.proofs.Pages.{input_bound, past_bound, quotient_within}
 use Rattle.dn_place.proofs.slots.next_input.Given.{Over}
 use Rattle.dn_place.proofs.slots.next_input.Goals.{After-run_end-end, After-run_end-next}
 use Rattle.dn_place.proofs.slots.next_input.Goals as goal
@@ -13,7 +13,7 @@ use Rattle.dn_place.proofs.slots.next_input.Goals as goal
 low : (g : Over) (c : After-run_end-next g) → c.run_end-next.result * 2 ^ c.args.translator.now.page + c.args.hop.x % 2 ^ c.args.translator.now.page ≤ 576460752303423488
 low g c =
     let f = c.requires.ready.bounds _ _ c.requires.within.unit in
-    past_bound c.run_end-next.result c.args.translator.now.page c.args.translator.now.slots c.args.hop.x f.page f.few (let most : c.run_end-next.result ≤ c.args.translator.now.slots - 1 + 1 = c.run_end-next.ensures.most (omega (arith, c.slots_of_hop-slots.ensures.below, c.in-Some.ensures.up_to, c.past_slot-past.ensures.most)) in omega (arith, most, c.slots_of_hop-slots.ensures.below))
+    past_bound c.run_end-next.result c.args.translator.now.page c.args.translator.now.slots c.args.hop.x f.page f.few (let most : c.run_end-next.result ≤ c.args.translator.now.slots = c.run_end-next.ensures.most (omega (arith, c.slots_of_hop-slots.ensures.below, c.in-Some.ensures.up_to, c.past_slot-past.ensures.most)) in omega (arith, most, c.slots_of_hop-slots.ensures.below))
 
 -- the slots from the first of the hop's on are free before the end
 free_here : (g : Over) (c : After-run_end-end g) → AreFreeTo (g.Q.Quest.sought c.args.quest.now).slots c.args.hop.unit (c.args.hop.x / 2 ^ c.args.translator.now.page) c.run_end-end.result
@@ -60,9 +60,4 @@ pub returns-in-None-clause-free : goal.returns-in-None-clause-free
 returns-in-None-clause-free g c = free_here g (goal.at.returns-in-None-clause-free g c).After-run_end-end
 
 pub run_end-next-requires-clause-within : goal.run_end-next-requires-clause-within
-run_end-next-requires-clause-within g c = slot_there (g.Q.Quest.sought c.args.quest.now).net c.args.hop.unit _ c.args.translator.now c.requires.within.unit (omega (arith, c.slots_of_hop-slots.ensures.below))
-
-pub run_end-next-requires-clause-few : goal.run_end-next-requires-clause-few
-run_end-next-requires-clause-few g c =
-    let f = c.requires.ready.bounds _ _ c.requires.within.unit in
-    omega (arith, f.few, c.slots_of_hop-slots.ensures.below)
+run_end-next-requires-clause-within g c = rw c.requires.within.unit (omega arith)
