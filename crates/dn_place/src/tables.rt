@@ -1,6 +1,6 @@
 //! What a set of tables says of slots and of placements.
 
-ghost use Rattle.std.specs.Prelude.{◌≡◌, ◌<◌, ◌≤◌, ◌↔◌, ℕ, List, IsTrue, false};
+ghost use Rattle.std.specs.Prelude.{◌≡◌, ◌<◌, ◌↔◌, ℕ, List, IsTrue, false};
 ghost use Rattle.dn_kind.specs.Terms.{AreKinds, Meaning, kinds_of};
 ghost use Rattle.dn_tables.specs.Terms.{FitsNet, fits_kinds, has_slot};
 ghost use Rattle.dn_placement.specs.Terms.{is_free_in, is_zero_slot, slots_of_set};
@@ -41,28 +41,7 @@ pub(crate) fn run_end(tables: &TableSet, unit: u16, from: u32, end: u32, barred:
     ensures { (kinds : List Meaning)
         → IsRun barred (slots_of_set kinds tables.now) unit from end result }
 {
-    if barred {
-        return tables.owned_end(unit, from, end);
-    }
-    free_end(tables, unit, from, end)
-}
-
-/// Before which slot those of a unit from one on are free, of those before an end.
-fn free_end(tables: &TableSet, unit: u16, from: u32, end: u32) -> u32
-    requires { (slot : ℕ) → slot < end → IsTrue (has_slot tables.now unit slot) }
-    ensures onward { from ≤ result }
-    ensures most { from ≤ end → result ≤ end }
-    ensures free { (slot : ℕ) → from ≤ slot → slot < result →
-        IsTrue (is_free_in tables.now unit slot) }
-{
-    let mut slot = from;
-    'slots: while slot < end {
-        if !is_free(tables, unit, slot) {
-            return slot;
-        }
-        slot += 1;
-    }
-    slot
+    tables.run_end(unit, from, end, barred)
 }
 
 /// Whether a slot of a set of tables is free.

@@ -1,6 +1,10 @@
 -- Words after writes: a row of values put over words, and words of a slot that are cleared.
-use Rattle.std.proofs.Common.{◌≡◌, ℕ, zero, suc, ◌+◌, ◌-◌, ◌*◌, ◌<◌, ◌≤◌, List, [], ◌∷◌, ◌++◌, length, take, drop, replicate, get_or, slice_set, refl, sym, ap, ◌∙◌, arith, append_assoc}
+use Rattle.std.proofs.Common.{◌≡◌, ℕ, zero, suc, ◌+◌, ◌-◌, ◌*◌, ◌<◌, ◌≤◌, List, [], ◌∷◌, ◌++◌, length, take, drop, replicate, get_or, slice_set, ◌==◌, IsTrue, refl, sym, ap, ◌∙◌, arith, append_assoc}
+use Rattle.std.specs.List.{list_all}
 use Rattle.std.proofs.lemmas.List.{length-set, take-append-drop, drop-set, length_push, replicate_more, length-replicate, length-take-le, drop_at, take_at, get_or-drop, get_or-append_right, length-drop, take_more, take_more_set}
+use Rattle.std.proofs.lemmas.List.Folds.{list_all_more}
+use Rattle.dn_base.proofs.Booleans.{and_from}
+use Rattle.dn_base.proofs.Orders.{eq-eqb}
 use Rattle.dn_kind.specs.Tables.{slot_words}
 use Rattle.dn_tables.specs.Set.{put_over}
 use Rattle.dn_tables.specs.Writes.{WordWrite, writes_from, words_after, clears_from}
@@ -51,6 +55,13 @@ read_next xs ws first i v room within at same =
     ∙ ap (λ (l : List ℕ). l ++ v ∷ []) same
     ∙ ap (λ n. take i (drop first ws) ++ n ∷ []) (at ∙ sym (get_or-drop first ws i v))
     ∙ sym (take_more (drop first ws) i v (omega arith))
+
+-- words that are 0 one after the other
+pub zero_next : (ws : List ℕ) (first i v : ℕ) → first + i < length ws → v ≡ get_or ws (first + i) v → v ≡ 0 → IsTrue (list_all (λ w. w == 0) (take i (drop first ws))) → IsTrue (list_all (λ w. w == 0) (take (i + 1) (drop first ws)))
+zero_next ws first i v within at none so_far =
+    let long : length (drop first ws) ≡ length ws - first = length-drop first ws in
+    list_all_more (λ w. w == 0) (drop first ws) i v (omega arith)
+    ∙ and_from (list_all (λ w. w == 0) (take i (drop first ws))) (get_or (drop first ws) i v == 0) so_far (eq-eqb (get_or (drop first ws) i v) 0 (get_or-drop first ws i v ∙ sym at ∙ none))
 
 put_none : (ws : List ℕ) (first : ℕ) → put_over ws first [] ≡ ws
 put_none ws first = take-append-drop first ws

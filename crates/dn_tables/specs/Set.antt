@@ -11,6 +11,7 @@ use Rattle.dn_kind.specs.Tables.{record_of_unit, slot_words}
 use Rattle.dn_kind.specs.Units.{unit_shape}
 use Rattle.dn_tables.specs.declared.table.SlotUse.{SlotUse}
 use Rattle.dn_tables.specs.declared.table.NodeTable.{NodeTable}
+use Rattle.dn_tables.specs.Uses.{IsOwned}
 
 -- what a set keeps is a table for each node of its net, by the node's number: the unit that the node is, how many words
 -- a record has, the words, and the use of each slot; a node that is no unit has neither words nor uses
@@ -230,3 +231,14 @@ IsPackableIn kinds set node r = (u : UnitPart) (kind : Meaning) → unit_in set 
 abbrev pub IsEmpty : List NodeTable → ℕ → ℕ → Type 0
 IsEmpty set node slot =
     slot_words (width_in set node) (words_in set node) slot ≡ replicate (width_in set node) 0
+
+-- no live grant uses the slot of a table, and its words are 0
+abbrev pub is_clear : Option NodeTable → ℕ → Bool
+is_clear o slot =
+    ((slice_index_or (uses_of_table o) slot no_use).uses == 0)
+    && list_all (λ w. w == 0) (slot_words (width_of_table o) (words_of_table o) slot)
+
+-- a live grant owns the slot of a table, where that is asked, or else it is clear
+abbrev pub IsInRun : Bool → Option NodeTable → ℕ → Type 0
+IsInRun true o slot = IsOwned (slice_index_or (uses_of_table o) slot no_use)
+IsInRun false o slot = IsTrue (is_clear o slot)

@@ -1,11 +1,11 @@
 //! The tables of all units of a net.
 
-ghost use Rattle.std.specs.Prelude.{ℕ, ◌≡◌, ◌+◌, ◌-◌, ◌^◌, ◌<◌, ◌≤◌, ◌⊎◌, ◌++◌, [], ◌∷◌, false, length, map, replicate, List, Option, Some, None, IsSome, IfOk, OnOk, OnErr, IsTrue, is_err, is_ok};
+ghost use Rattle.std.specs.Prelude.{ℕ, ◌≡◌, ◌+◌, ◌-◌, ◌^◌, ◌<◌, ◌≤◌, ◌⊎◌, ◌++◌, [], ◌∷◌, false, length, map, replicate, slice_get, List, Option, Some, None, IsSome, IfOk, OnOk, OnErr, IsTrue, is_err, is_ok};
 ghost use Rattle.std.specs.List.{All, list_all};
 ghost use Rattle.std.specs.Option.{option_map};
 ghost use Rattle.dn_base.specs.Terms.{IsCounted, Logged, has_unit, is_device_fault, sizes_of};
 ghost use Rattle.dn_kind.specs.Terms.{AreKinds, IsLawful, IsShaped, Meaning, kinds_of, slot_words};
-ghost use Rattle.dn_tables.specs.Terms.{AreMade, AreUnitsMade, FitsNet, IsEmpty, IsOnDevice, IsOwned, IsPackableIn, IsSet, KeepsFit, clear_writes, fits_kinds, fresh_set, has_slot, is_sized, is_zero, make_event, packed_in, put_writes, record_kept, table_on_device, tables_of_set, unit_in, use_in, width_in, with_slot, with_use, words_in};
+ghost use Rattle.dn_tables.specs.Terms.{AreMade, AreUnitsMade, FitsNet, IsEmpty, IsInRun, IsOnDevice, IsPackableIn, IsSet, KeepsFit, clear_writes, fits_kinds, fresh_set, has_slot, is_sized, is_zero, make_event, packed_in, put_writes, record_kept, table_on_device, tables_of_set, unit_in, use_in, width_in, with_slot, with_use, words_in};
 
 use crate::table::{NodeTable, SlotUse};
 use crate::words::SlotWords;
@@ -178,24 +178,26 @@ impl TableSet {
         requires { IsTrue (has_slot self.now unit slot) }
         ensures value { result ≡ use_in self.now unit slot }
         ensures few { result.uses < 2 ^ 16 }
+        ensures alone { IsSome result.owner → result.uses ≡ 1 }
     {
         let table = &self.nodes[usize::from(unit)];
         table.uses.get(slot as usize)
     }
 
-    /// Before which slot those of a unit from one on are owned, of those before an end.
-    pub fn owned_end(&self, unit: u16, from: u32, end: u32) -> u32
+    /// Before which slot those of a unit from one on are owned, or else clear, of those before an end. No live grant
+    /// uses a clear slot, and its words are 0.
+    pub fn run_end(&self, unit: u16, from: u32, end: u32, owned: bool) -> u32
         requires { (slot : ℕ) → slot < end → IsTrue (has_slot self.now unit slot) }
         ensures onward { from ≤ result }
         ensures most { from ≤ end → result ≤ end }
-        ensures owned { (slot : ℕ) → from ≤ slot → slot < result →
-            IsOwned (use_in self.now unit slot) }
+        ensures run { (slot : ℕ) → from ≤ slot → slot < result →
+            IsInRun owned (slice_get self.now unit) slot }
     {
         if end <= from {
             return from;
         }
         let table = &self.nodes[usize::from(unit)];
-        table.uses.owned_end(from as usize, end as usize) as u32
+        table.run_end(from, end, owned)
     }
 
     /// How many live grants use a slot.

@@ -5,10 +5,10 @@ ghost use Rattle.std.specs.Option.{option_copied};
 ghost use Rattle.dn_base.specs.Terms.{IsCounted, has_word};
 ghost use Rattle.dn_net.specs.declared.node.Unit.{Unit as UnitPart};
 ghost use Rattle.dn_kind.specs.Terms.{AreKinds, IsPackable, Meaning, gate_word, has_shape, is_shaped, kinds_of, record_of_unit, slot_words, unit_shape};
-ghost use Rattle.dn_tables.specs.Terms.{AreWordsWritten, HasSlot, clears_from, fits_by, fresh_by, packed_for, width_by, with_words, writes_from};
+ghost use Rattle.dn_tables.specs.Terms.{AreWordsWritten, HasSlot, IsInRun, clears_from, fits_by, fresh_by, packed_for, width_by, with_words, writes_from};
 
 use crate::uses::Uses;
-use crate::words::SlotWords;
+use crate::words::{SlotWords, are_zero};
 use crate::writes::{Written, clear_all, write_all};
 use dn_base::device::Tables;
 use dn_base::filled::Filled;
@@ -73,6 +73,40 @@ impl NodeTable {
     {
         let first = slot as usize * usize::from(self.width);
         SlotWords::read(&self.words, first, self.width)
+    }
+
+    /// Before which slot those from one on are owned, or else clear, of those before an end.
+    pub(crate) fn run_end(&self, from: u32, end: u32, owned: bool) -> u32
+        requires { (slot : ℕ) → slot < end → HasSlot self.now slot }
+        ensures onward { from ≤ result }
+        ensures most { from ≤ end → result ≤ end }
+        ensures run { (slot : ℕ) → from ≤ slot → slot < result →
+            IsInRun owned (Some self.now) slot }
+    {
+        let mut slot = from;
+        'slots: while slot < end {
+            if !self.is_in_run(slot, owned) {
+                return slot;
+            }
+            slot += 1;
+        }
+        slot
+    }
+
+    /// Whether a slot is owned, or else clear.
+    fn is_in_run(&self, slot: u32, owned: bool) -> bool
+        requires { HasSlot self.now slot }
+        ensures { IsTrue result → IsInRun owned (Some self.now) slot }
+    {
+        let users = self.uses.get(slot as usize);
+        if owned {
+            return users.owner.is_some();
+        }
+        if users.uses != 0 {
+            return false;
+        }
+        let first = slot as usize * usize::from(self.width);
+        are_zero(&self.words, first, self.width)
     }
 
     /// The gate word of a slot: the last of its words, without bit 0 of which it holds no record.

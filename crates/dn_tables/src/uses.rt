@@ -1,7 +1,7 @@
 //! Who uses each slot of a unit.
 
-ghost use Rattle.std.specs.Prelude.{◌≡◌, ◌<◌, ◌≤◌, ◌^◌, ℕ, length, replicate, slice_index_or, slice_set, IfOk, IsSome, IsTrue};
-ghost use Rattle.dn_tables.specs.Terms.{IsOwned, no_use, use_by};
+ghost use Rattle.std.specs.Prelude.{◌≡◌, ◌<◌, ◌^◌, length, replicate, slice_index_or, slice_set, IfOk, IsSome};
+ghost use Rattle.dn_tables.specs.Terms.{no_use, use_by};
 
 use crate::table::SlotUse;
 use dn_base::filled::Filled;
@@ -50,6 +50,7 @@ impl Uses {
         requires { slot < length self.now }
         ensures value { result ≡ slice_index_or self.now slot result }
         ensures few { result.uses < 2 ^ 16 }
+        ensures alone { IsSome result.owner → result.uses ≡ 1 }
     {
         use_by(self.users.get(slot))
     }
@@ -63,30 +64,13 @@ impl Uses {
     {
         self.users.set(slot, users_of(slot_use));
     }
-
-    /// Before which slot those from one on are owned, of those before an end.
-    pub(crate) fn owned_end(&self, from: usize, end: usize) -> usize
-        requires { end ≤ length self.now }
-        ensures onward { from ≤ result }
-        ensures most { from ≤ end → result ≤ end }
-        ensures owned { (slot : ℕ) → from ≤ slot → slot < result →
-            IsOwned (slice_index_or self.now slot no_use) }
-    {
-        let mut slot = from;
-        'slots: while slot < end {
-            if !is_owned(self.users.get(slot)) {
-                return slot;
-            }
-            slot += 1;
-        }
-        slot
-    }
 }
 
 /// The use of a slot with these users.
 fn use_by(users: Users) -> SlotUse
     ensures value { result ≡ use_by users }
     ensures few { result.uses < 2 ^ 16 }
+    ensures alone { IsSome result.owner → result.uses ≡ 1 }
 {
     match users {
         Users::Sharing(uses) => SlotUse {
@@ -109,15 +93,5 @@ fn users_of(slot_use: SlotUse) -> Users
     match slot_use.owner {
         Some(id) => Users::Owner(id),
         None => Users::Sharing(slot_use.uses as u16),
-    }
-}
-
-/// Whether a live grant owns a slot with these users.
-fn is_owned(users: Users) -> bool
-    ensures { IsTrue result → IsOwned (use_by users) }
-{
-    match users {
-        Users::Sharing(_) => false,
-        Users::Owner(_) => true,
     }
 }

@@ -1,6 +1,7 @@
 //! The words of one slot.
 
-ghost use Rattle.std.specs.Prelude.{◌≡◌, ◌+◌, ◌<◌, ◌≤◌, ◌^◌, drop, length, take};
+ghost use Rattle.std.specs.Prelude.{◌≡◌, ◌==◌, ◌+◌, ◌<◌, ◌≤◌, ◌^◌, drop, length, take, IsTrue};
+ghost use Rattle.std.specs.List.{list_all};
 
 use dn_base::filled::Filled;
 use std::marker::Model;
@@ -44,4 +45,19 @@ impl SlotWords {
     {
         &self.words[..usize::from(self.width)]
     }
+}
+
+/// Whether so many of the words of a unit, from the first one of a slot on, are 0.
+pub(crate) fn are_zero(words: &Filled<u64>, first: usize, width: u8) -> bool
+    requires room { first + width ≤ length words.now }
+    requires small { first + width < 2 ^ 32 }
+    ensures { IsTrue result →
+        IsTrue (list_all (λ w. w == 0) (take width (drop first words.now))) }
+{
+    for at in 0..usize::from(width) {
+        if words.get(first + at) != 0 {
+            return false;
+        }
+    }
+    true
 }
