@@ -12,6 +12,7 @@ pub mod Near
 pub mod Nodes
 pub mod Reached
 pub mod Rows
+pub mod Seen
 pub mod Sharing
 pub mod Shown
 pub mod Stretched

@@ -1,5 +1,5 @@
 -- What nodes reach, level by level, and the accepted names to which they come by it.
-use Rattle.std.specs.Prelude.{◌≡◌, ℕ, ◌+◌, ◌<◌, ◌≤◌, ◌↔◌, Bool, true, nat_eq, List, [], length, slice_get, Option, Some, None, IsTrue}
+use Rattle.std.specs.Prelude.{◌≡◌, ℕ, ◌+◌, ◌<◌, ◌≤◌, ◌↔◌, Bool, true, false, ◌||◌, nat_eq, List, [], length, slice_get, slice_index_or, Option, Some, None, IsTrue}
 use Rattle.std.specs.List.{list_all, list_any}
 use Rattle.dn_interval.specs.declared.row.End.{End}
 use Rattle.dn_interval.specs.declared.row.Row.{Row}
@@ -8,14 +8,16 @@ use Rattle.dn_interval.specs.Rows.{ends_within, further_end}
 use Rattle.dn_interval.specs.Strands.{rows_give}
 use Rattle.dn_interval.specs.Onward.{gives_by}
 use Rattle.dn_net.specs.declared.node.NodeDecl.{NodeDecl}
+use Rattle.dn_net.specs.declared.node.Unit.{Unit as UnitPart}
 use Rattle.dn_net.specs.Chain.{ReachesWithin}
-use Rattle.dn_net.specs.Decode.{Step, step_limit}
+use Rattle.dn_net.specs.Decode.{Step, is_agent_at, step_limit, unit_at}
 use Rattle.dn_walk.specs.Ends.{name_of_end}
 use Rattle.dn_flat.specs.declared.crowds.UnitSpan.{UnitSpan}
 use Rattle.dn_flat.specs.declared.levels.Levels.{Levels}
 use Rattle.dn_flat.specs.declared.reach.Reach.{Reach}
+use Rattle.dn_flat.specs.declared.seers.Seers.{Seers}
 use Rattle.dn_flat.specs.Crowds.{AreCrowds, ListAgentStops}
-use Rattle.dn_flat.specs.Onward.{levels_lead}
+use Rattle.dn_flat.specs.Onward.{has_rows, levels_lead}
 use Rattle.dn_flat.specs.Stages.{AreReaches, StageRows}
 use Rattle.dn_flat.specs.Views.{ResolvesFrom, StopsFrom}
 
@@ -55,32 +57,73 @@ pub record AreLevelsBelow (net : List NodeDecl) (node : ℕ) (nodes : List Level
   pub every : length nodes ≡ node
   pub each : (m : ℕ) (levels : Levels) → slice_get nodes m ≡ Some levels → IsLevels net m levels
 
--- what nodes reach, what they come to in one step, and names in units that two addresses of agents reach,
--- or one
+-- the layers of the stops of a node; of one that is not there they are none
+abbrev pub stops_in : Option Levels → List (List Row)
+stops_in None = []
+stops_in (Some levels) = levels.stops
+
+-- the units of the stops of a node; of one that is not there they are none
+abbrev pub units_in : Option Levels → List ℕ
+units_in None = []
+units_in (Some levels) = levels.units
+
+-- the node leads to units
+abbrev pub has_stops : List Levels → ℕ → Bool
+has_stops nodes node = list_any has_rows (stops_in (slice_get nodes node))
+
+-- the unit, if it is one, has a port whose node leads to units
+abbrev pub leads_to_units : List Levels → Option UnitPart → Bool
+leads_to_units nodes None = false
+leads_to_units nodes (Some u) = list_any (has_stops nodes) u.ports
+
+-- the agent is in the list of the unit
+abbrev pub sees : List (List ℕ) → ℕ → ℕ → Bool
+sees by_unit unit agent = is_among agent (slice_index_or by_unit unit [])
+
+-- The agent, which sees names of these units, is in one of the lists for each of them that has one; and where a unit
+-- leads on, it is in the list of the agents that see names of such a unit.
+pub record IsListed (leads : List Bool) (by_unit : List (List ℕ)) (onward : List ℕ) (agent : ℕ)
+    (units : List ℕ) : Type 0 where
+  pub each : (unit : ℕ) → unit < length by_unit → is_among unit units ≡ true →
+      (is_among agent onward || sees by_unit unit agent) ≡ true
+  pub leading : (unit : ℕ) → is_among unit units ≡ true → slice_index_or leads unit false ≡ true →
+      is_among agent onward ≡ true
+
+-- so is each agent below this node, by the units of its stops; and there is a list for each node
+pub record AreListed (net : List NodeDecl) (nodes : List Levels) (node : ℕ) (leads : List Bool)
+    (by_unit : List (List ℕ)) (onward : List ℕ) : Type 0 where
+  pub every : length by_unit ≡ length net
+  pub each : (agent : ℕ) → agent < node → IsTrue (is_agent_at (slice_get net agent)) →
+      IsListed leads by_unit onward agent (units_in (slice_get nodes agent))
+
+-- it is told of each node whether it is a unit that leads to units, and each agent is in the lists
+pub record AreSeers (net : List NodeDecl) (nodes : List Levels) (seers : Seers) : Type 0 where
+  pub leads : (n : ℕ) → slice_index_or seers.leads n false ≡ leads_to_units nodes (unit_at net n)
+  pub listed : AreListed net nodes (length net) seers.leads seers.by_unit seers.onward
+
+-- what nodes reach, what they come to in one step, names in units that two addresses of agents reach,
+-- or one, and which agents see names of which units
 pub record FlatsView : Type 0 where
   pub nodes : List Levels
   pub stage : StageRows
   pub crowds : List UnitSpan
   pub agent_stops : List UnitSpan
+  pub seers : Seers
 
 -- it is what the nodes of the net reach, and what they come to, and two addresses of agents reach the names,
--- or one does
+-- or one does, and the agents are those that see names of the units
 pub record AreFlats (net : List NodeDecl) (flats : FlatsView) : Type 0 where
   pub every : length flats.nodes ≡ length net
   pub each : (node : ℕ) (levels : Levels) → slice_get flats.nodes node ≡ Some levels → IsLevels net node levels
   pub steps : AreReaches net 1 flats.stage.nodes
   pub crowded : AreCrowds net flats.crowds
   pub stopped : ListAgentStops net flats.agent_stops
+  pub seers : AreSeers net flats.nodes flats.seers
 
 -- the levels of what a node reaches; of one that is not there they are none
 abbrev pub reached_of : Option Levels → List (List Row)
 reached_of None = []
 reached_of (Some levels) = levels.reached
-
--- the layers of the stops of a node; of one that is not there they are none
-abbrev pub stops_in : Option Levels → List (List Row)
-stops_in None = []
-stops_in (Some levels) = levels.stops
 
 -- a name that one of the levels gives to the address goes on to the accepted name, by what its node accepts
 abbrev pub levels_show : List Reach → List (List Row) → ℕ → End → Bool

@@ -1,6 +1,6 @@
 //! Names in units that addresses of agents reach: what a slot leads to there is seen from each of them.
 
-ghost use Rattle.std.specs.Prelude.{◌≡◌, ℕ, ◌+◌, ◌<◌, ◌≤◌, ◌&&◌, nat_eq, nat_le, true, false, List, length, slice_get, IfOk, IfSome, OnOk, IsTrue};
+ghost use Rattle.std.specs.Prelude.{◌≡◌, ℕ, ◌+◌, ◌<◌, ◌≤◌, ◌&&◌, nat_eq, nat_le, true, List, length, slice_get, IfOk, IfSome, OnOk, IsTrue};
 ghost use Rattle.dn_interval.specs.declared.row.End.{End};
 ghost use Rattle.dn_interval.specs.Terms.{segs_give};
 ghost use Rattle.dn_net.specs.declared.node.NodeDecl.{NodeDecl};
@@ -67,7 +67,7 @@ fn add_ways(
 }
 
 /// Whether a node is an agent.
-fn is_agent(net: &Net, node: u16) -> bool
+pub(crate) fn is_agent(net: &Net, node: u16) -> bool
     requires { node < length net.now }
     ensures { result ≡ is_agent_at (slice_get net.now node) }
 {

@@ -14,6 +14,7 @@ ghost use Rattle.dn_flat.specs.Terms.{AreAgentStops, AreCrowded, AreFlats, AreLe
 use crate::crowds::{UnitSpan, agent_stops, crowds_between, span_among, ways_of};
 use crate::found::whole;
 use crate::levels::{Levels, push_given, push_shown, shown_segs};
+use crate::seers::{Seers, seers_of};
 use crate::shared::Shared;
 use crate::stage::Stage;
 use crate::stretches::{Buffer, alone_segs, led_stretches, near_segs};
@@ -34,6 +35,7 @@ pub struct Flats {
     crowds: Vec<UnitSpan>,
     /// Names in units that an address of an agent reaches.
     agent_stops: Vec<UnitSpan>,
+    seers: Seers,
 }
 
 impl Model for Flats {
@@ -46,6 +48,7 @@ impl Model for Flats {
       stage = s.stage;
       crowds = s.crowds.items;
       agent_stops = s.agent_stops.items;
+      seers = s.seers;
     } };
 }
 
@@ -67,6 +70,13 @@ impl Flats {
             → IsFlat net node flat → IsFlat net other flat }
     {
         self.nodes.is_shared(node, other)
+    }
+
+    /// Which agents see names of which units.
+    pub fn seers(&self) -> &Seers
+        ensures { result.now ≡ self.now.seers }
+    {
+        &self.seers
     }
 
     /// Names of a unit, one after another, that two addresses of agents reach, of which some are among so many names
@@ -196,11 +206,13 @@ pub fn flatten_all(alloc: Global, net: &Net, walks: &WalkTable) -> Result<Flats,
     let ways = ways_of(alloc, net, &nodes)?;
     let crowds = crowds_between(alloc, &ways)?;
     let agent_stops = agent_stops(alloc, &ways)?;
+    let seers = seers_of(alloc, net, &nodes)?;
     Ok(Flats {
         nodes,
         stage,
         crowds,
         agent_stops,
+        seers,
     })
 }
 

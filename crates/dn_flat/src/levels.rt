@@ -1,11 +1,12 @@
 //! What a node reaches, level by level.
 
 ghost use Rattle.std.specs.Prelude.{◌≡◌, ℕ, ◌+◌, ◌-◌, ◌<◌, ◌≤◌, ◌&&◌, ◌||◌, ◌↔◌, length, IfOk, OnOk, IsTrue};
+ghost use Rattle.std.specs.List.{list_any};
 ghost use Rattle.dn_interval.specs.declared.row.End.{End};
 ghost use Rattle.dn_interval.specs.declared.span.TheConstants.{TOP};
 ghost use Rattle.dn_interval.specs.Terms.{in_span, rows_go, segs_give};
 ghost use Rattle.dn_net.specs.Terms.{KeepsNodeRules};
-ghost use Rattle.dn_flat.specs.Terms.{AreLevels, AreReaches, StopsFrom, leads_by, levels_give, levels_show, segs_lead};
+ghost use Rattle.dn_flat.specs.Terms.{AreLevels, AreReaches, StopsFrom, has_rows, leads_by, levels_give, levels_show, segs_lead};
 ghost use Rattle.dn_flat.specs.declared.found.Continuation.TheVariants.{Accepts, Goes, Stays};
 
 use crate::found::{Continuation, levels_segs, push_segs, whole};
@@ -28,6 +29,22 @@ pub struct Levels {
     pub stops: Items<Rows>,
     /// The units of these names.
     pub units: Items<u16>,
+}
+
+impl Levels {
+    /// Whether one of the addresses reaches a name in a unit.
+    pub fn has_stops(&self) -> bool
+        ensures { result ≡ list_any has_rows self.now.stops }
+    {
+        self.stops.as_slice().iter().any(|rows| has_rows(rows))
+    }
+}
+
+/// Whether there is a row.
+fn has_rows(rows: &Rows) -> bool
+    ensures { result ≡ has_rows rows.now }
+{
+    !rows.rows().is_empty()
 }
 
 /// What the addresses of a node reach, where the names in units are as they were found.

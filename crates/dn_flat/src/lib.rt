@@ -13,6 +13,7 @@ pub mod laws;
 mod layers;
 pub mod levels;
 mod reach;
+pub mod seers;
 mod shared;
 pub mod stage;
 mod stretches;

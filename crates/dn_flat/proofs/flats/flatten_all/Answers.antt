@@ -28,4 +28,5 @@ returns c =
       steps = subst (λ k. AreReaches c.args.net.now k stage.nodes) c.in_ok-stage.ensures.steps c.in_ok-stage.ensures.stage;
       crowded = c.in_ok-crowds.ensures c.args.net.now (ways c.deref.result.now c.deref.ensures.value);
       stopped = c.in_ok-agent_stops.ensures c.args.net.now (ways c.deref-2.result.now c.deref-2.ensures.value);
+      seers = c.in_ok-seers.ensures;
     }
