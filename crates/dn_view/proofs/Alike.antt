@@ -1,11 +1,9 @@
 -- Where each added record has both rights, and no unit to which a node leads goes on to units, the node shows newly for each
 -- access the same.
-use Rattle.std.proofs.Common.{◌≡◌, ℕ, suc, ◌/◌, ◌^◌, ◌<◌, ◌≤◌, inl, inr, Bool, true, false, if◌then◌else◌, ◌&&◌, nat_eq, List, [], ◌∷◌, length, slice_get, Option, Some, None, IsTrue, refl, sym, ap, ◌∙◌, subst}
+use Rattle.std.proofs.Common.{◌≡◌, ℕ, suc, ◌/◌, ◌^◌, ◌<◌, inl, inr, Bool, true, false, if◌then◌else◌, ◌&&◌, nat_eq, List, [], ◌∷◌, length, slice_get, Option, Some, None, IsTrue, refl, sym, ap, ◌∙◌, subst}
 use Rattle.std.specs.List.{list_any}
 use Rattle.std.proofs.lemmas.Option.{same_Some}
-use Rattle.dn_interval.specs.declared.row.End.{End}
 use Rattle.dn_interval.specs.declared.row.Row.{Row}
-use Rattle.dn_interval.specs.declared.span.TheConstants.{TOP}
 use Rattle.dn_net.specs.declared.node.Name.{Name}
 use Rattle.dn_net.specs.declared.node.NodeDecl.{NodeDecl}
 use Rattle.dn_net.specs.declared.node.Unit.{Unit as UnitPart}
@@ -18,7 +16,7 @@ use Rattle.dn_kind.specs.declared.unit_kind.Record.{Record}
 use Rattle.dn_kind.specs.Rights.{allows, both_rights}
 use Rattle.dn_kind.specs.Tables.{Held, allowing, output, record_allowing}
 use Rattle.dn_kind.proofs.Allowed.{both_allow}
-use Rattle.dn_flat.specs.Levels.{AreFlats, FlatsView, levels_give}
+use Rattle.dn_flat.specs.Levels.{AreFlats, FlatsView, leads_to_units, levels_give, units_in}
 use Rattle.dn_tables.specs.declared.placement.Hop.{Hop}
 use Rattle.dn_tables.specs.Placement.{Place}
 use Rattle.dn_placement.specs.declared.request.Request.{Request}
@@ -28,9 +26,9 @@ use Rattle.dn_view.specs.Exact.{IsAdded, IsAsked, IsExactAt}
 use Rattle.dn_view.specs.Passes.{outputs, outputs_by, stops_of}
 use Rattle.dn_view.specs.Records.{fresh_record, fresh_records}
 use Rattle.dn_view.specs.Through.{ComesNewly}
-use Rattle.dn_view.specs.Untouched.{leads_on, leads_to_units, units_in}
-use Rattle.dn_view.proofs.Unmet.{listed, no_stop_after, unlisted}
-use Rattle.dn_view.proofs.Viewed.{node_stops}
+use Rattle.dn_view.specs.Untouched.{leads_on}
+use Rattle.dn_view.proofs.Unmet.{no_stop_after, unlisted}
+use Rattle.dn_view.proofs.Viewed.{node_stops, unit_listed}
 use Rattle.dn_view.proofs.Ways.{resolves_fixed}
 
 -- a hop that puts records with both rights puts no other
@@ -91,7 +89,7 @@ module _ (net : List NodeDecl) (legal : IsLegalNet net) (flats : FlatsView) (are
       by (Some u) n = subst (λ o. Member w (output u o t.addr)) (same_fresh a b t.node (t.addr / 2 ^ u.page)) n
 
   -- what goes on to no units comes newly to the same for each access
-  comes_alike : (a b : Access) (t z : Name) → leads_to_units flats (unit_at net t.node) ≡ false → ComesNewly net (allowing a h) (fresh a) (joined a) t z → ComesNewly net (allowing b h) (fresh b) (joined b) t z
+  comes_alike : (a b : Access) (t z : Name) → leads_to_units flats.nodes (unit_at net t.node) ≡ false → ComesNewly net (allowing a h) (fresh a) (joined a) t z → ComesNewly net (allowing b h) (fresh b) (joined b) t z
   unfolding ComesNewly
   comes_alike a b t z none (inr k) = absurd (no_stop_after net legal flats are rq p a h (allowing a h) t k.0 k.2.0 none k.1 k.2.1)
   comes_alike a b t z none (inl k) =
@@ -109,7 +107,7 @@ module _ (net : List NodeDecl) (legal : IsLegalNet net) (flats : FlatsView) (are
       turned c d k =
           let layers : List (List Row) = stops_of flats node in
           let given : levels_give layers addr (end_of k.0) ≡ true = (node_stops net flats are node l (levels_give layers addr (end_of k.0)) addr (end_of k.0) low refl).1 k.1 in
-          (k.0, k.1, comes_alike c d k.0 (name_of_end z) (unlisted (leads_on net flats) (units_in (slice_get flats.nodes node)) k.0.node none (listed net legal flats are rq p c h node l addr (end_of k.0) low given)) k.2)
+          (k.0, k.1, comes_alike c d k.0 (name_of_end z) (unlisted (leads_on net flats) (units_in (slice_get flats.nodes node)) k.0.node none (unit_listed net flats are node l addr (end_of k.0) low given)) k.2)
 
       asked : (c d : Access) → IsAsked rq p.v c x (name_of_end z) → IsAsked rq p.v d x (name_of_end z)
       asked c d k = (subst (λ q. IsTrue (allows q d)) (sym both) (both_allow d), k.1)

@@ -2,6 +2,7 @@ pub mod Added
 pub mod Agents
 pub mod Alike
 pub mod Alone
+pub mod Asking
 pub mod Buffers
 pub mod Courses
 pub mod Cuts

@@ -1,6 +1,6 @@
 -- A node from which no hop can be met shows nothing newly.
-use Rattle.std.proofs.Common.{◌≡◌, ℕ, zero, suc, ◌+◌, ◌*◌, ◌/◌, ◌%◌, ◌^◌, ◌<◌, ◌≤◌, inl, inr, Bool, true, false, if◌then◌else◌, ◌&&◌, nat_eq, nat_lt, List, [], ◌∷◌, length, slice_get, Option, Some, None, IsTrue, refl, sym, ap, ◌∙◌, subst, eqb-true, ltb-true}
-use Rattle.std.specs.List.{list_any, list_all}
+use Rattle.std.proofs.Common.{◌≡◌, ℕ, zero, suc, ◌+◌, ◌*◌, ◌/◌, ◌%◌, ◌^◌, ◌<◌, ◌≤◌, inl, inr, Bool, true, false, if◌then◌else◌, ◌&&◌, nat_eq, nat_lt, List, [], ◌∷◌, length, slice_get, Option, Some, None, refl, sym, ap, ◌∙◌, subst, eqb-true, ltb-true}
+use Rattle.std.specs.List.{list_any}
 use Rattle.std.proofs.lemmas.Bool.{false≢true}
 use Rattle.dn_base.proofs.Lists.{list_all-at}
 use Rattle.dn_base.proofs.Booleans.{or_parts}
@@ -21,9 +21,7 @@ use Rattle.dn_kind.specs.declared.rights.Rights.{Rights}
 use Rattle.dn_kind.specs.declared.unit_kind.Record.{Record}
 use Rattle.dn_kind.specs.Rights.{allows}
 use Rattle.dn_kind.specs.Tables.{Held, allowing, name_at_port, output, record_allowing}
-use Rattle.dn_flat.specs.declared.levels.Levels.{Levels}
-use Rattle.dn_flat.specs.Levels.{AreFlats, FlatsView, is_among, levels_give, stops_in}
-use Rattle.dn_flat.proofs.Shown.{levels_there}
+use Rattle.dn_flat.specs.Levels.{AreFlats, FlatsView, is_among, leads_to_units, levels_give, units_in}
 use Rattle.dn_flat.proofs.Reached.{some_rows}
 use Rattle.dn_tables.specs.declared.placement.Hop.{Hop}
 use Rattle.dn_tables.specs.Placement.{Place}
@@ -35,12 +33,12 @@ use Rattle.dn_view.specs.Exact.{IsAdded, IsExactAt}
 use Rattle.dn_view.specs.Passes.{outputs, outputs_by, stops_of}
 use Rattle.dn_view.specs.Records.{fresh_record, fresh_records}
 use Rattle.dn_view.specs.Through.{ComesNewly, Newly}
-use Rattle.dn_view.specs.Untouched.{can_meet, comes_on, has_hop, leads_to_hops, leads_to_units, units_in}
+use Rattle.dn_view.specs.Untouched.{can_meet, comes_on, has_hop, leads_to_hops}
 use Rattle.dn_view.proofs.Added.{not_asked}
 use Rattle.dn_view.proofs.Buffers.{exact_none}
 use Rattle.dn_view.proofs.Cuts.{none_at}
 use Rattle.dn_view.proofs.Exposed.{stop_low}
-use Rattle.dn_view.proofs.Viewed.{node_stops}
+use Rattle.dn_view.proofs.Viewed.{node_stops, unit_listed}
 
 -- in a node in which no hop stands the hops have no record
 unplaced : (net : List NodeDecl) (size : ℕ) (rights : Rights) (own place : ℕ) (hops : List Hop) (node slot : ℕ) → has_hop hops node ≡ false → hops_records net size rights own place hops node slot ≡ None
@@ -95,10 +93,10 @@ module _ (net : List NodeDecl) (legal : IsLegalNet net) (flats : FlatsView) (are
   stop_given w v l st = (node_stops net flats are w.node l (levels_give (stops_of flats w.node) w.addr (end_of v)) w.addr (end_of v) (stop_low net w v st) refl).1 st
 
   -- what a name is sent to in a unit that leads on to no units has no stop
-  pub no_stop_after : (g : Held) (t w v : Name) → leads_to_units flats (unit_at net t.node) ≡ false → Member w (outputs net g t) → StopsAt net w v → ⊥
+  pub no_stop_after : (g : Held) (t w v : Name) → leads_to_units flats.nodes (unit_at net t.node) ≡ false → Member w (outputs net g t) → StopsAt net w v → ⊥
   no_stop_after g t w v none m st = by (unit_at net t.node) refl none m
     where
-      by : (o : Option UnitPart) → unit_at net t.node ≡ o → leads_to_units flats o ≡ false → Member w (outputs_by g t o) → ⊥
+      by : (o : Option UnitPart) → unit_at net t.node ≡ o → leads_to_units flats.nodes o ≡ false → Member w (outputs_by g t o) → ⊥
       by None e f m = absurd m
       by (Some u) e f m =
           let at = by_port g t w u m in
@@ -106,7 +104,7 @@ module _ (net : List NodeDecl) (legal : IsLegalNet net) (flats : FlatsView) (are
           absurd (false≢true (sym (none_at (λ port. list_any has_rows (stops_of flats port)) u.ports at.0 w.node f at.1) ∙ layer_given (stops_of flats w.node) w.addr (end_of v) given))
 
   -- what goes on to no units comes to a name newly by the record of its own slot
-  own_slot : (n : ℕ) (t z : Name) → leads_to_units flats (unit_at net t.node) ≡ false → Newly net (allowing access h) fresh joined n t z → (w : Name) × Member w (outputs_by fresh t (unit_at net t.node))
+  own_slot : (n : ℕ) (t z : Name) → leads_to_units flats.nodes (unit_at net t.node) ≡ false → Newly net (allowing access h) fresh joined n t z → (w : Name) × Member w (outputs_by fresh t (unit_at net t.node))
   own_slot zero t z none k = absurd k
   own_slot (suc n) t z none k = by k
     where
@@ -114,7 +112,7 @@ module _ (net : List NodeDecl) (legal : IsLegalNet net) (flats : FlatsView) (are
       by (inl m) = (m.0, m.1)
       by (inr m) = absurd (no_stop_after (allowing access h) t m.0 m.2.0 none m.1 m.2.1)
 
-  pub by_own_slot : (t z : Name) → leads_to_units flats (unit_at net t.node) ≡ false → ComesNewly net (allowing access h) fresh (allowing access (joined_records h added)) t z → (w : Name) × Member w (outputs_by fresh t (unit_at net t.node))
+  pub by_own_slot : (t z : Name) → leads_to_units flats.nodes (unit_at net t.node) ≡ false → ComesNewly net (allowing access h) fresh (allowing access (joined_records h added)) t z → (w : Name) × Member w (outputs_by fresh t (unit_at net t.node))
   unfolding ComesNewly
   by_own_slot t z none k = own_slot 3 t z none k
 
@@ -122,8 +120,8 @@ module _ (net : List NodeDecl) (legal : IsLegalNet net) (flats : FlatsView) (are
   not_newly : (n : ℕ) (t z : Name) → can_meet net flats p.hops t.node ≡ false → Newly net (allowing access h) fresh joined n t z → ⊥
   not_newly n t z none k = let m = own_slot n t z parts.1 k in not_fresh m.0 (unit_at net t.node) m.1
     where
-      parts : (has_hop p.hops t.node ≡ false) × (leads_to_units flats (unit_at net t.node) ≡ false)
-      parts = or_parts (has_hop p.hops t.node) (leads_to_units flats (unit_at net t.node)) none
+      parts : (has_hop p.hops t.node ≡ false) × (leads_to_units flats.nodes (unit_at net t.node) ≡ false)
+      parts = or_parts (has_hop p.hops t.node) (leads_to_units flats.nodes (unit_at net t.node)) none
 
       empty : (slot : ℕ) → fresh t.node slot ≡ None
       empty slot = ap (λ o. record_allowing access (fresh_record (h t.node slot) o)) (unplaced net rq.size rq.rights p.own 0 p.hops t.node slot parts.0) ∙ no_record (h t.node slot)
@@ -135,12 +133,6 @@ module _ (net : List NodeDecl) (legal : IsLegalNet net) (flats : FlatsView) (are
       not_fresh : (w : Name) (o : Option UnitPart) → Member w (outputs_by fresh t o) → ⊥
       not_fresh w None m = absurd m
       not_fresh w (Some u) m = absurd (subst (λ o. Member w (output u o t.addr)) (empty (t.addr / 2 ^ u.page)) m)
-
-  -- the units of a node's stops are listed
-  pub listed : (node : ℕ) → node < length flats.nodes → (a : ℕ) (z : End) → a ≤ TOP → levels_give (stops_of flats node) a z ≡ true → is_among z.node (units_in (slice_get flats.nodes node)) ≡ true
-  listed node l a z low given =
-      let t = levels_there net flats are node (subst (λ n. node < n) are.every l) in
-      subst (λ (o : Option Levels). is_among z.node (units_in o) ≡ true) (sym t.1) ((are.each node t.0 t.1).units a z low (ap (λ (o : Option Levels). levels_give (stops_in o) a z) (sym t.1) ∙ given))
 
   never_newly : (t z : Name) → can_meet net flats p.hops t.node ≡ false → ComesNewly net (allowing access h) fresh (allowing access (joined_records h added)) t z → ⊥
   unfolding ComesNewly
@@ -157,7 +149,7 @@ module _ (net : List NodeDecl) (legal : IsLegalNet net) (flats : FlatsView) (are
           let there : k.0.node < length flats.nodes = port_there s u at.0 k.0.node e at.1 in
           let given = stop_given k.0 k.2.0 there k.2.1 in
           let unmet : list_any (can_meet net flats p.hops) (units_in (slice_get flats.nodes k.0.node)) ≡ false = none_at (leads_to_hops net flats p.hops) u.ports at.0 k.0.node f at.1 in
-          not_newly n k.2.0 z (unlisted (can_meet net flats p.hops) (units_in (slice_get flats.nodes k.0.node)) k.2.0.node unmet (listed k.0.node there k.0.addr (end_of k.2.0) (stop_low net k.0 k.2.0 k.2.1) given)) k.2.2
+          not_newly n k.2.0 z (unlisted (can_meet net flats p.hops) (units_in (slice_get flats.nodes k.0.node)) k.2.0.node unmet (unit_listed net flats are k.0.node there k.0.addr (end_of k.2.0) (stop_low net k.0 k.2.0 k.2.1) given)) k.2.2
 
   -- so of the names that come to a hop through a first record each is kept
   pub kept_onward : (n : ℕ) (s z : Name) (kept : Bool) → (comes_on net flats p.hops (unit_at net s.node) ≡ true → kept ≡ true) → ((w : Name) × Member w (outputs net (allowing access h) s) × ((t : Name) × StopsAt net w t × Newly net (allowing access h) fresh joined n t z)) → kept ≡ true
@@ -175,4 +167,4 @@ module _ (net : List NodeDecl) (legal : IsLegalNet net) (flats : FlatsView) (are
       never a z low k =
           let layers : List (List Row) = stops_of flats node in
           let given : levels_give layers a (end_of k.0) ≡ true = (node_stops net flats are node l (levels_give layers a (end_of k.0)) a (end_of k.0) low refl).1 k.1 in
-          never_newly k.0 (name_of_end z) (unlisted (can_meet net flats p.hops) (units_in (slice_get flats.nodes node)) k.0.node none (listed node l a (end_of k.0) low given)) k.2
+          never_newly k.0 (name_of_end z) (unlisted (can_meet net flats p.hops) (units_in (slice_get flats.nodes node)) k.0.node none (unit_listed net flats are node l a (end_of k.0) low given)) k.2

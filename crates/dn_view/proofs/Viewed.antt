@@ -1,5 +1,5 @@
 -- What the segments of a node show.
-use Rattle.std.proofs.Common.{◌≡◌, ℕ, ◌-◌, ◌<◌, ◌≤◌, ◌==◌, ◌⊎◌, ◌↔◌, inl, inr, Bool, true, false, List, [], ◌∷◌, map, IsTrue, refl, sym, subst, arith, ◌∙◌, length}
+use Rattle.std.proofs.Common.{◌≡◌, ℕ, ◌-◌, ◌<◌, ◌≤◌, ◌==◌, ◌⊎◌, ◌↔◌, inl, inr, Bool, true, false, List, [], ◌∷◌, map, slice_get, Option, IsTrue, refl, sym, ap, subst, arith, ◌∙◌, length}
 use Rattle.dn_interval.specs.declared.row.End.{End}
 use Rattle.dn_interval.specs.declared.row.Row.{Row}
 use Rattle.dn_interval.specs.declared.row.Seg.{Seg}
@@ -14,10 +14,11 @@ use Rattle.dn_net.specs.Legal.{IsLegalNet}
 use Rattle.dn_kind.specs.Tables.{Held, AreHeld}
 use Rattle.dn_walk.specs.Ends.{end_of, name_of_end}
 use Rattle.dn_flat.specs.declared.flat.Flat.{Flat}
-use Rattle.dn_flat.specs.Levels.{AreFlats, FlatsView, levels_give, shows}
+use Rattle.dn_flat.specs.declared.levels.Levels.{Levels}
+use Rattle.dn_flat.specs.Levels.{AreFlats, FlatsView, is_among, levels_give, shows, stops_in, units_in}
 use Rattle.dn_flat.specs.Stages.{IsFlat}
 use Rattle.dn_flat.specs.Views.{StopsFrom}
-use Rattle.dn_flat.proofs.Shown.{shows_is}
+use Rattle.dn_flat.proofs.Shown.{levels_there, shows_is}
 use Rattle.dn_flat.proofs.Sums.{normal_of}
 use Rattle.dn_flat.proofs.There.{accepted_is_there, names_are_there}
 use Rattle.dn_view.specs.Passes.{stops_of}
@@ -36,6 +37,12 @@ pub node_stops : (net : List NodeDecl) (flats : FlatsView) → AreFlats net flat
 node_stops net flats are node l gives a z low e =
     let is = stops_given net flats are node (subst (λ n. node < n) are.every l) a z low in
     ((λ g. is.0 (sym e ∙ g)), (λ h. e ∙ is.1 h))
+
+-- the units of a node's stops are listed
+pub unit_listed : (net : List NodeDecl) (flats : FlatsView) → AreFlats net flats → (node : ℕ) → node < length flats.nodes → (a : ℕ) (z : End) → a ≤ TOP → levels_give (stops_of flats node) a z ≡ true → is_among z.node (units_in (slice_get flats.nodes node)) ≡ true
+unit_listed net flats are node l a z low given =
+    let t = levels_there net flats are node (subst (λ n. node < n) are.every l) in
+    subst (λ (o : Option Levels). is_among z.node (units_in o) ≡ true) (sym t.1) ((are.each node t.0 t.1).units a z low (ap (λ (o : Option Levels). levels_give (stops_in o) a z) (sym t.1) ∙ given))
 
 -- what is shown of an address of a node under records is what it resolves to
 pub seen_at : (net : List NodeDecl) → IsLegalNet net → (h : Held) → AreHeld net h → (flats : FlatsView) → AreFlats net flats → (node : ℕ) → node < length flats.nodes → (a : ℕ) → a ≤ TOP → (accepts stops shown : End → Bool)

@@ -8,6 +8,6 @@ pub use Rattle.dn_view.specs.Passes.{IsRun, in_slot, names_go, outputs, part_giv
 pub use Rattle.dn_view.specs.Records.{AreFitted, HoldsBelow, IsFitted, IsFitting, fresh_record, records_taken}
 pub use Rattle.dn_view.specs.Systems.{AreSystemTables, IsSystem}
 pub use Rattle.dn_view.specs.Through.{ComesThrough}
-pub use Rattle.dn_view.specs.Trials.{AreExactIn, ComesIn, IsExactIn, IsPassedIn, IsTrial, reading}
-pub use Rattle.dn_view.specs.Untouched.{can_meet, comes_on, has_hop, leads_on, leads_to_hops, leads_to_units}
+pub use Rattle.dn_view.specs.Trials.{AreExactAmong, AreExactIn, ComesIn, IsExactIn, IsPassedIn, IsTrial, reading}
+pub use Rattle.dn_view.specs.Untouched.{can_meet, comes_on, has_hop, leads_on, leads_to_hops}
 pub use Rattle.dn_view.specs.Views.{AreViewed, ReachesUnit, ResolvesFromUnder}

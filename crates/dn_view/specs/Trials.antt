@@ -1,11 +1,13 @@
 -- Trials: a placement that is tried for an access.
-use Rattle.std.specs.Prelude.{ℕ, ◌+◌, ◌≤◌}
+use Rattle.std.specs.Prelude.{◌≡◌, ℕ, ◌+◌, ◌≤◌, true, List, slice_get, IsTrue}
 use Rattle.dn_interval.specs.declared.span.TheConstants.{TOP}
 use Rattle.dn_net.specs.declared.node.Name.{Name}
+use Rattle.dn_net.specs.Decode.{is_agent_at}
 use Rattle.dn_kind.specs.Kind.{Meaning}
 use Rattle.dn_kind.specs.Kinded.{kinds_of}
 use Rattle.dn_kind.specs.declared.rights.Access.TheVariants.{Read}
 use Rattle.dn_kind.specs.Tables.{Held}
+use Rattle.dn_flat.specs.Levels.{is_among}
 use Rattle.dn_tables.specs.Set.{FitsNet, record_kept}
 use Rattle.dn_view.specs.declared.course.Course.{Course}
 use Rattle.dn_view.specs.declared.records.Records.{Records}
@@ -57,6 +59,11 @@ reading trial = record {
 abbrev pub AreExactIn : {K : Type 0} {V : K → Type 0} → ((k : K) × V k → Meaning) → Trial K V → Type 0
 AreExactIn means trial =
     AreExact trial.system.on.net.now (trial_records means trial) trial.request.now trial.placement.now trial.access
+
+-- so do those of each of these nodes that is an agent
+abbrev pub AreExactAmong : {K : Type 0} {V : K → Type 0} → ((k : K) × V k → Meaning) → Trial K V → List ℕ → Type 0
+AreExactAmong means trial nodes = (node : ℕ) → is_among node nodes ≡ true →
+    IsTrue (is_agent_at (slice_get trial.system.on.net.now node)) → IsExactIn means trial node
 
 -- the records of the tables of a trial that allow its access
 abbrev pub kept_in : {K : Type 0} {V : K → Type 0} → ((k : K) × V k → Meaning) → Trial K V → Held

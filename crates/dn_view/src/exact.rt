@@ -10,7 +10,7 @@ ghost use Rattle.dn_kind.specs.Terms.{allows, are_rights, kinds_of};
 ghost use Rattle.dn_tables.specs.Terms.{FitsNet, record_kept};
 ghost use Rattle.dn_placement.specs.Terms.{IsAdmissible, IsPlacement, slots_of_set};
 ghost use Rattle.dn_walk.specs.Terms.{name_of_end};
-ghost use Rattle.dn_view.specs.Terms.{AreExactIn, ComesIn, IsAskedAt, IsExactIn, IsPassedIn, IsSystem, IsTrial, are_buffer, is_buffer_end, is_buffer_row, is_part_of_buffer, reading};
+ghost use Rattle.dn_view.specs.Terms.{AreExactAmong, AreExactIn, ComesIn, IsAskedAt, IsExactIn, IsPassedIn, IsSystem, IsTrial, are_buffer, is_buffer_end, is_buffer_row, is_part_of_buffer, reading};
 
 use crate::OutOfMemory;
 use crate::course::Course;
@@ -22,7 +22,7 @@ use crate::records::Records;
 use crate::shown::{UNITS, passed_stops, push_through};
 use crate::system::System;
 use crate::trial::Trial;
-use crate::untouched::{is_alike, is_untouched};
+use crate::untouched::is_alike;
 use dn_interval::{End, Row, Rows, Seg};
 use dn_kind::rights::Access;
 use dn_placement::request::Request;
@@ -68,22 +68,47 @@ pub fn exact<'a>(
     exact_for(alloc, Trial { access, ..trial }, true)
 }
 
-/// Whether every agent shows newly in a trial exactly what is asked for. The request's agent is looked
-/// at first, since most placements that show more show it there. It may be known that every agent does so for
-/// reading: then those are passed over that show the same for writing.
+/// Whether every agent shows newly in a trial exactly what is asked for. The request's agent is looked at first, since
+/// most placements that show more show it there. Of the others those are asked alone that see names of a unit of a hop,
+/// or of a unit that leads on: no other can come to a hop, so it shows nothing newly, whatever the tables hold. It may
+/// be known that every agent does so for reading: then those are passed over that show the same for writing.
 fn exact_for(alloc: Global, trial: Trial, is_read: bool) -> Result<bool, OutOfMemory>
     requires trial { IsTrial meaning trial }
     requires reading { IsTrue is_read → AreExactIn meaning (reading trial) }
     ensures { IfOk result (λ is_exact. IsTrue is_exact ↔ AreExactIn meaning trial.entry) }
 {
-    let own = trial.request.agent;
-    let first = exact_at(alloc, trial, own, is_read)?;
-    if !first {
+    let own = exact_at(alloc, trial, trial.request.agent, is_read)?;
+    if !own {
         return Ok(false);
     }
-    for node in 0..trial.system.on.net.nodes() {
-        if node != own {
-            let other = exact_at(alloc, trial, node, is_read)?;
+    let seers = trial.system.flats.seers();
+    let onward = are_exact(alloc, trial, seers.onward(), is_read)?;
+    if !onward {
+        return Ok(false);
+    }
+    let hops = trial.placement.hops();
+    for hop in hops {
+        let seen = are_exact(alloc, trial, seers.of(hop.unit), is_read)?;
+        if !seen {
+            return Ok(false);
+        }
+    }
+    Ok(true)
+}
+
+/// Whether each of these nodes is no agent, or shows newly in a trial exactly what is asked for. It is known that the
+/// request's agent does so, and it may be known that every agent does so for reading.
+fn are_exact(alloc: Global, trial: Trial, nodes: &[u16], is_read: bool) -> Result<bool, OutOfMemory>
+    requires trial { IsTrial meaning trial }
+    requires reading { IsTrue is_read → AreExactIn meaning (reading trial) }
+    requires own { IsTrue (is_agent_at (slice_get trial.system.on.net.now
+        trial.request.now.agent)) → IsExactIn meaning trial trial.request.now.agent }
+    ensures { IfOk result (λ are. IsTrue are ↔ AreExactAmong meaning trial.entry nodes.now) }
+{
+    let own = trial.request.agent;
+    for node in nodes {
+        if *node != own {
+            let other = exact_at(alloc, trial, *node, is_read)?;
             if !other {
                 return Ok(false);
             }
@@ -104,9 +129,6 @@ fn exact_at(alloc: Global, trial: Trial, node: u16, is_read: bool) -> Result<boo
     if !is_agent(trial.system.on.net, node) {
         return Ok(true);
     }
-    if is_untouched(trial, node) {
-        return Ok(true);
-    }
     if is_read {
         if is_alike(trial, node) {
             return Ok(true);
@@ -122,7 +144,7 @@ fn exact_at(alloc: Global, trial: Trial, node: u16, is_read: bool) -> Result<boo
 }
 
 /// Whether a request asks for something at a node, for an access.
-pub(crate) fn is_asked(request: &Request, node: u16, access: Access) -> bool
+fn is_asked(request: &Request, node: u16, access: Access) -> bool
     ensures { result ≡ (nat_eq node request.now.agent && allows request.now.rights access) }
 {
     node == request.agent && request.rights.allows(access)

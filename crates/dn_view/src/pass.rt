@@ -7,8 +7,8 @@ ghost use Rattle.dn_interval.specs.declared.row.End.{End};
 ghost use Rattle.dn_interval.specs.Terms.{in_span, segs_give};
 ghost use Rattle.dn_net.specs.Terms.{unit_at};
 ghost use Rattle.dn_kind.specs.Terms.{is_plain_unit_shape, is_within, unit_shape};
-ghost use Rattle.dn_flat.specs.Terms.{has_rows, seg_leads};
-ghost use Rattle.dn_view.specs.Terms.{IsCourse, IsRun, course_records, in_slot, names_go, outputs, part_gives, part_leads, run_leads, seg_name, seg_passes, segs_pass, stops_of};
+ghost use Rattle.dn_flat.specs.Terms.{seg_leads};
+ghost use Rattle.dn_view.specs.Terms.{IsCourse, IsRun, course_records, in_slot, names_go, outputs, part_gives, part_leads, run_leads, seg_name, seg_passes, segs_pass};
 
 use crate::OutOfMemory;
 use crate::course::Course;
@@ -17,7 +17,7 @@ use crate::range::{held_end, slot_range};
 use crate::records::record_for;
 use dn_flat::flats::Flats;
 use dn_interval::onward::{cut, last_out};
-use dn_interval::{End, Rows, Seg, Span};
+use dn_interval::{End, Seg, Span};
 use dn_kind::output::output_name;
 use dn_kind::unit_kind::Record;
 use dn_net::checked::CheckedNet;
@@ -240,16 +240,8 @@ pub(crate) fn unit_of(net: &Net, node: u16) -> Option<&Unit>
     }
 }
 
-/// The layers of the stops of a node.
-fn stop_layers(flats: &Flats, node: u16) -> &[Rows]
-    requires { node < length flats.now.nodes }
-    ensures { result.now ≡ stops_of flats.now node }
-{
-    flats.of(node).stops.as_slice()
-}
-
 /// Whether the node of one of a unit's ports leads to something.
-pub(crate) fn leads_on(flats: &Flats, unit: &Unit, part: FlatPart) -> bool
+fn leads_on(flats: &Flats, unit: &Unit, part: FlatPart) -> bool
     requires { IsTrue (list_all (λ p. nat_lt p (length flats.now.nodes)) unit.now.ports) }
     ensures { result ≡ list_any (λ p. part_leads part flats.now p) unit.now.ports }
 {
@@ -269,25 +261,6 @@ fn node_leads(flats: &Flats, node: u16, part: FlatPart) -> bool
 {
     match part {
         FlatPart::Accepts => !flats.of(node).reached.as_slice().is_empty(),
-        FlatPart::Stops => has_layer(stop_layers(flats, node)),
+        FlatPart::Stops => flats.of(node).has_stops(),
     }
-}
-
-/// Whether a layer has a row.
-fn has_layer(layers: &[Rows]) -> bool
-    ensures { result ≡ list_any has_rows layers.now }
-{
-    for rows in layers {
-        if has_rows(rows) {
-            return true;
-        }
-    }
-    false
-}
-
-/// Whether there is a row.
-fn has_rows(rows: &Rows) -> bool
-    ensures { result ≡ has_rows rows.now }
-{
-    !rows.rows().is_empty()
 }

@@ -1,37 +1,18 @@
-//! Which nodes show nothing newly, since no name to which they lead can come to a hop of a placement.
+//! From which nodes a hop of a placement can be met, and which nodes show newly for each access the same.
 
 ghost use Rattle.std.specs.Prelude.{◌≡◌, ◌<◌, length, IsTrue};
 ghost use Rattle.dn_net.specs.Terms.{unit_at};
 ghost use Rattle.dn_kind.specs.declared.rights.Access.{Access};
 ghost use Rattle.dn_kind.specs.Terms.{Held, both_rights};
-ghost use Rattle.dn_view.specs.Terms.{IsExactAt, IsSystem, IsTrial, can_meet, has_hop, leads_to_units};
-ghost use Rattle.dn_view.specs.declared.part.FlatPart.TheVariants.{Stops};
+ghost use Rattle.dn_flat.specs.Terms.{leads_to_units};
+ghost use Rattle.dn_view.specs.Terms.{IsExactAt, IsSystem, IsTrial, can_meet, has_hop};
 ghost use Rattle.std.specs.List.{list_any};
 
-use crate::exact::is_asked;
 use crate::met::some_lead_on;
-use crate::part::FlatPart;
-use crate::pass::{leads_on, unit_of};
 use crate::system::System;
 use crate::trial::Trial;
 use dn_kind::rights::Rights;
 use dn_tables::placement::Placement;
-
-/// Whether nothing is asked for at a node, and no name to which the node leads can come to a hop of the
-/// placement: then it shows nothing newly, whatever the tables hold. It takes no memory, and time of the
-/// units to which the node leads.
-pub(crate) fn is_untouched(trial: Trial, node: u16) -> bool
-    requires trial { IsTrial meaning trial }
-    requires there { node < length trial.system.flats.now.nodes }
-    ensures { IsTrue result → (h : Held) → IsExactAt trial.entry.system.on.net.now
-        h trial.entry.request.now trial.entry.placement.now trial.entry.access node }
-{
-    if is_asked(trial.request, node, trial.access) {
-        return false;
-    }
-    let units = trial.system.flats.of(node).units.as_slice();
-    !some_meets(trial, units)
-}
 
 /// Whether what stands in one of the nodes can come to a hop.
 pub(crate) fn some_meets(trial: Trial, nodes: &[u16]) -> bool
@@ -90,10 +71,7 @@ fn has_hop(placement: &Placement, node: u16) -> bool
 pub(crate) fn leads_to_units(system: System, node: u16) -> bool
     requires { IsSystem meaning system }
     ensures { result
-        ≡ leads_to_units system.entry.flats.now (unit_at system.entry.on.net.now node) }
+        ≡ leads_to_units system.entry.flats.now.nodes (unit_at system.entry.on.net.now node) }
 {
-    match unit_of(system.on.net, node) {
-        Some(unit) => leads_on(system.flats, unit, FlatPart::Stops),
-        None => false,
-    }
+    system.flats.seers().leads_on(node)
 }

@@ -1,4 +1,4 @@
-use Rattle.std.proofs.Common.{◌≡◌, ◌≤◌, ◌<◌, ◌↔◌, ℕ, true, nat_eq, ◌==◌, subst, sym, refl, length, List, eqb-true, rules, slice_get, IsTrue}
+use Rattle.std.proofs.Common.{◌≡◌, ◌≤◌, ◌<◌, ◌↔◌, ℕ, true, nat_eq, ◌==◌, subst, sym, length, List, eqb-true, rules, slice_get, IsTrue}
 use Rattle.dn_interval.specs.declared.row.End.{End}
 use Rattle.dn_interval.specs.declared.row.Seg.{Seg}
 use Rattle.dn_interval.specs.declared.span.TheConstants.{TOP}
@@ -28,10 +28,6 @@ added g c =
 pub returns-then-not-is_agent : goal.returns-then-not-is_agent
 returns-then-not-is_agent g c =
     no_agent c.args.trial.system.on.net.now (IsExactIn (λ k. (goal.UnitKind-dyn g k).meaning k.1) c.args.trial) c.args.node (sym c.if-not-is_agent.ensures)
-
-pub returns-then-is_untouched : goal.returns-then-is_untouched
-returns-then-is_untouched g c =
-    an_agent c.args.trial.system.on.net.now (IsExactIn (λ k. (goal.UnitKind-dyn g k).meaning k.1) c.args.trial) c.args.node (sym c.if-not-is_agent.ensures) ((λ _. c.if-is_untouched.ensures refl (trial_records (λ k. (goal.UnitKind-dyn g k).meaning k.1) c.args.trial)), (λ _. refl))
 
 pub returns-then-is_asked : goal.returns-then-is_asked
 returns-then-is_asked g c =

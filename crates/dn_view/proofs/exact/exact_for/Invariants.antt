@@ -1,8 +1,9 @@
-use Rattle.std.proofs.Common.{ℕ, ◌<◌, slice_get, IsTrue}
-use Rattle.dn_net.specs.Decode.{is_agent_at}
-use Rattle.dn_view.specs.Trials.{IsExactIn}
+-- The agents in the lists of the units of the hops so far are exact.
+use Rattle.std.proofs.Common.{ℕ, ◌<◌, [], get_or, slice_index_or}
+use Rattle.dn_tables.specs.declared.placement.Hop.{Hop}
+use Rattle.dn_view.specs.Trials.{AreExactAmong}
 use Rattle.dn_view.proofs.exact.exact_for.Given as goal
 
-abbrev pub invariant-loop-node : goal.invariant-loop-node
-invariant-loop-node g l =
-    (m : ℕ) → m < l.node → IsTrue (is_agent_at (slice_get l.trial.system.on.net.now m)) → IsExactIn (λ k. (goal.UnitKind-dyn g k).meaning k.1) l.trial m
+abbrev pub invariant-loop-hop : goal.invariant-loop-hop
+invariant-loop-hop g l =
+    (k : ℕ) (d : Hop) → k < l.hop-index → AreExactAmong (λ k. (goal.UnitKind-dyn g k).meaning k.1) l.trial (slice_index_or l.trial.system.flats.now.seers.by_unit (get_or l.hops k d).unit [])

@@ -1,6 +1,7 @@
 use Rattle.std.proofs.Common.{◌∙◌, ap, sym}
 use Rattle.std.specs.List.{list_any}
-use Rattle.dn_view.specs.Untouched.{can_meet, units_in}
+use Rattle.dn_flat.specs.Levels.{units_in}
+use Rattle.dn_view.specs.Untouched.{can_meet}
 use Rattle.dn_view.proofs.onward.leads_to_hops.Goals as goal
 
 pub returns : goal.returns

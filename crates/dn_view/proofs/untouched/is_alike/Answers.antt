@@ -1,6 +1,7 @@
 use Rattle.std.proofs.Common.{◌≡◌, ◌∙◌, ap, sym, false, not, Bool, true, refl, slice_get}
 use Rattle.std.specs.List.{list_any}
-use Rattle.dn_view.specs.Untouched.{leads_on, units_in}
+use Rattle.dn_flat.specs.Levels.{units_in}
+use Rattle.dn_view.specs.Untouched.{leads_on}
 use Rattle.dn_view.proofs.Alike.{alike}
 use Rattle.dn_view.proofs.untouched.is_alike.Goals as goal
 
