@@ -1,5 +1,5 @@
 -- Which records a pass through units goes by.
-use Rattle.std.specs.Prelude.{◌≡◌, ℕ, ◌≤◌, List, Option, Some, None, IsTrue}
+use Rattle.std.specs.Prelude.{◌≡◌, ℕ, ◌≤◌, List, Option, Some, None, IfSome, IsTrue}
 use Rattle.std.specs.List.{All}
 use Rattle.dn_net.specs.declared.node.NodeDecl.{NodeDecl}
 use Rattle.dn_net.specs.declared.node.Unit.{Unit as UnitPart}
@@ -34,6 +34,10 @@ records_taken net h (Joined rq p) = joined_records h (placed_records net rq.now 
 -- no slot of the node from this one on holds a record
 abbrev pub HoldsBelow : Held → ℕ → ℕ → Type 0
 HoldsBelow h node end = (slot : ℕ) → end ≤ slot → h node slot ≡ None
+
+-- the node, if it is a unit, holds no record
+abbrev pub HoldsNone : List NodeDecl → Held → ℕ → Type 0
+HoldsNone net h node = IfSome (unit_at net node) (λ u. (slot : ℕ) → h node slot ≡ None)
 
 -- a hop fits the unit that its node is, for so many addresses
 pub record IsFitted (net : List NodeDecl) (size : ℕ) (hop : Hop) : Type 0 where

@@ -5,7 +5,7 @@ pub use Rattle.dn_view.specs.Exact.{IsAskedAt, IsExactAt, are_buffer, is_buffer_
 pub use Rattle.dn_view.specs.Named.{AddsGiven, AddsOne, AddsPart, AddsThose, IsAtName}
 pub use Rattle.dn_view.specs.Near.{end_near, first_name, hop_near_by, hops_near, is_near, levels_near, name_count, row_near, rows_near}
 pub use Rattle.dn_view.specs.Passes.{IsRun, in_slot, names_go, outputs, part_gives, part_leads, run_leads, seg_name, seg_passes, segs_pass, stops_of}
-pub use Rattle.dn_view.specs.Records.{AreFitted, HoldsBelow, IsFitted, IsFitting, fresh_record, records_taken}
+pub use Rattle.dn_view.specs.Records.{AreFitted, HoldsBelow, HoldsNone, IsFitted, IsFitting, fresh_record, records_taken}
 pub use Rattle.dn_view.specs.Systems.{AreSystemTables, IsSystem}
 pub use Rattle.dn_view.specs.Through.{ComesThrough}
 pub use Rattle.dn_view.specs.Trials.{AreExactAmong, AreExactIn, ComesIn, IsExactIn, IsPassedIn, IsTrial, reading}

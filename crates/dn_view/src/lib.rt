@@ -3,6 +3,7 @@
 
 mod course;
 pub mod exact;
+mod holding;
 pub mod laws;
 mod met;
 pub mod names;

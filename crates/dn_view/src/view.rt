@@ -1,20 +1,24 @@
 //! What an agent sees under tables.
 
-ghost use Rattle.std.specs.Prelude.{◌<◌, length, IfNone, IfOk, IfSome, IsTrue};
-ghost use Rattle.dn_interval.specs.Terms.{ends_within};
+ghost use Rattle.std.specs.Prelude.{ℕ, ◌<◌, ◌≤◌, ◌⊎◌, ◌↔◌, length, IfNone, IfOk, IfSome, OnOk, IsTrue};
+ghost use Rattle.dn_interval.specs.declared.row.End.{End};
+ghost use Rattle.dn_interval.specs.declared.span.TheConstants.{TOP};
+ghost use Rattle.dn_interval.specs.Terms.{ends_within, segs_give};
 ghost use Rattle.dn_net.specs.Terms.{IsLegalNet};
 ghost use Rattle.dn_kind.specs.Terms.{Held, allowing, kinds_of};
-ghost use Rattle.dn_flat.specs.Terms.{IsFlat};
+ghost use Rattle.dn_walk.specs.Terms.{name_of_end};
+ghost use Rattle.dn_flat.specs.Terms.{IsFlat, levels_give};
 ghost use Rattle.dn_tables.specs.Terms.{FitsNet, record_kept};
-ghost use Rattle.dn_view.specs.Terms.{AreViewed, IsSystem, ReachesUnit};
+ghost use Rattle.dn_view.specs.Terms.{AreViewed, ComesThrough, IsSystem, ReachesUnit, stops_of};
 
 use crate::OutOfMemory;
 use crate::course::Course;
+use crate::holding::some_hold;
 use crate::records::Records;
 use crate::shown::{node_stops, push_through};
 use crate::system::System;
 use dn_flat::flat::Flat;
-use dn_interval::Rows;
+use dn_interval::{Rows, Seg};
 use dn_kind::rights::Access;
 use dn_net::net::Net;
 use dn_tables::set::TableSet;
@@ -57,6 +61,33 @@ pub fn view<'a>(
         (λ rows. IsTrue (ends_within (length system.entry.on.net.now) rows)) }
 {
     let mut shown = system.flats.accepted_segs(alloc, node)?;
+    push_units(alloc, &mut shown, system, tables, node, access)?;
+    Rows::normal(alloc, shown.as_slice())
+}
+
+/// Adds the accepted names to which the addresses of a node come through units. There are none where the units to which
+/// the node leads hold no records: so much is seen without its stops.
+fn push_units<'a>(
+    alloc: Global,
+    shown: &mut Vec<Seg>,
+    system: System<'a>,
+    tables: &'a TableSet,
+    node: u16,
+    access: Access,
+) -> Result<(), OutOfMemory>
+    requires system { IsSystem meaning system }
+    requires fits { FitsNet system.on.net.now (kinds_of meaning system.on.kinds.now) tables.now }
+    requires there { node < length system.flats.now.nodes }
+    ensures { OnOk result ((a : ℕ) (z : End) → a ≤ TOP → IsTrue (segs_give shown.new.items a z)
+        ↔ (IsTrue (segs_give shown.old.items a z) ⊎ ((s : End) × IsTrue (levels_give
+        (stops_of system.entry.flats.now node) a s) × ComesThrough system.entry.on.net.now
+        (allowing access (record_kept (kinds_of meaning system.entry.on.kinds.now) tables.now))
+        (name_of_end s) (name_of_end z)))) }
+{
+    let units = system.flats.of(node).units.as_slice();
+    if !some_hold(system, tables, units) {
+        return Ok(());
+    }
     let stops = node_stops(alloc, system.flats, node)?;
     let course = Course {
         system,
@@ -64,6 +95,5 @@ pub fn view<'a>(
         records: Records::Kept,
         access,
     };
-    push_through(alloc, &mut shown, course, stops)?;
-    Rows::normal(alloc, shown.as_slice())
+    push_through(alloc, shown, course, stops)
 }

@@ -22,8 +22,8 @@ returns-clause-rows g c =
     let h : Held = allowing c.args.access (record_kept kinds c.args.tables.now) in
     let held : AreHeld net h = allowing_held net (record_kept kinds c.args.tables.now) c.args.access (system_held (λ k. (goal.UnitKind-dyn g k).meaning k.1) c.args.system c.args.tables.now c.requires.system c.requires.fits) in
     let there : c.args.node < length c.args.system.flats.now.nodes = subst (λ n. c.args.node < n) (sym c.requires.system.flat.every) c.requires.there in
-    let shown : List Seg = c.push_through.new.shown.items in
-    let same : (a : ℕ) (z : End) → a ≤ TOP → (segs_give shown a z ≡ true) ↔ ResolvesFromUnder net h c.args.node a z = viewed net c.requires.system.kinded.legal.legal h held c.args.system.flats.now c.requires.system.flat c.args.node there c.in_ok-shown.shown.items c.in_ok-stops.stops.items shown c.in_ok-shown.ensures c.in_ok-stops.ensures c.in_ok-push_through.ensures in
+    let shown : List Seg = c.push_units.new.shown.items in
+    let same : (a : ℕ) (z : End) → a ≤ TOP → (segs_give shown a z ≡ true) ↔ ResolvesFromUnder net h c.args.node a z = viewed net c.requires.system.kinded.legal.legal h held c.args.system.flats.now c.requires.system.flat c.args.node there c.in_ok-shown.shown.items shown c.in_ok-shown.ensures c.in_ok-push_units.ensures in
     IfOk-weaker c.normal.result (λ rows. AreNormal (SegmentsGive c.as_slice.result.now) rows) (λ rows. AreNormal (ResolvesFromUnder net h c.args.node) rows)
     (λ rows n. view_rows net h c.args.node shown rows same (subst (λ (s : List Seg). AreNormal (SegmentsGive s) rows) c.as_slice.ensures.value n))
     c.normal.ensures.normal
