@@ -17,7 +17,7 @@ use Rattle.dn_net.specs.declared.node.Role.{Role}
 use Rattle.dn_net.specs.Decode.{is_agent, is_agent_at, StopsAt}
 use Rattle.dn_flat.specs.declared.crowds.Way.{Way}
 use Rattle.dn_flat.specs.declared.levels.Levels.{Levels}
-use Rattle.dn_flat.specs.Crowds.{AreAgentStops, AreCrowded, IsAgentStop, IsCrowded, IsWay}
+use Rattle.dn_flat.specs.Crowds.{AreAgentStops, AreCrowded, IsWay}
 use Rattle.dn_flat.specs.Levels.{IsLevels, levels_give}
 use Rattle.dn_flat.specs.Views.{StopsFrom}
 

@@ -1,6 +1,6 @@
 -- One way more.
 use Rattle.std.proofs.Common.{List, sym, subst}
-use Rattle.std.proofs.lemmas.List.Elements.{All-nil, All-get_or}
+use Rattle.std.proofs.lemmas.List.Elements.{All-nil}
 use Rattle.dn_flat.specs.declared.crowds.UnitSpan.{UnitSpan}
 use Rattle.dn_flat.specs.Crowds.{AreAgentStops, IsWay, ListAgentStops}
 use Rattle.dn_flat.proofs.crowds.agent_stops.Goals as goal

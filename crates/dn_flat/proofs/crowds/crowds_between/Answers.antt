@@ -1,5 +1,5 @@
 -- One way more, held against the one before it that goes furthest.
-use Rattle.std.proofs.Common.{List, ◌+◌, ◌<◌, ◌≤◌, sym, subst, get_or, arith}
+use Rattle.std.proofs.Common.{List, sym, subst, arith}
 use Rattle.std.proofs.lemmas.List.Elements.{All-nil}
 use Rattle.dn_flat.specs.declared.crowds.UnitSpan.{UnitSpan}
 use Rattle.dn_flat.specs.Crowds.{AreCrowded, AreCrowds, IsWay}

@@ -1,5 +1,5 @@
 -- The names that the way gives.
-use Rattle.std.proofs.Common.{◌≡◌, ◌≤◌, List, arith}
+use Rattle.std.proofs.Common.{◌≡◌, List, arith}
 use Rattle.dn_base.proofs.Told.{if_some_then}
 use Rattle.dn_net.specs.declared.node.NodeDecl.{NodeDecl}
 use Rattle.dn_flat.specs.Crowds.{AreAgentStops, IsWay}

@@ -1,7 +1,6 @@
 -- One span more.
-use Rattle.std.proofs.Common.{List, sym, subst, ap}
+use Rattle.std.proofs.Common.{List, sym, subst}
 use Rattle.std.proofs.lemmas.List.Elements.{All-push}
-use Rattle.dn_interval.specs.declared.span.Span.{Span}
 use Rattle.dn_flat.specs.declared.crowds.UnitSpan.{UnitSpan}
 use Rattle.dn_flat.specs.Crowds.{AreAgentStops, AreCrowded, AreCrowds, ListAgentStops}
 use Rattle.dn_flat.proofs.crowds.push_span.Goals as goal

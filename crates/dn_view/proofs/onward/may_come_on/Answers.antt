@@ -1,10 +1,8 @@
-use Rattle.std.proofs.Common.{◌≡◌, ◌∙◌, true, false, ap, sym, subst, Some, None, IsTrue, nat_lt}
+use Rattle.std.proofs.Common.{◌≡◌, ◌∙◌, ap, sym, subst, Some, IsTrue, nat_lt}
 use Rattle.std.specs.List.{list_all}
 use Rattle.std.specs.Option.{option_copied}
-use Rattle.std.proofs.lemmas.Bool.{false≢true}
 use Rattle.dn_net.specs.Decode.{unit_at}
 use Rattle.dn_net.proofs.Steps.{ports_at}
-use Rattle.dn_view.specs.Untouched.{comes_on}
 use Rattle.dn_view.proofs.onward.may_come_on.Goals as goal
 
 pub comes_on-requires-clause-ports : goal.comes_on-requires-clause-ports

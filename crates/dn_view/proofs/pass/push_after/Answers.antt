@@ -1,4 +1,4 @@
-use Rattle.std.proofs.Common.{◌≡◌, ◌∙◌, ◌||◌, ap}
+use Rattle.std.proofs.Common.{◌∙◌, ◌||◌, ap}
 use Rattle.dn_interval.specs.Strands.{segs_give}
 use Rattle.dn_flat.specs.Onward.{seg_leads}
 use Rattle.dn_view.specs.Passes.{part_gives, run_leads}

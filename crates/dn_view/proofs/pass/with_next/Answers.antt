@@ -1,5 +1,5 @@
 -- The segment goes on with the run.
-use Rattle.std.proofs.Common.{◌≡◌, ◌∙◌, ◌+◌, ◌-◌, ◌≤◌, ◌||◌, Option, refl, ap, sym, arith}
+use Rattle.std.proofs.Common.{◌∙◌, ◌||◌, Option, refl, ap, sym, arith}
 use Rattle.dn_interval.specs.declared.row.Seg.{Seg}
 use Rattle.dn_flat.specs.Onward.{seg_leads}
 use Rattle.dn_view.specs.Passes.{run_leads}
