@@ -1,5 +1,5 @@
 -- Marks as they are made.
-use Rattle.std.proofs.Common.{◌≡◌, ℕ, zero, suc, ◌+◌, ◌-◌, ◌<◌, ◌≤◌, ◌⊎◌, inl, inr, Bool, true, false, ◌||◌, List, [], ◌∷◌, ◌++◌, length, map, take, drop, get_or, slice_get, Option, Some, None, refl, sym, ap, ◌∙◌, subst, arith, IsTrue, add-one}
+use Rattle.std.proofs.Common.{◌≡◌, ℕ, zero, suc, ◌+◌, ◌-◌, ◌<◌, ◌≤◌, ◌⊎◌, inl, inr, Bool, true, false, ◌||◌, nat_eq, List, [], ◌∷◌, ◌++◌, length, map, take, drop, get_or, slice_get, Option, Some, None, refl, sym, ap, ◌∙◌, subst, arith, IsTrue, add-one, eqb-true}
 use Rattle.std.specs.List.{Contains, list_any}
 use Rattle.std.proofs.lemmas.Bool.{cases_lt, false≢true, or_cases, or_left}
 use Rattle.std.proofs.lemmas.Option.{slice_get_within, slice_get-get_or, get_or_from_slice_get}
@@ -7,95 +7,55 @@ use Rattle.std.proofs.Math.Seq.{drop-cons}
 use Rattle.std.proofs.Math.ListN.{drop_of_length-le}
 use Rattle.std.proofs.lemmas.List.{take_all}
 use Rattle.dn_view.proofs.Pages.{power_below}
-use Rattle.dn_base.proofs.Lists.{drop_at}
 use Rattle.dn_interval.specs.declared.row.End.{End}
 use Rattle.dn_interval.specs.declared.row.Row.{Row}
 use Rattle.dn_interval.specs.Rows.{Member, further_end, Apart, HasEnds, GivenBy}
 use Rattle.dn_interval.specs.Spans.{in_span}
-use Rattle.dn_interval.specs.Strands.{rows_give}
-use Rattle.dn_interval.proofs.Names.{rows_to}
 use Rattle.dn_net.specs.declared.node.Name.{Name}
 use Rattle.dn_net.specs.declared.node.NodeDecl.{NodeDecl}
 use Rattle.dn_net.specs.Decode.{top, unit_at, StopsAt}
 use Rattle.dn_flat.specs.declared.levels.Levels.{Levels}
-use Rattle.dn_flat.specs.Levels.{IsLevels, levels_give}
+use Rattle.dn_flat.specs.Levels.{IsLevels, is_among, levels_give}
 use Rattle.dn_tables.specs.declared.placement.Hop.{Hop}
 use Rattle.dn_place.specs.Sought.{HasUnitBounds, IsSearchReady, ReachOneStop, Sought}
 use Rattle.dn_net.specs.declared.node.Unit.{Unit as UnitPart}
 use Rattle.dn_placement.specs.Placement.{Leads, Meets}
 use Rattle.dn_walk.specs.Ends.{end_of, name_of_end}
-use Rattle.dn_place.specs.Marks.{is_marked, mark_at, AreMarked, IsEntry, Keeps, MarkedBelow, Marks, MarksAfter, MarksAll, MarksEnds, MarksGiven, MarksRows}
+use Rattle.dn_place.specs.Marks.{is_marked, mark_at, AreMarked, IsEntry, Keeps, MarkedBelow, Marks, MarksAfter, MarksAll, MarksListed}
 use Rattle.dn_place.proofs.Pages.{unit_there}
 
--- each node of the names is marked, or is one of the rest
-abbrev pub EndsLeft : List End → List End → List Bool → Type 0
-EndsLeft ends rest marks = (d : ℕ) (z : End) → Member z (map (further_end d) ends) → z.node < length marks → (is_marked marks z.node ≡ true) ⊎ Member z (map (further_end d) rest)
+-- each node of a list is marked, or is one of the rest
+abbrev pub ListedLeft : List ℕ → List ℕ → List Bool → Type 0
+ListedLeft nodes rest marks = (n : ℕ) → is_among n nodes ≡ true → n < length marks → (is_marked marks n ≡ true) ⊎ (is_among n rest ≡ true)
 
-abbrev pub RowsLeft : List Row → List Row → List Bool → Type 0
-RowsLeft rows rest marks = (a : ℕ) (z : End) → GivenBy rows a z → z.node < length marks → (is_marked marks z.node ≡ true) ⊎ GivenBy rest a z
+pub listed_begun : (nodes : List ℕ) (marks : List Bool) → ListedLeft nodes nodes marks
+listed_begun nodes marks = λ n e l. inr e
 
-pub ends_begun : (ends : List End) (marks : List Bool) → EndsLeft ends ends marks
-ends_begun ends marks = λ d z m l. inr m
-
-pub rows_begun : (rows : List Row) (marks : List Bool) → RowsLeft rows rows marks
-rows_begun rows marks = λ a z g l. inr g
-
-pub taken_end : (items : List End) (i : ℕ) (d : End) → i < length items → drop i items ≡ get_or items i d ∷ drop (i + 1) items
-taken_end items i d l = drop-cons items i d l ∙ ap (λ n. get_or items i d ∷ drop n items) (sym (add-one i))
-
--- one more name whose node is marked, or is no node
-pub ends_on : (ends : List End) (i : ℕ) (e : End) (old new : List Bool) → drop i ends ≡ e ∷ drop (i + 1) ends → length new ≡ length old → Keeps old new → (e.node < length new → is_marked new e.node ≡ true) → EndsLeft ends (drop i ends) old → EndsLeft ends (drop (i + 1) ends) new
-ends_on ends i e old new taken same keeps here left = λ d z m k. go d z k (left d z m (omega arith))
+-- one more node that is marked, or is none
+pub listed_on : (nodes : List ℕ) (i : ℕ) (old new : List Bool) → i < length nodes → length new ≡ length old → Keeps old new → (get_or nodes i 0 < length new → is_marked new (get_or nodes i 0) ≡ true) → ListedLeft nodes (drop i nodes) old → ListedLeft nodes (drop (i + 1) nodes) new
+listed_on nodes i old new l same keeps here left = λ n e k. go n k (left n e (omega (arith, k, same)))
   where
-    go : (d : ℕ) (z : End) → z.node < length new → (is_marked old z.node ≡ true) ⊎ Member z (map (further_end d) (drop i ends)) → (is_marked new z.node ≡ true) ⊎ Member z (map (further_end d) (drop (i + 1) ends))
-    go d z k (inl m) = inl (keeps z.node m)
-    go d z k (inr m) = by (subst (λ (es : List End). Member z (map (further_end d) es)) taken m)
+    taken : drop i nodes ≡ get_or nodes i 0 ∷ drop (i + 1) nodes
+    taken = drop-cons nodes i 0 l ∙ ap (λ n. get_or nodes i 0 ∷ drop n nodes) (sym (add-one i))
+
+    go : (n : ℕ) → n < length new → (is_marked old n ≡ true) ⊎ (is_among n (drop i nodes) ≡ true) → (is_marked new n ≡ true) ⊎ (is_among n (drop (i + 1) nodes) ≡ true)
+    go n k (inl m) = inl (keeps n m)
+    go n k (inr e) = by (or_cases (nat_eq (get_or nodes i 0) n) (is_among n (drop (i + 1) nodes)) (sym (ap (is_among n) taken) ∙ e))
       where
-        by : (further_end d e ≡ z) ⊎ Member z (map (further_end d) (drop (i + 1) ends)) → (is_marked new z.node ≡ true) ⊎ Member z (map (further_end d) (drop (i + 1) ends))
-        by (inl q) = let n : e.node ≡ z.node = ap (λ (x : End). x.node) q in inl (subst (λ (x : ℕ). is_marked new x ≡ true) n (here (omega arith)))
+        by : (nat_eq (get_or nodes i 0) n ≡ true) ⊎ (is_among n (drop (i + 1) nodes) ≡ true) → (is_marked new n ≡ true) ⊎ (is_among n (drop (i + 1) nodes) ≡ true)
+        by (inl q) = let at : get_or nodes i 0 ≡ n = eqb-true (get_or nodes i 0) n q in inl (subst (λ (x : ℕ). is_marked new x ≡ true) at (here (omega (arith, at, k))))
         by (inr q) = inr q
 
-pub ends_done : (ends : List End) (i : ℕ) (marks : List Bool) → length ends ≤ i → EndsLeft ends (drop i ends) marks → MarksEnds ends marks
-ends_done ends i marks l left = λ d z m k. go d z (left d z m k)
+pub listed_done : (nodes : List ℕ) (i : ℕ) (marks : List Bool) → length nodes ≤ i → ListedLeft nodes (drop i nodes) marks → MarksListed nodes marks
+listed_done nodes i marks l left = λ n e k. go n (left n e k)
   where
-    go : (d : ℕ) (z : End) → (is_marked marks z.node ≡ true) ⊎ Member z (map (further_end d) (drop i ends)) → is_marked marks z.node ≡ true
-    go d z (inl m) = m
-    go d z (inr m) = absurd (subst (λ (es : List End). Member z (map (further_end d) es)) (drop_of_length-le ends l) m)
+    go : (n : ℕ) → (is_marked marks n ≡ true) ⊎ (is_among n (drop i nodes) ≡ true) → is_marked marks n ≡ true
+    go n (inl m) = m
+    go n (inr e) = absurd (false≢true (sym (ap (is_among n) (drop_of_length-le nodes l)) ∙ e))
 
-pub rows_on : (rows : List Row) (i : ℕ) (r : Row) (old new : List Bool) → i < length rows → r ≡ get_or rows i r → length new ≡ length old → Keeps old new → MarksEnds r.ends new → RowsLeft rows (drop i rows) old → RowsLeft rows (drop (i + 1) rows) new
-rows_on rows i r old new l g same keeps here left = λ a z m k. go a z k (left a z m (omega arith))
-  where
-    go : (a : ℕ) (z : End) → z.node < length new → (is_marked old z.node ≡ true) ⊎ GivenBy (drop i rows) a z → (is_marked new z.node ≡ true) ⊎ GivenBy (drop (i + 1) rows) a z
-    go a z k (inl m) = inl (keeps z.node m)
-    go a z k (inr m) = by (subst (λ (rs : List Row). GivenBy rs a z) (drop_at rows i r l g) m)
-      where
-        by : GivenBy (r ∷ drop (i + 1) rows) a z → (is_marked new z.node ≡ true) ⊎ GivenBy (drop (i + 1) rows) a z
-        by (inl q) = inl (here (a - r.span.lo) z q.1 k)
-        by (inr q) = inr q
-
-pub rows_done : (rows : List Row) (i : ℕ) (marks : List Bool) → length rows ≤ i → RowsLeft rows (drop i rows) marks → MarksRows rows marks
-rows_done rows i marks l left = λ a z g k. go a z (left a z g k)
-  where
-    go : (a : ℕ) (z : End) → (is_marked marks z.node ≡ true) ⊎ GivenBy (drop i rows) a z → is_marked marks z.node ≡ true
-    go a z (inl m) = m
-    go a z (inr m) = absurd (subst (λ (rs : List Row). GivenBy rs a z) (drop_of_length-le rows l) m)
-
--- so do the rows of levels, one after another
-
-pub levels_marked : (rows : List Row) (rest : List (List Row)) (old new : List Bool) → Keeps old new → MarksRows rows new → (a : ℕ) (z : End) → z.node < length new → (is_marked old z.node ≡ true) ⊎ (levels_give (rows ∷ rest) a z ≡ true) → (is_marked new z.node ≡ true) ⊎ (levels_give rest a z ≡ true)
-levels_marked rows rest old new keeps here a z l (inl m) = inl (keeps z.node m)
-levels_marked rows rest old new keeps here a z l (inr m) = elim (or_cases (rows_give rows a z) (levels_give rest a z) m) [
-  | inl g ↦ inl (here a z (rows_to rows a z g) l)
-  | inr g ↦ inr g
-]
-
-pub no_more : (marks : List Bool) (a : ℕ) (z : End) → (is_marked marks z.node ≡ true) ⊎ (levels_give [] a z ≡ true) → is_marked marks z.node ≡ true
-no_more marks a z (inl m) = m
-no_more marks a z (inr m) = absurd (false≢true m)
-
--- the rows of a node's stops mark what the node leads to
-pub stops_mark : (net : List NodeDecl) (n : ℕ) (levels : Levels) (marks : List Bool) → IsLevels net n levels → MarksGiven (levels_give levels.stops) marks → Marks net n marks
-stops_mark net n levels marks f m = λ a z l s k. m a (end_of z) ((f.stops a (end_of z) l).1 s) k
+-- the units of a node's stops are what the node leads to
+pub stops_mark : (net : List NodeDecl) (n : ℕ) (levels : Levels) (marks : List Bool) → IsLevels net n levels → MarksListed levels.units marks → Marks net n marks
+stops_mark net n levels marks f m = λ a z l s k. m z.node (f.units a (end_of z) l ((f.stops a (end_of z) l).1 s)) k
 
 pub marks_kept : (net : List NodeDecl) (n : ℕ) (old new : List Bool) → length old ≡ length new → Keeps old new → Marks net n old → Marks net n new
 marks_kept net n old new same keeps m = λ a z l s k. keeps z.node (m a z l s (omega arith))

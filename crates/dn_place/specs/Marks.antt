@@ -1,12 +1,11 @@
 -- Marks on nodes, and what they say of the units to which an agent leads.
-use Rattle.std.specs.Prelude.{◌≡◌, ℕ, suc, ◌<◌, ◌≤◌, Bool, true, false, cond, nat_eq, List, [], ◌∷◌, length, map, slice_get, slice_index_or, Option, Some, None}
+use Rattle.std.specs.Prelude.{◌≡◌, ℕ, suc, ◌<◌, ◌≤◌, Bool, true, false, cond, nat_eq, List, [], ◌∷◌, length, slice_get, slice_index_or, Option, Some, None}
 use Rattle.dn_interval.specs.declared.row.End.{End}
-use Rattle.dn_interval.specs.declared.row.Row.{Row}
-use Rattle.dn_interval.specs.Rows.{Member, further_end, GivenBy}
 use Rattle.dn_net.specs.declared.node.Name.{Name}
 use Rattle.dn_net.specs.declared.node.NodeDecl.{NodeDecl}
 use Rattle.dn_net.specs.declared.node.Unit.{Unit as UnitPart}
 use Rattle.dn_net.specs.Decode.{top, unit_at, StopsAt}
+use Rattle.dn_flat.specs.Levels.{is_among}
 
 -- the node has a mark
 abbrev pub is_marked : List Bool → ℕ → Bool
@@ -22,20 +21,10 @@ mark_at first second third place n =
 abbrev pub Keeps : List Bool → List Bool → Type 0
 Keeps old new = (n : ℕ) → is_marked old n ≡ true → is_marked new n ≡ true
 
--- each node of these names, moved on, has a mark
-abbrev pub MarksEnds : List End → List Bool → Type 0
-MarksEnds ends marks = (d : ℕ) (z : End) → Member z (map (further_end d) ends) →
-    z.node < length marks → is_marked marks z.node ≡ true
-
--- each node in which the rows give a name has a mark
-abbrev pub MarksRows : List Row → List Bool → Type 0
-MarksRows rows marks = (a : ℕ) (z : End) → GivenBy rows a z → z.node < length marks →
-    is_marked marks z.node ≡ true
-
--- each node in which an address is given a name has a mark
-abbrev pub MarksGiven : (ℕ → End → Bool) → List Bool → Type 0
-MarksGiven gives marks = (a : ℕ) (z : End) → gives a z ≡ true → z.node < length marks →
-    is_marked marks z.node ≡ true
+-- each node of a list has a mark
+abbrev pub MarksListed : List ℕ → List Bool → Type 0
+MarksListed nodes marks = (n : ℕ) → is_among n nodes ≡ true → n < length marks →
+    is_marked marks n ≡ true
 
 -- each node in which an address of a node has a stop has a mark
 abbrev pub Marks : List NodeDecl → ℕ → List Bool → Type 0

@@ -4,13 +4,11 @@
 ghost use Rattle.std.specs.Prelude.{◌≡◌, ◌<◌, ◌++◌, [], ◌∷◌, ℕ, OnOk, is_some, true, false, Some, IfOk, length, slice_get};
 ghost use Rattle.dn_net.specs.declared.node.Unit.{Unit as UnitPart};
 ghost use Rattle.dn_net.specs.Terms.{unit_at};
-ghost use Rattle.dn_flat.specs.Terms.{levels_give};
 ghost use Rattle.dn_view.specs.Terms.{IsSystem};
-ghost use Rattle.dn_place.specs.Terms.{AreUnitsFrom, Keeps, MarkedBelow, Marks, MarksAfter, MarksAll, MarksEnds, MarksGiven, MarksRows, is_marked};
+ghost use Rattle.dn_place.specs.Terms.{AreUnitsFrom, Keeps, MarkedBelow, Marks, MarksAfter, MarksAll, MarksListed, is_marked};
 
 use crate::OutOfMemory;
 use crate::unit::unit_in;
-use dn_interval::{Row, Rows};
 use dn_net::net::Net;
 use dn_view::system::System;
 use std::alloc::Global;
@@ -19,7 +17,7 @@ use std::alloc::Global;
 pub(crate) fn units_of(alloc: Global, net: &Net) -> Result<Vec<u16>, OutOfMemory>
     ensures { IfOk result (λ units. AreUnitsFrom net.now 0 units.items) }
 {
-    let mut units = Vec::new(alloc);
+    let mut units = Vec::with_capacity(alloc, usize::from(net.nodes()))?;
     for node in 0..net.nodes() {
         push_unit(net, node, &mut units)?;
     }
@@ -125,37 +123,17 @@ fn mark_node(system: System, node: u16, marks: &mut [bool])
         Marks system.entry.on.net.now node marks.new }
 {
     if node < system.on.net.nodes() {
-        mark_levels(system.flats.of(node).stops.as_slice(), marks);
+        mark_all(system.flats.of(node).units.as_slice(), marks);
     }
 }
 
-/// Marks the nodes of the names of levels.
-fn mark_levels(levels: &[Rows], marks: &mut [bool])
+/// Marks the nodes of a list.
+fn mark_all(nodes: &[u16], marks: &mut [bool])
     ensures keeps { Keeps marks.old marks.new }
-    ensures marks { MarksGiven (levels_give levels.now) marks.new }
+    ensures marks { MarksListed nodes.now marks.new }
 {
-    for level in levels {
-        mark_rows(level.rows(), marks);
-    }
-}
-
-/// Marks the nodes of the names of rows.
-fn mark_rows(rows: &[Row], marks: &mut [bool])
-    ensures keeps { Keeps marks.old marks.new }
-    ensures marks { MarksRows rows.now marks.new }
-{
-    for row in rows {
-        mark_ends(row, marks);
-    }
-}
-
-/// Marks the nodes of the names of a row.
-fn mark_ends(row: &Row, marks: &mut [bool])
-    ensures keeps { Keeps marks.old marks.new }
-    ensures marks { MarksEnds row.now.ends marks.new }
-{
-    for end in row.ends() {
-        mark(marks, end.node);
+    for node in nodes {
+        mark(marks, *node);
     }
 }
 

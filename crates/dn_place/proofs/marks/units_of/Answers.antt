@@ -3,7 +3,7 @@ use Rattle.dn_place.proofs.Units.{lists_begun, lists_done, lists_on}
 use Rattle.dn_place.proofs.marks.units_of.Goals as goal
 
 pub loop-node-init : goal.loop-node-init
-loop-node-init c = rw c.new-units.ensures.items (lists_begun c.args.net.now)
+loop-node-init c = rw c.in_ok-units.ensures.items (lists_begun c.args.net.now)
 
 pub loop-node-preserved : goal.loop-node-preserved
 loop-node-preserved c = lists_on c.args.net.now c.loop-node.node c.loop-node.units.items c.push_unit.new.units.items c.in_ok-push_unit.ensures.unit c.in_ok-push_unit.ensures.none c.loop-node.invariant
