@@ -296,6 +296,19 @@ module _ (net : List NodeDecl) (legal : IsLegalNet net) (one : ReachOneStop net)
   Hold h [] i = Unit {0}
   Hold h (hop ∷ hops) i = ((u : UnitPart) → unit_at net hop.unit ≡ Some u → (r : Rights) × (h hop.unit ((hop.x + i) / 2 ^ u.page) ≡ Some (slot_record u r hop ((hop.x + i) / 2 ^ u.page)))) × Hold h hops i
 
+  -- where a hop has its record, what its output leads to is led to from each address that enters it
+  led : (h : Held) (hop : Hop) (hops : List Hop) (j : Joins net slots rq hop hops) (node b i : ℕ) (r : Rights) (k : ℕ) (end : Name) → (st : StopsAt net (record { node = node; addr = b }) (record { node = hop.unit; addr = moved (2 ^ block) (hop.x + i) b })) → h hop.unit ((hop.x + i) / 2 ^ j.unit.page) ≡ Some (slot_record j.unit r hop ((hop.x + i) / 2 ^ j.unit.page)) → IsChain (StepUnder net h) k (record { node = j.fits.node; addr = moved (2 ^ block) (hop.y + i) b }) end → IsChain (StepUnder net h) (st.1.0 + suc k) (record { node = node; addr = b }) end
+  led h hop hops j node b i r k end st held later = chain_join (StepUnder net h) st.1.0 (suc k) (record { node = node; addr = b }) s end (net_chain net legal h st.1.0 (record { node = node; addr = b }) s st.1.2) (t, stop_step net legal h s t st.0 passed, later)
+    where
+      s : Name
+      s = record { node = hop.unit; addr = moved (2 ^ block) (hop.x + i) b }
+
+      t : Name
+      t = record { node = j.fits.node; addr = moved (2 ^ block) (hop.y + i) b }
+
+      passed : Member t (outputs net h s)
+      passed = moved_passes h hop j.unit j.fits.node i b r j.is_unit j.fits.is_port j.fits.agree held
+
   -- an address of a node in the block of another comes to a name, moved likewise behind the hops
   record IsWalk (h : Held) (node addr b i n y : ℕ) : Type 0 where
     to : ℕ
@@ -317,26 +330,17 @@ module _ (net : List NodeDecl) (legal : IsLegalNet net) (one : ReachOneStop net)
       j : Joins net slots rq hop hops
       j = l.0
 
-      s : Name
-      s = record { node = hop.unit; addr = moved (2 ^ block) (hop.x + i) b }
-
-      t : Name
-      t = record { node = j.fits.node; addr = moved (2 ^ block) (hop.y + i) b }
-
-      st : StopsAt net (record { node = node; addr = b }) s
+      st : StopsAt net (record { node = node; addr = b }) (record { node = hop.unit; addr = moved (2 ^ block) (hop.x + i) b })
       st = moved_stop node addr b i hop sends e (meets i few)
 
       held : (r : Rights) × (h hop.unit ((hop.x + i) / 2 ^ j.unit.page) ≡ Some (slot_record j.unit r hop ((hop.x + i) / 2 ^ j.unit.page)))
       held = holds.0 j.unit j.is_unit
 
-      passed : Member t (outputs net h s)
-      passed = moved_passes h hop j.unit j.fits.node i b held.0 j.is_unit j.fits.is_port j.fits.agree held.1
-
       output_is : (k : ℕ) → k < rq.size → b ≡ addr + k → moved (2 ^ block) (hop.y + i) b ≡ hop.y + k
       output_is k lt is =
           let w : ℕ = 2 ^ j.unit.page in
           let other : StopsAt net (record { node = node; addr = b }) (name_on hop.unit hop.x k) = subst (λ n. StopsAt net (record { node = node; addr = n }) (name_on hop.unit hop.x k)) (sym is) (meets k lt) in
-          let same : moved (2 ^ block) (hop.x + i) b ≡ hop.x + k = ap (λ (n : Name). n.addr) (one (record { node = node; addr = b }) s (name_on hop.unit hop.x k) st other) in
+          let same : moved (2 ^ block) (hop.x + i) b ≡ hop.x + k = ap (λ (n : Name). n.addr) (one (record { node = node; addr = b }) (record { node = hop.unit; addr = moved (2 ^ block) (hop.x + i) b }) (name_on hop.unit hop.x k) st other) in
           let slot : (hop.x + k) / 2 ^ j.unit.page ≡ (hop.x + i) / 2 ^ j.unit.page = ap (λ n. n / 2 ^ j.unit.page) (sym same) ∙ moved_slot hop.unit j.unit (hop.x + i) b j.is_unit in
           sym (moved_output hop j.unit i b j.is_unit j.fits.agree)
           ∙ ap (λ n. (hop.y / 2 ^ j.unit.page + ((hop.x + i) / 2 ^ j.unit.page - hop.x / 2 ^ j.unit.page)) * 2 ^ j.unit.page + n % 2 ^ j.unit.page) same
@@ -347,7 +351,7 @@ module _ (net : List NodeDecl) (legal : IsLegalNet net) (one : ReachOneStop net)
       on later = record {
         to = later.to;
         steps = st.1.0 + suc later.steps;
-        chain = chain_join (StepUnder net h) st.1.0 (suc later.steps) (record { node = node; addr = b }) s (record { node = last_node net slots rq hops l.1 j.fits.node; addr = later.to }) (net_chain net legal h st.1.0 (record { node = node; addr = b }) s st.1.2) (t, stop_step net legal h s t st.0 passed, later.chain);
+        chain = led h hop hops j node b i held.0 later.steps (record { node = last_node net slots rq hops l.1 j.fits.node; addr = later.to }) st held.1 later.chain;
         place = later.place ∙ moved_twice (2 ^ block) (last_addr hops hop.y + i) (hop.y + i) b posm;
         exact = λ k lt is. later.exact k lt (output_is k lt is);
       }
@@ -395,26 +399,19 @@ module _ (net : List NodeDecl) (legal : IsLegalNet net) (one : ReachOneStop net)
         j : Joins net slots rq g hops
         j = l.0
 
-        s : Name
-        s = record { node = g.unit; addr = moved (2 ^ block) (g.x + i) b }
-
-        t : Name
-        t = record { node = j.fits.node; addr = moved (2 ^ block) (g.y + i) b }
-
-        st : StopsAt net (record { node = node; addr = b }) s
+        st : StopsAt net (record { node = node; addr = b }) (record { node = g.unit; addr = moved (2 ^ block) (g.x + i) b })
         st = moved_stop node addr b i g sends e (meets i few)
 
-        by : IsUsable slots j.unit g ((g.x + i) / 2 ^ j.unit.page) → IsShut old t → IsShut old (record { node = node; addr = b })
+        by : IsUsable slots j.unit g ((g.x + i) / 2 ^ j.unit.page) → IsShut old (record { node = j.fits.node; addr = moved (2 ^ block) (g.y + i) b }) → IsShut old (record { node = node; addr = b })
         by (is_free f) later = shut_here old (record { node = node; addr = b }) g j.unit i b st j.is_unit (ap (record_allowing access) (empty g.unit ((g.x + i) / 2 ^ j.unit.page) f))
         by (is_shared holds unowned) later =
             let q : ℕ = (g.x + i) / 2 ^ j.unit.page in
             let held : old g.unit q ≡ Some (slot_record j.unit both_rights g q) = ap (record_allowing access) holds ∙ ap (λ c. if c then Some (slot_record j.unit both_rights g q) else None) (both_allow access) in
-            let passed : Member t (outputs net old s) = moved_passes old g j.unit j.fits.node i b both_rights j.is_unit j.fits.is_port j.fits.agree held in
             record {
               end = later.end;
               stop = later.stop;
               steps = st.1.0 + suc later.steps;
-              chain = chain_join (StepUnder net old) st.1.0 (suc later.steps) (record { node = node; addr = b }) s later.end (net_chain net legal old st.1.0 (record { node = node; addr = b }) s st.1.2) (t, stop_step net legal old s t st.0 passed, later.chain);
+              chain = led old g hops j node b i both_rights later.steps later.end st held later.chain;
               none = later.none;
             }
 
