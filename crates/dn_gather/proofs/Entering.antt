@@ -24,7 +24,7 @@ use Rattle.dn_view.proofs.Nearby.{levels_from, levels_to}
 use Rattle.dn_place.specs.Rows.{InRow}
 use Rattle.dn_place.specs.Sought.{ReachOneStop}
 use Rattle.dn_place.proofs.Marked.{given_there}
-use Rattle.dn_place.proofs.Stretches.{GivesOnly, in_head}
+use Rattle.dn_place.proofs.Stretches.{GivesOnly, row_has}
 use Rattle.dn_gather.specs.Stands.{AreAlone, AreWindows, Enters}
 
 -- the first input of a unit
@@ -48,29 +48,6 @@ enters_gives net agent unit end a size x rows one w fits within enters = λ i l 
   (λ g. ap end_of (one (name_on agent a i) (name_on unit x i) (name_of_end z) (enters i l) (w.given (a + i) z (omega arith) g))),
   (λ e. subst (λ (y : End). GivenBy rows (a + i) y) e (w.all (a + i) (x + i) (omega arith) (omega arith) (enters i l))),
 )
-
--- a row behind others begins behind them
-row_behind : (from : ℕ) (rows : List Row) (k : ℕ) (r : Row) → Apart from rows → k < length rows → get_or rows k r ≡ r → from ≤ r.span.lo
-row_behind from [] k r p l g = absurd (omega arith)
-row_behind from (q ∷ rows) zero r p l g = subst (λ (x : Row). from ≤ x.span.lo) g p.0
-row_behind from (q ∷ rows) (suc k) r p l g =
-    let more : suc q.span.hi ≤ r.span.lo = row_behind (suc q.span.hi) rows k r p.4 (omega arith) g in
-    let low : from ≤ q.span.lo = p.0 in
-    let order : q.span.lo ≤ q.span.hi = q.span.ordered in
-    omega arith
-
--- the row that has the first address of a stretch has all of it
-row_at : (from : ℕ) (rows : List Row) (k : ℕ) (r : Row) (t : End) (size a : ℕ) → Apart from rows → k < length rows → get_or rows k r ≡ r → IsTrue (in_span r.span a) → 1 ≤ size → GivesOnly rows t size a → InRow r t size a
-row_at from [] k r t size a p l g at some only = absurd (omega arith)
-row_at from (q ∷ rows) zero r t size a p l g at some only =
-    subst (λ (x : Row). InRow x t size a) g (in_head from q rows t size a p some (subst (λ (x : Row). a ≤ x.span.hi) (sym g) (hi_of r.span a at)) only)
-row_at from (q ∷ rows) (suc k) r t size a p l g at some only =
-    let behind : suc q.span.hi ≤ r.span.lo = row_behind (suc q.span.hi) rows k r p.4 (omega arith) g in
-    let low : r.span.lo ≤ a = lo_of r.span a at in
-    row_at (suc q.span.hi) rows k r t size a p.4 (omega arith) g at some (λ i m z. ((λ x. (only i m z).0 (inr x)), (λ x. behind_first q rows (a + i) z (omega arith) ((only i m z).1 x))))
-
-pub row_has : (rows : List Row) (r : Row) (t : End) (size a : ℕ) → Apart 0 rows → Contains rows r → IsTrue (in_span r.span a) → 1 ≤ size → GivesOnly rows t size a → InRow r t size a
-row_has rows r t size a p c at some only = row_at 0 rows c.0 r t size a p c.1 c.2 at some only
 
 -- a stretch that a row gives enters the unit
 pub row_enters : (net : List NodeDecl) (agent unit end a size x : ℕ) (rows : List Row) (r : Row) → AreWindows net agent unit end rows → Contains rows r → InRow r (record { node = unit; base = x }) size a → Enters net agent a size unit x

@@ -1,14 +1,12 @@
 -- What an agent's address beside the buffer would see through a lone hop of an admissible placement: nothing.
-use Rattle.std.proofs.Common.{◌≡◌, ℕ, zero, suc, ◌+◌, ◌-◌, ◌*◌, ◌/◌, ◌%◌, ◌^◌, ◌<◌, ◌≤◌, ◌⊎◌, inl, inr, List, [], ◌∷◌, length, map, get_or, slice_get, Option, Some, None, IsTrue, refl, sym, ap, ◌∙◌, subst, arith, pow_pos, mod-lt}
+use Rattle.std.proofs.Common.{◌≡◌, ℕ, zero, suc, ◌+◌, ◌-◌, ◌*◌, ◌/◌, ◌%◌, ◌^◌, ◌<◌, ◌≤◌, inl, inr, List, [], ◌∷◌, length, get_or, slice_get, Some, sym, ap, ◌∙◌, subst, arith, pow_pos, mod-lt}
 use Rattle.std.proofs.Math.Nat.{div-add-mod', mod-le}
 use Rattle.std.proofs.lemmas.Option.{same_Some}
 use Rattle.dn_interval.specs.declared.row.End.{End}
 use Rattle.dn_interval.specs.declared.row.Row.{Row}
-use Rattle.dn_interval.specs.Rows.{Member as Has, further_end, GivenBy}
+use Rattle.dn_interval.specs.Rows.{GivenBy}
 use Rattle.dn_interval.specs.declared.span.TheConstants.{TOP}
-use Rattle.dn_interval.proofs.Membership.{in_from, hi_of}
-use Rattle.dn_net.specs.declared.node.Name.{Name}
-use Rattle.dn_net.specs.declared.node.NodeDecl.{NodeDecl}
+use Rattle.dn_interval.proofs.Membership.{hi_of}
 use Rattle.dn_net.specs.declared.node.Unit.{Unit as UnitPart}
 use Rattle.dn_net.specs.Decode.{unit_at, Resolves, StopsAt}
 use Rattle.dn_tables.specs.declared.placement.Hop.{Hop}
@@ -19,7 +17,9 @@ use Rattle.dn_walk.specs.Ends.{name_of_end}
 use Rattle.dn_flat.specs.Views.{ResolvesFrom}
 use Rattle.dn_place.specs.Blocks.{ShowsWithin}
 use Rattle.dn_place.specs.Candidates.{IsAddressed, IsUnder, NoneUnder, to_address}
-use Rattle.dn_place.specs.Rows.{AreToward, GivesStops, InRow, wanted_name}
+use Rattle.dn_place.specs.declared.preimages.Way.{Way}
+use Rattle.dn_place.specs.Preimages.{IsWay}
+use Rattle.dn_place.specs.Rows.{AreToward, GivesStops, wanted_name}
 use Rattle.dn_place.specs.Sought.{IsSearchReady, Sought}
 use Rattle.dn_place.proofs.Agents.{v_of}
 
@@ -72,28 +72,24 @@ row_stops s (hop ∷ hops) rows i r some l e f = λ a z g. f.given a z (low a z 
     low a z (inr g) = absurd g
     low a z (inl g) = let h = hi_of r.span a g.0 in omega (arith, h, r.span.within)
 
--- the stop of an address that a row gives
-row_stop : (net : List NodeDecl) (node : ℕ) (r : Row) (t : End) (size v a : ℕ) (g : InRow r t size v) → GivesStops net node r → r.span.lo ≤ a → a ≤ r.span.hi → StopsAt net (record { node = node; addr = a }) (record { node = t.node; addr = g.first + (a - r.span.lo) })
-row_stop net node r t size v a g gives from to = gives a (record { node = t.node; base = g.first + (a - r.span.lo) }) (inl (in_from r.span a from to, subst (λ (es : List End). Has (record { node = t.node; base = g.first + (a - r.span.lo) }) (map (further_end (a - r.span.lo)) es)) (sym g.ends) (inl refl)))
-
-module _ (s : Sought) (ready : IsSearchReady s) (hop : Hop) (u : UnitPart) (node v : ℕ) (r : Row) (e : unit_at s.net hop.unit ≡ Some u) (port : slice_get u.ports hop.port ≡ Some node) (agree : hop.x % 2 ^ u.page ≡ hop.y % 2 ^ u.page) (g : InRow r (wanted_name s.request (hop ∷ [])) s.request.size v) (gives : GivesStops s.net s.request.agent r) where
+module _ (s : Sought) (ready : IsSearchReady s) (hop : Hop) (u : UnitPart) (node : ℕ) (way : Way) (e : unit_at s.net hop.unit ≡ Some u) (port : slice_get u.ports hop.port ≡ Some node) (agree : hop.x % 2 ^ u.page ≡ hop.y % 2 ^ u.page) (g : IsWay s.net s.request.agent (wanted_name s.request (hop ∷ [])) s.request.size way) where
   -- so many addresses on from the buffer's first, past its last
-  after : (j : ℕ) (z : End) → s.request.size ≤ j → (hop.x + j) / 2 ^ u.page ≡ (hop.x + (s.request.size - 1)) / 2 ^ u.page → v + j ≤ r.span.hi → ResolvesFrom s.net node (hop.y + j) z → NoneUnder s (to_address 1 (hop ∷ []) v)
+  after : (j : ℕ) (z : End) → s.request.size ≤ j → (hop.x + j) / 2 ^ u.page ≡ (hop.x + (s.request.size - 1)) / 2 ^ u.page → way.v + j ≤ way.last → ResolvesFrom s.net node (hop.y + j) z → NoneUnder s (to_address 1 (hop ∷ []) way.v)
   after j z past slot to res = record { none = λ q under. absurd (go q under) }
     where
-      stop : StopsAt s.net (record { node = s.request.agent; addr = v + j }) (record { node = hop.unit; addr = hop.x + j })
-      stop = subst (λ m. StopsAt s.net (record { node = s.request.agent; addr = v + j }) (record { node = hop.unit; addr = m })) (let f : g.first + ((v + j) - r.span.lo) ≡ hop.x + j = omega (arith, g.base, g.from) in f) (row_stop s.net s.request.agent r (wanted_name s.request (hop ∷ [])) s.request.size v (v + j) g gives (omega (arith, g.from)) to)
+      stop : StopsAt s.net (record { node = s.request.agent; addr = way.v + j }) (record { node = hop.unit; addr = hop.x + j })
+      stop = subst (λ m. StopsAt s.net (record { node = s.request.agent; addr = way.v + j }) (record { node = hop.unit; addr = m })) (let f : g.base + ((way.v + j) - way.first) ≡ hop.x + j = omega (arith, g.wanted, g.from) in f) (g.stops (way.v + j) (omega (arith, g.from)) to)
 
       sent : Resolves s.net (record { node = node; addr = (hop.y / 2 ^ u.page + ((hop.x + j) / 2 ^ u.page - hop.x / 2 ^ u.page)) * 2 ^ u.page + (hop.x + j) % 2 ^ u.page }) (name_of_end z)
       sent = subst (λ m. Resolves s.net (record { node = node; addr = m }) (name_of_end z)) (sym (output_of_hop (2 ^ u.page) hop.x hop.y j (pow_pos u.page) agree)) res
 
-      go : (q : Place) → IsUnder s (to_address 1 (hop ∷ []) v) q → ⊥
+      go : (q : Place) → IsUnder s (to_address 1 (hop ∷ []) way.v) q → ⊥
       go q under =
-          let w = v_of s (hop ∷ []) q v under in
-          ready.none_beside q hop u node (s.request.size - 1) (v + j) (hop.x + j) (name_of_end z) under.is w.1 e port (omega (arith, ready.some)) slot stop (λ i l f. omega (arith, f, w.0, l, past)) sent
+          let w = v_of s (hop ∷ []) q way.v under in
+          ready.none_beside q hop u node (s.request.size - 1) (way.v + j) (hop.x + j) (name_of_end z) under.is w.1 e port (omega (arith, ready.some)) slot stop (λ i l f. omega (arith, f, w.0, l, past)) sent
 
   -- so many addresses before its first
-  before : (k : ℕ) (z : End) → 1 ≤ k → k ≤ hop.x % 2 ^ u.page → r.span.lo + k ≤ v → ResolvesFrom s.net node (hop.y - k) z → NoneUnder s (to_address 1 (hop ∷ []) v)
+  before : (k : ℕ) (z : End) → 1 ≤ k → k ≤ hop.x % 2 ^ u.page → way.first + k ≤ way.v → ResolvesFrom s.net node (hop.y - k) z → NoneUnder s (to_address 1 (hop ∷ []) way.v)
   before k z some small from res = record { none = λ q under. absurd (go q under) }
     where
       low : k ≤ hop.x
@@ -105,53 +101,50 @@ module _ (s : Sought) (ready : IsSearchReady s) (hop : Hop) (u : UnitPart) (node
       slot : (hop.x - k) / 2 ^ u.page ≡ (hop.x + 0) / 2 ^ u.page
       slot = is.slot ∙ ap (λ m. m / 2 ^ u.page) (let f : hop.x ≡ hop.x + 0 = omega arith in f)
 
-      stop : StopsAt s.net (record { node = s.request.agent; addr = v - k }) (record { node = hop.unit; addr = hop.x - k })
-      stop = subst (λ m. StopsAt s.net (record { node = s.request.agent; addr = v - k }) (record { node = hop.unit; addr = m })) (let f : g.first + ((v - k) - r.span.lo) ≡ hop.x - k = omega (arith, g.base, from, low) in f) (row_stop s.net s.request.agent r (wanted_name s.request (hop ∷ [])) s.request.size v (v - k) g gives (omega (arith, from)) (omega (arith, g.to, ready.some)))
+      stop : StopsAt s.net (record { node = s.request.agent; addr = way.v - k }) (record { node = hop.unit; addr = hop.x - k })
+      stop = subst (λ m. StopsAt s.net (record { node = s.request.agent; addr = way.v - k }) (record { node = hop.unit; addr = m })) (let f : g.base + ((way.v - k) - way.first) ≡ hop.x - k = omega (arith, g.wanted, from, low) in f) (g.stops (way.v - k) (omega (arith, from)) (omega (arith, g.to, ready.some)))
 
       sent : Resolves s.net (record { node = node; addr = (hop.y / 2 ^ u.page + ((hop.x - k) / 2 ^ u.page - hop.x / 2 ^ u.page)) * 2 ^ u.page + (hop.x - k) % 2 ^ u.page }) (name_of_end z)
       sent = subst (λ m. Resolves s.net (record { node = node; addr = m }) (name_of_end z)) (sym is.sent) res
 
-      go : (q : Place) → IsUnder s (to_address 1 (hop ∷ []) v) q → ⊥
+      go : (q : Place) → IsUnder s (to_address 1 (hop ∷ []) way.v) q → ⊥
       go q under =
-          let w = v_of s (hop ∷ []) q v under in
-          ready.none_beside q hop u node 0 (v - k) (hop.x - k) (name_of_end z) under.is w.1 e port (omega (arith, ready.some)) slot stop (λ i l f. omega (arith, f, w.0, some, from)) sent
+          let w = v_of s (hop ∷ []) q way.v under in
+          ready.none_beside q hop u node 0 (way.v - k) (hop.x - k) (name_of_end z) under.is w.1 e port (omega (arith, ready.some)) slot stop (λ i l f. omega (arith, f, w.0, some, from)) sent
 
   -- so where such an address resolves to a name, no placement that is looked for stands there
-  pub beside_after : (last more : ℕ) → last ≡ hop.y + (s.request.size - 1) → (hop.x + (s.request.size - 1)) % 2 ^ u.page + more < 2 ^ u.page → v + (s.request.size - 1) + more ≤ r.span.hi → ShowsWithin s.net node (last + 1) (last + more) → NoneUnder s (to_address 1 (hop ∷ []) v)
+  pub beside_after : (last more : ℕ) → last ≡ hop.y + (s.request.size - 1) → (hop.x + (s.request.size - 1)) % 2 ^ u.page + more < 2 ^ u.page → way.v + (s.request.size - 1) + more ≤ way.last → ShowsWithin s.net node (last + 1) (last + more) → NoneUnder s (to_address 1 (hop ∷ []) way.v)
   beside_after last more is small to shows =
       after (shows.address - hop.y) shows.name (omega (arith, shows.from, is, ready.some))
       (ap (λ m. m / 2 ^ u.page) (let f : hop.x + (shows.address - hop.y) ≡ (hop.x + (s.request.size - 1)) + (shows.address - last) = omega (arith, shows.from, is) in f) ∙ next_slot (2 ^ u.page) (hop.x + (s.request.size - 1)) (shows.address - last) (pow_pos u.page) (omega (arith, small, shows.from, shows.to)))
       (omega (arith, to, shows.from, shows.to, is))
       (subst (λ m. ResolvesFrom s.net node m shows.name) (let f : shows.address ≡ hop.y + (shows.address - hop.y) = omega (arith, shows.from, is) in f) shows.resolves)
 
-  pub beside_before : (fewer : ℕ) → fewer ≤ hop.x % 2 ^ u.page → r.span.lo + fewer ≤ v → ShowsWithin s.net node (hop.y - fewer) (hop.y - 1) → 1 ≤ fewer → NoneUnder s (to_address 1 (hop ∷ []) v)
+  pub beside_before : (fewer : ℕ) → fewer ≤ hop.x % 2 ^ u.page → way.first + fewer ≤ way.v → ShowsWithin s.net node (hop.y - fewer) (hop.y - 1) → 1 ≤ fewer → NoneUnder s (to_address 1 (hop ∷ []) way.v)
   beside_before fewer small from shows some =
       let low : hop.y % 2 ^ u.page ≤ hop.y = mod-le hop.y (2 ^ u.page) in
       let fits : fewer ≤ hop.y = omega (arith, small, agree, low) in
       before (hop.y - shows.address) shows.name (omega (arith, shows.to, fits, some)) (omega (arith, small, shows.from)) (omega (arith, from, shows.from))
       (subst (λ m. ResolvesFrom s.net node m shows.name) (let f : shows.address ≡ hop.y - (hop.y - shows.address) = omega (arith, shows.to, fits, some) in f) shows.resolves)
 
--- the agent meets a lone hop of this unit from an address, by a row that gives stops of its addresses; the hop leads
--- through a port to this node
-pub record IsLoneHop (s : Sought) (u : UnitPart) (node : ℕ) (hop : Hop) (r : Row) (v : ℕ) : Type 0 where
+-- the agent meets a lone hop of this unit from the address of a way; the hop leads through a port to this node
+pub record IsLoneHop (s : Sought) (u : UnitPart) (node : ℕ) (hop : Hop) (way : Way) : Type 0 where
   pub unit : unit_at s.net hop.unit ≡ Some u
   pub port : slice_get u.ports hop.port ≡ Some node
   pub agree : hop.x % 2 ^ u.page ≡ hop.y % 2 ^ u.page
   pub within : hop.x + s.request.size ≤ u.slots * 2 ^ u.page
   pub reached : hop.y + s.request.size ≤ 2 ^ u.reach
-  pub gives : GivesStops s.net s.request.agent r
-  pub inside : InRow r (wanted_name s.request (hop ∷ [])) s.request.size v
+  pub leads : IsWay s.net s.request.agent (wanted_name s.request (hop ∷ [])) s.request.size way
 
--- a hop that the agent meets alone, by a row that gives stops
-pub lone_hop : (s : Sought) (hop : Hop) (u : UnitPart) (node v : ℕ) (r : Row) → unit_at s.net hop.unit ≡ Some u → slice_get u.ports hop.port ≡ Some node → IsAddressed s (hop ∷ []) v → GivesStops s.net s.request.agent r → InRow r (wanted_name s.request (hop ∷ [])) s.request.size v → IsLoneHop s u node hop r v
-lone_hop s hop u node v r e port a gives inside = subst (λ (k : UnitPart). slice_get k.ports hop.port ≡ Some node → unit_at s.net hop.unit ≡ Some k → IsLoneHop s k node hop r v) same (λ f h. record {
+-- a hop that the agent meets alone
+pub lone_hop : (s : Sought) (hop : Hop) (u : UnitPart) (node : ℕ) (way : Way) → unit_at s.net hop.unit ≡ Some u → slice_get u.ports hop.port ≡ Some node → IsAddressed s (hop ∷ []) way.v → IsWay s.net s.request.agent (wanted_name s.request (hop ∷ [])) s.request.size way → IsLoneHop s u node hop way
+lone_hop s hop u node way e port a leads = subst (λ (k : UnitPart). slice_get k.ports hop.port ≡ Some node → unit_at s.net hop.unit ≡ Some k → IsLoneHop s k node hop way) same (λ f h. record {
   unit = h;
   port = f;
   agree = j.fits.agree;
   within = j.fits.within;
   reached = j.fits.reached;
-  gives = gives;
-  inside = inside;
+  leads = leads;
 }) port e
   where
     j : Joins s.net s.slots s.request hop []

@@ -1,12 +1,12 @@
 -- One level of the search: placements whose keys begin so, by the number with which they go on.
-use Rattle.std.proofs.Common.{◌≡◌, ℕ, suc, ◌+◌, ◌<◌, ◌≤◌, ◌⊎◌, inl, inr, false, List, [], ◌∷◌, ◌++◌, sym, ap, ◌∙◌, subst, arith, append_assoc}
+use Rattle.std.proofs.Common.{◌≡◌, ℕ, suc, ◌+◌, ◌<◌, ◌≤◌, ◌⊎◌, inl, inr, false, List, [], ◌∷◌, ◌++◌, Option, Some, None, sym, ap, ◌∙◌, subst, arith, append_assoc}
 use Rattle.std.proofs.lemmas.Bool.{cases_lt, cases_order}
 use Rattle.dn_tables.specs.Placement.{Place}
 use Rattle.dn_place.specs.Sought.{Sought}
 use Rattle.dn_placement.specs.Keys.{comes_before, Begins}
 use Rattle.dn_placement.specs.Order.{key_of, precedes}
 use Rattle.dn_placement.proofs.Keys.{same_front, not_before}
-use Rattle.dn_place.specs.Candidates.{IsUnder, NoneUnder, IsFirstUnder}
+use Rattle.dn_place.specs.Candidates.{IsUnder, NoneUnder, IsFirstOrNone, IsFirstUnder}
 
 -- there is none whose key goes on with a number below this one
 pub record NoneBelow (s : Sought) (front : List ℕ) (bound : ℕ) : Type 0 where
@@ -57,3 +57,24 @@ found_first s front i p b f = record {
 -- where each placement goes on with a number below the bound, there is none
 pub none_left : (s : Sought) (front : List ℕ) (bound : ℕ) → NoneBelow s front bound → ((q : Place) → IsUnder s front q → (j : ℕ) × (j < bound) × Begins (front ++ j ∷ []) (key_of s.net q)) → NoneUnder s front
 none_left s front bound b g = record { none = λ q u. let w = g q u in b.none q w.0 w.1 (record { is = u.is; begins = w.2 }) }
+
+-- where no other number goes on, the first that goes on with a number is the first of all
+pub only_number : (s : Sought) (front : List ℕ) (x : ℕ) (found : Option Place) → ((q : Place) → IsUnder s front q → (j : ℕ) × Begins (front ++ j ∷ []) (key_of s.net q)) → ((j : ℕ) → (j ≡ x → ⊥) → NoneUnder s (front ++ j ∷ [])) → IsFirstOrNone s (front ++ x ∷ []) found → IsFirstOrNone s front found
+only_number s front x found goes others a = by found a
+  where
+    differ : (j : ℕ) → j ≡ x → j < x → ⊥
+    differ j p n = omega arith
+
+    below : NoneBelow s front x
+    below = leapt s front 0 x (begun s front) (λ q j m n v. (others j (λ p. differ j p n)).none q v)
+
+    goes_below : (q : Place) → IsUnder s front q → (j : ℕ) × (j < x + 1) × Begins (front ++ j ∷ []) (key_of s.net q)
+    goes_below q u = let k = goes q u in (k.0, small k.0 k.1 (cases_lt k.0 (x + 1)), k.1)
+      where
+        small : (j : ℕ) → Begins (front ++ j ∷ []) (key_of s.net q) → (j < x + 1) ⊎ (x + 1 ≤ j) → j < x + 1
+        small j b (inl l) = l
+        small j b (inr l) = absurd ((others j (λ f. omega arith)).none q (record { is = u.is; begins = b }))
+
+    by : (o : Option Place) → IsFirstOrNone s (front ++ x ∷ []) o → IsFirstOrNone s front o
+    by None a = none_left s front (x + 1) (next_one s front x below a) goes_below
+    by (Some p) a = found_first s front x p below a

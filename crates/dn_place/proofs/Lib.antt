@@ -17,6 +17,7 @@ pub mod Shut
 pub mod Stretches
 pub mod Tops
 pub mod Toward
+pub mod Turned
 pub mod Unaccepted
 pub mod Units
 pub mod Usable

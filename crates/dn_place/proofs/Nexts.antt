@@ -1,6 +1,6 @@
 -- The next hop of placements that end with some hops.
 use Rattle.std.proofs.Common.{◌≡◌, ℕ, suc, ◌+◌, ◌-◌, ◌*◌, ◌/◌, ◌%◌, ◌^◌, ◌<◌, ◌≤◌, ◌⊎◌, inl, inr, Bool, true, false, List, [], ◌∷◌, ◌++◌, length, slice_get, get_or, Option, Some, None, IsTrue, refl, sym, ap, ◌∙◌, subst, arith, append_assoc, length-append}
-use Rattle.std.proofs.lemmas.Bool.{cases_lt, cases_order, false≢true}
+use Rattle.std.proofs.lemmas.Bool.{cases_lt, false≢true}
 use Rattle.std.proofs.lemmas.Option.{slice_get_within, slice_get-get_or, get_or_from_slice_get}
 use Rattle.std.proofs.lemmas.Nat.{pow_pos, le-div}
 use Rattle.std.proofs.Math.Nat.{mul-le-mul_left, mul-le-mul_right, add-mod_right, mod-add-div', div-mul-le_self}
@@ -20,7 +20,7 @@ use Rattle.dn_place.specs.Slots.{AreBarred, AreRun, AreShut, AreUsable, AreUsele
 use Rattle.dn_place.specs.Rows.{AreToward, wanted_name}
 use Rattle.dn_place.proofs.Stretches.{GivesOnly}
 use Rattle.dn_place.specs.Candidates.{IsUnder, NoneUnder, IsFirstOrNone, IsChosen, key_of_hops, to_unit, to_port, to_output}
-use Rattle.dn_place.proofs.Levels.{NoneBelow, begun, found_first, leapt, next_one, none_left}
+use Rattle.dn_place.proofs.Levels.{NoneBelow, begun, leapt, next_one, none_left, only_number}
 use Rattle.dn_place.proofs.Openings.{Opened, opened}
 use Rattle.dn_place.proofs.Wholes.{whole}
 use Rattle.dn_place.proofs.Meetings.{meets_gives}
@@ -337,6 +337,27 @@ entered s count hops q given entry ready e one asked v w = go s.at refl
         let low : at ≤ top = omega (arith, v.is.is_placement.fits, ready.some) in
         e.reached at (name_on w.opens.hop.unit w.opens.hop.x 0) p low given_at ∙ ap (λ (z : End). Some z) (plain w.opens.hop.unit w.opens.hop.x)
 
+-- a placement's next hop, where its input is given too
+record Entered (s : Sought) (count : ℕ) (hops : List Hop) (q : Place) (unit port y x : ℕ) : Type 0 where
+  next : Next s count hops q (unit ∷ port ∷ y ∷ x ∷ [])
+  is_unit : next.opens.hop.unit ≡ unit
+  is_input : next.opens.hop.x ≡ x
+
+input_of : (s : Sought) (count : ℕ) (hops : List Hop) (q : Place) (unit port y x : ℕ) → length hops < count → IsUnder s (to_output count hops unit port y ++ x ∷ []) q → Entered s count hops q unit port y x
+input_of s count hops q unit port y x l v = record { next = w; is_unit = same.0; is_input = same.1 }
+  where
+    given : List ℕ
+    given = unit ∷ port ∷ y ∷ x ∷ []
+
+    w : Next s count hops q given
+    w = next_of s count hops q given l (subst (λ f. IsUnder s f q) (behind count hops unit port y x) v)
+
+    ends : (a b c d a' b' c' d' : ℕ) (m r : List ℕ) → (a ∷ b ∷ c ∷ d ∷ m) ≡ (a' ∷ b' ∷ c' ∷ d' ∷ r) → (a ≡ a') × (d ≡ d')
+    ends a b c d a' b' c' d' m r p = (cc, cc)
+
+    same : (w.opens.hop.unit ≡ unit) × (w.opens.hop.x ≡ x)
+    same = ends w.opens.hop.unit w.opens.hop.port w.opens.hop.y w.opens.hop.x unit port y x w.opens.rest w.rest w.split
+
 -- an input that the address asked for does not reach
 pub not_entered : (s : Sought) (count : ℕ) (hops : List Hop) (unit port y x : ℕ) (entry : Option End) → IsSearchReady s → IsEntry s.net s.request.agent s.at entry → length hops < count → count ≡ suc (length hops) → (entry ≡ None → ⊥) → ((z : End) → entry ≡ Some z → z.base ≡ x → ⊥) → NoneUnder s (to_output count hops unit port y ++ x ∷ [])
 not_entered s count hops unit port y x entry ready e l one asked other = record { none = λ q v. absurd (go q v) }
@@ -344,17 +365,10 @@ not_entered s count hops unit port y x entry ready e l one asked other = record 
     given : List ℕ
     given = unit ∷ port ∷ y ∷ x ∷ []
 
-    last : (a b c d a' b' c' d' : ℕ) (m r : List ℕ) → (a ∷ b ∷ c ∷ d ∷ m) ≡ (a' ∷ b' ∷ c' ∷ d' ∷ r) → d ≡ d'
-    last a b c d a' b' c' d' m r p = cc
-
-    nested : to_output count hops unit port y ++ x ∷ [] ≡ key_of_hops count hops ++ given
-    nested = one_more (to_port count hops unit port) y (x ∷ []) ∙ one_more (to_unit count hops unit) port (y ∷ x ∷ []) ∙ one_more (key_of_hops count hops) unit (port ∷ y ∷ x ∷ [])
-
     go : (q : Place) → IsUnder s (to_output count hops unit port y ++ x ∷ []) q → ⊥
     go q v =
-        let u = subst (λ f. IsUnder s f q) nested v in
-        let w = next_of s count hops q given l u in
-        other (record { node = w.opens.hop.unit; base = w.opens.hop.x }) (entered s count hops q given entry ready e one asked u w) (last w.opens.hop.unit w.opens.hop.port w.opens.hop.y w.opens.hop.x unit port y x w.opens.rest w.rest w.split)
+        let w = input_of s count hops q unit port y x l v in
+        other (record { node = w.next.opens.hop.unit; base = w.next.opens.hop.x }) (entered s count hops q given entry ready e one asked (subst (λ f. IsUnder s f q) (behind count hops unit port y x) v) w.next) w.is_input
 
 -- a unit that the address asked for does not reach
 pub unentered : (s : Sought) (count : ℕ) (hops : List Hop) (unit : ℕ) (entry : Option End) → IsSearchReady s → IsEntry s.net s.request.agent s.at entry → length hops < count → count ≡ suc (length hops) → (entry ≡ None → ⊥) → ((x : ℕ) → entry ≡ Some (record { node = unit; base = x }) → ⊥) → NoneUnder s (to_unit count hops unit)
@@ -367,25 +381,10 @@ unentered s count hops unit entry ready e l one asked other = record { none = λ
 
 -- where no other input goes on, the first with an input is the first with the output
 pub only_input : (s : Sought) (count : ℕ) (hops : List Hop) (unit port y x : ℕ) (u : UnitPart) (found : Option Place) → length hops < count → unit_at s.net unit ≡ Some u → ((j : ℕ) → (j ≡ x → ⊥) → NoneUnder s (to_output count hops unit port y ++ j ∷ [])) → IsFirstOrNone s (to_output count hops unit port y ++ x ∷ []) found → IsFirstOrNone s (to_output count hops unit port y) found
-only_input s count hops unit port y x u None l e others a = none_left s (to_output count hops unit port y) (x + 1) (next_one s (to_output count hops unit port y) x below a) goes
+only_input s count hops unit port y x u found l e others a = only_number s (to_output count hops unit port y) x found goes others a
   where
-    below : NoneBelow s (to_output count hops unit port y) x
-    below = leapt s (to_output count hops unit port y) 0 x (begun s (to_output count hops unit port y)) (λ q j m n v. (others j (λ p. differ j p n)).none q v)
-      where
-        differ : (j : ℕ) → j ≡ x → j < x → ⊥
-        differ j p n = omega arith
-
-    goes : (q : Place) → IsUnder s (to_output count hops unit port y) q → (j : ℕ) × (j < x + 1) × Begins (to_output count hops unit port y ++ j ∷ []) (key_of s.net q)
-    goes q v = let w = through_output s count hops q unit port y u l e v in by w (cases_order w.x x)
-      where
-        by : (w : Output s u hops q unit port y (to_output count hops unit port y)) → (w.x ≡ x) ⊎ ((w.x < x) ⊎ (x < w.x)) → (j : ℕ) × (j < x + 1) × Begins (to_output count hops unit port y ++ j ∷ []) (key_of s.net q)
-        by w (inl p) = (w.x, omega arith, (w.rest, w.key ∙ sym (one_more (to_output count hops unit port y) w.x w.rest)))
-        by w (inr (inl p)) = (w.x, omega arith, (w.rest, w.key ∙ sym (one_more (to_output count hops unit port y) w.x w.rest)))
-        by w (inr (inr p)) = absurd ((others w.x (λ f. omega arith)).none q (record { is = v.is; begins = (w.rest, w.key ∙ sym (one_more (to_output count hops unit port y) w.x w.rest)) }))
-only_input s count hops unit port y x u (Some p) l e others a = found_first s (to_output count hops unit port y) x p (leapt s (to_output count hops unit port y) 0 x (begun s (to_output count hops unit port y)) (λ q j m n v. (others j (λ f. differ j f n)).none q v)) a
-  where
-    differ : (j : ℕ) → j ≡ x → j < x → ⊥
-    differ j f n = omega arith
+    goes : (q : Place) → IsUnder s (to_output count hops unit port y) q → (j : ℕ) × Begins (to_output count hops unit port y ++ j ∷ []) (key_of s.net q)
+    goes q v = let w = through_output s count hops q unit port y u l e v in (w.x, (w.rest, w.key ∙ sym (one_more (to_output count hops unit port y) w.x w.rest)))
 
 -- an input that does not agree with the output, or past the unit's end, or whose slots are not usable
 pub not_joined : (s : Sought) (count : ℕ) (hops : List Hop) (unit port y x : ℕ) (u : UnitPart) → length hops < count → unit_at s.net unit ≡ Some u → (JoinsIn s u (record { unit = unit; port = port; x = x; y = y }) hops → ⊥) → NoneUnder s (to_output count hops unit port y ++ x ∷ [])
@@ -395,22 +394,13 @@ not_joined s count hops unit port y x u l e unjoined = record { none = λ q v. a
 pub crowd_bars : (s : Sought) (count : ℕ) (hops : List Hop) (unit port y x : ℕ) → IsSearchReady s → length hops < count → count ≡ suc (length hops) → HasCrowd s unit x → NoneUnder s (to_output count hops unit port y ++ x ∷ [])
 crowd_bars s count hops unit port y x ready l one crowd = record { none = λ q v. absurd (go q v) }
   where
-    given : List ℕ
-    given = unit ∷ port ∷ y ∷ x ∷ []
-
-    nested : to_output count hops unit port y ++ x ∷ [] ≡ key_of_hops count hops ++ given
-    nested = one_more (to_port count hops unit port) y (x ∷ []) ∙ one_more (to_unit count hops unit) port (y ∷ x ∷ []) ∙ one_more (key_of_hops count hops) unit (port ∷ y ∷ x ∷ [])
-
-    ends : (a b c d a' b' c' d' : ℕ) (m r : List ℕ) → (a ∷ b ∷ c ∷ d ∷ m) ≡ (a' ∷ b' ∷ c' ∷ d' ∷ r) → (a ≡ a') × (d ≡ d')
-    ends a b c d a' b' c' d' m r p = (cc, cc)
-
     go : (q : Place) → IsUnder s (to_output count hops unit port y ++ x ∷ []) q → ⊥
     go q v =
-        let w = next_of s count hops q given l (subst (λ f. IsUnder s f q) nested v) in
-        let same = ends w.opens.hop.unit w.opens.hop.port w.opens.hop.y w.opens.hop.x unit port y x w.opens.rest w.rest w.split in
+        let w = input_of s count hops q unit port y x l v in
+        let hop : Hop = w.next.opens.hop in
         let i : ℕ = crowd.0 in
-        let meets : StopsAt s.net (name_on s.request.agent q.v i) (name_on w.opens.hop.unit w.opens.hop.x i) = (subst (λ (h : List Hop). Meets s.net s.request s.request.agent q.v h) (first_hop s count hops q given one w) v.is.is_placement.meets) i crowd.1 in
-        let stop : StopsAt s.net (name_on s.request.agent q.v i) (record { node = unit; addr = x + i }) = subst (λ (n : ℕ). StopsAt s.net (name_on s.request.agent q.v i) (record { node = unit; addr = n + i })) same.1 (subst (λ (n : ℕ). StopsAt s.net (name_on s.request.agent q.v i) (record { node = n; addr = w.opens.hop.x + i })) same.0 meets) in
+        let meets : StopsAt s.net (name_on s.request.agent q.v i) (name_on hop.unit hop.x i) = (subst (λ (h : List Hop). Meets s.net s.request s.request.agent q.v h) (first_hop s count hops q (unit ∷ port ∷ y ∷ x ∷ []) one w.next) v.is.is_placement.meets) i crowd.1 in
+        let stop : StopsAt s.net (name_on s.request.agent q.v i) (record { node = unit; addr = x + i }) = subst (λ (n : ℕ). StopsAt s.net (name_on s.request.agent q.v i) (record { node = unit; addr = n + i })) w.is_input (subst (λ (n : ℕ). StopsAt s.net (name_on s.request.agent q.v i) (record { node = n; addr = hop.x + i })) w.is_unit meets) in
         let c : IsCrowded s.net (record { node = unit; addr = x + i }) = crowd.2 in
         let is_one : c.one ≡ name_on s.request.agent q.v i = ready.alone q i (record { node = unit; addr = x + i }) c.one v.is crowd.1 stop c.one_agent c.one_stops in
         let is_other : c.other ≡ name_on s.request.agent q.v i = ready.alone q i (record { node = unit; addr = x + i }) c.other v.is crowd.1 stop c.other_agent c.other_stops in
@@ -420,33 +410,24 @@ crowd_bars s count hops unit port y x ready l one crowd = record { none = λ q v
 pub stop_bars : (s : Sought) (count : ℕ) (hops : List Hop) (unit port y x : ℕ) (u : UnitPart) → IsSearchReady s → length hops < count → (count ≡ suc (length hops) → ⊥) → unit_at s.net unit ≡ Some u → HasAgentStop s u unit x → NoneUnder s (to_output count hops unit port y ++ x ∷ [])
 stop_bars s count hops unit port y x u ready l more e seen = record { none = λ q v. absurd (go q v) }
   where
-    given : List ℕ
-    given = unit ∷ port ∷ y ∷ x ∷ []
-
-    nested : to_output count hops unit port y ++ x ∷ [] ≡ key_of_hops count hops ++ given
-    nested = one_more (to_port count hops unit port) y (x ∷ []) ∙ one_more (to_unit count hops unit) port (y ∷ x ∷ []) ∙ one_more (key_of_hops count hops) unit (port ∷ y ∷ x ∷ [])
-
-    ends : (a b c d a' b' c' d' : ℕ) (m r : List ℕ) → (a ∷ b ∷ c ∷ d ∷ m) ≡ (a' ∷ b' ∷ c' ∷ d' ∷ r) → (a ≡ a') × (d ≡ d')
-    ends a b c d a' b' c' d' m r p = (cc, cc)
-
     go : (q : Place) → IsUnder s (to_output count hops unit port y ++ x ∷ []) q → ⊥
-    go q v = by w.opens.before w.opens.ends
+    go q v = by w.next.opens.before w.next.opens.ends
       where
-        w : Next s count hops q given
-        w = next_of s count hops q given l (subst (λ f. IsUnder s f q) nested v)
+        w : Entered s count hops q unit port y x
+        w = input_of s count hops q unit port y x l v
 
-        same : (w.opens.hop.unit ≡ unit) × (w.opens.hop.x ≡ x)
-        same = ends w.opens.hop.unit w.opens.hop.port w.opens.hop.y w.opens.hop.x unit port y x w.opens.rest w.rest w.split
+        hop : Hop
+        hop = w.next.opens.hop
 
-        stop : IsAgentStop s.net (name_on w.opens.hop.unit w.opens.hop.x seen.0)
-        stop = subst (λ (n : ℕ). IsAgentStop s.net (name_on n w.opens.hop.x seen.0)) (sym same.0) (subst (λ (n : ℕ). IsAgentStop s.net (name_on unit n seen.0)) (sym same.1) seen.2)
+        stop : IsAgentStop s.net (name_on hop.unit hop.x seen.0)
+        stop = subst (λ (n : ℕ). IsAgentStop s.net (name_on n hop.x seen.0)) (sym w.is_unit) (subst (λ (n : ℕ). IsAgentStop s.net (name_on unit n seen.0)) (sym w.is_input) seen.2)
 
-        free : IsTrue (s.slots.is_free w.opens.hop.unit ((w.opens.hop.x + seen.0) / 2 ^ u.page))
-        free = subst (λ (n : ℕ). IsTrue (s.slots.is_free n ((w.opens.hop.x + seen.0) / 2 ^ u.page))) (sym same.0) (subst (λ (n : ℕ). IsTrue (s.slots.is_free unit ((n + seen.0) / 2 ^ u.page))) (sym same.1) seen.3)
+        free : IsTrue (s.slots.is_free hop.unit ((hop.x + seen.0) / 2 ^ u.page))
+        free = subst (λ (n : ℕ). IsTrue (s.slots.is_free n ((hop.x + seen.0) / 2 ^ u.page))) (sym w.is_unit) (subst (λ (n : ℕ). IsTrue (s.slots.is_free unit ((n + seen.0) / 2 ^ u.page))) (sym w.is_input) seen.3)
 
-        by : (before : List Hop) → q.hops ≡ before ++ (w.opens.hop ∷ hops) → ⊥
-        by [] f = more (sym (hops_counted s count hops q given w) ∙ ap length f)
-        by (first ∷ ahead) f = ready.leaves q first w.opens.hop ahead hops u seen.0 v.is f (ap (λ (n : ℕ). unit_at s.net n) same.0 ∙ e) seen.1 free stop
+        by : (before : List Hop) → q.hops ≡ before ++ (hop ∷ hops) → ⊥
+        by [] f = more (sym (hops_counted s count hops q (unit ∷ port ∷ y ∷ x ∷ []) w.next) ∙ ap length f)
+        by (first ∷ ahead) f = ready.leaves q first hop ahead hops u seen.0 v.is f (ap (λ (n : ℕ). unit_at s.net n) w.is_unit ∙ e) seen.1 free stop
 
 -- an input that serves no hop
 pub not_served : (s : Sought) (count : ℕ) (hops : List Hop) (unit port y x place from : ℕ) (u : UnitPart) → IsSearchReady s → length hops < count → place ≡ count - length hops → unit_at s.net unit ≡ Some u → IsUseless s u place (record { unit = unit; port = port; x = from; y = y }) x → NoneUnder s (to_output count hops unit port y ++ x ∷ [])

@@ -107,6 +107,7 @@ ready net slots rq at legal held empty rights agent some fits = record {
   leaves = λ q first hop ahead behind u i is split e few free seen. not_seen net legal (one_stop net legal) slots rq q held rights empty agent is.is_placement is.admissible first hop ahead behind u i split e few free seen;
   few = legal.is_net.few;
   agent = agent_there net rq.agent agent;
+  is_agent = agent;
   some = some;
   fits = fits;
 }

@@ -1,10 +1,12 @@
 -- Rows that give one name to each address of a stretch.
-use Rattle.std.proofs.Common.{◌≡◌, ℕ, suc, ◌+◌, ◌-◌, ◌<◌, ◌≤◌, ◌⊎◌, ◌↔◌, inl, inr, Bool, true, false, ◌&&◌, ◌||◌, nat_lt, nat_eq, List, [], ◌∷◌, map, refl, sym, ap, ◌∙◌, subst, arith, IsTrue}
+use Rattle.std.proofs.Common.{◌≡◌, ℕ, zero, suc, ◌+◌, ◌-◌, ◌<◌, ◌≤◌, ◌⊎◌, ◌↔◌, inl, inr, Bool, true, false, ◌&&◌, ◌||◌, nat_lt, nat_eq, List, [], ◌∷◌, length, map, get_or, refl, sym, ap, ◌∙◌, subst, arith, IsTrue}
+use Rattle.std.specs.List.{Contains}
 use Rattle.std.proofs.lemmas.Bool.{cases_lt, false≢true, le-ltb}
 use Rattle.dn_interval.specs.declared.row.End.{End}
 use Rattle.dn_interval.specs.declared.row.Row.{Row}
 use Rattle.dn_interval.specs.Rows.{Member, further_end, end_lt, Ascending, HasEnds, Parted, Apart, GivenBy}
-use Rattle.dn_interval.proofs.Membership.{in_from, lo_of}
+use Rattle.dn_interval.specs.Spans.{in_span}
+use Rattle.dn_interval.proofs.Membership.{hi_of, in_from, lo_of}
 use Rattle.dn_interval.proofs.Normal.{nothing_below, behind_first}
 use Rattle.dn_place.specs.Rows.{InRow}
 
@@ -87,3 +89,27 @@ in_head from r rest t size a p some h g = record {
         let e : a + (suc r.span.hi - a) ≡ suc r.span.hi = omega arith in
         let l : suc r.span.hi - a < size = omega arith in
         absurd (past rest p.3 p.4 (suc r.span.hi - a) l e (λ z. ((λ x. (at (suc r.span.hi - a) l (suc r.span.hi) e z).0 (inr x)), (λ x. behind_first r rest (suc r.span.hi) z (omega arith) ((at (suc r.span.hi - a) l (suc r.span.hi) e z).1 x)))))
+
+-- a row after others begins after them
+row_after : (from : ℕ) (rows : List Row) (k : ℕ) (r : Row) → Apart from rows → k < length rows → get_or rows k r ≡ r → from ≤ r.span.lo
+row_after from [] k r p l g = absurd (omega arith)
+row_after from (q ∷ rows) zero r p l g = subst (λ (x : Row). from ≤ x.span.lo) g p.0
+row_after from (q ∷ rows) (suc k) r p l g =
+    let more : suc q.span.hi ≤ r.span.lo = row_after (suc q.span.hi) rows k r p.4 (omega arith) g in
+    let low : from ≤ q.span.lo = p.0 in
+    let order : q.span.lo ≤ q.span.hi = q.span.ordered in
+    omega arith
+
+-- the row that has the first address of a stretch has all of it
+row_at : (from : ℕ) (rows : List Row) (k : ℕ) (r : Row) (t : End) (size a : ℕ) → Apart from rows → k < length rows → get_or rows k r ≡ r → IsTrue (in_span r.span a) → 1 ≤ size → GivesOnly rows t size a → InRow r t size a
+row_at from [] k r t size a p l g at some only = absurd (omega arith)
+row_at from (q ∷ rows) zero r t size a p l g at some only =
+    subst (λ (x : Row). InRow x t size a) g (in_head from q rows t size a p some (subst (λ (x : Row). a ≤ x.span.hi) (sym g) (hi_of r.span a at)) only)
+row_at from (q ∷ rows) (suc k) r t size a p l g at some only =
+    let behind : suc q.span.hi ≤ r.span.lo = row_after (suc q.span.hi) rows k r p.4 (omega arith) g in
+    let low : r.span.lo ≤ a = lo_of r.span a at in
+    row_at (suc q.span.hi) rows k r t size a p.4 (omega arith) g at some (λ i m z. ((λ x. (only i m z).0 (inr x)), (λ x. behind_first q rows (a + i) z (omega arith) ((only i m z).1 x))))
+
+-- so of rows that stand apart, the one that has the first address of a stretch has all of it
+pub row_has : (rows : List Row) (r : Row) (t : End) (size a : ℕ) → Apart 0 rows → Contains rows r → IsTrue (in_span r.span a) → 1 ≤ size → GivesOnly rows t size a → InRow r t size a
+row_has rows r t size a p c at some only = row_at 0 rows c.0 r t size a p c.1 c.2 at some only

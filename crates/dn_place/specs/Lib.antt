@@ -3,6 +3,7 @@ pub mod Candidates
 pub mod Exits
 pub mod Hops
 pub mod Marks
+pub mod Preimages
 pub mod Problems
 pub mod Reaches
 pub mod Requests

@@ -89,6 +89,7 @@ pub record IsSearchReady (s : Sought) : Type 0 where
   pub leaves : LeavesAgentStops s
   pub few : length s.net ≤ 1024
   pub agent : s.request.agent < length s.net
+  pub is_agent : IsTrue (is_agent_at (slice_get s.net s.request.agent))
   pub some : 1 ≤ s.request.size
   pub fits : s.request.base + s.request.size ≤ top + 1
 

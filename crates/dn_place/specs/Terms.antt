@@ -4,6 +4,7 @@ pub use Rattle.dn_place.specs.Candidates.{CanOwn, IsAddressed, IsChosen, IsFirst
 pub use Rattle.dn_place.specs.Exits.{AreExits, AreExitsTo, AreLone, IsExit, IsLone, IsRankedExit, exit_rank}
 pub use Rattle.dn_place.specs.Hops.{hops_view}
 pub use Rattle.dn_place.specs.Marks.{AreMarked, AreUnitsFrom, IsEntry, Keeps, MarkedBelow, Marks, MarksAfter, MarksAll, MarksListed, is_marked, mark_at}
+pub use Rattle.dn_place.specs.Preimages.{ArePreimages, IsPreimage, IsTurned, IsWay, LeadsAlone}
 pub use Rattle.dn_place.specs.Reaches.{IsHopReach}
 pub use Rattle.dn_place.specs.Requests.{IsRequest}
 pub use Rattle.dn_place.specs.Rows.{AreToward, GivesNone, GivesStops, InRow, IsClear, is_past, wanted_name}

@@ -1,14 +1,15 @@
 //! The search, hop by hop from memory's end to the agent's end.
 
-ghost use Rattle.std.specs.Prelude.{◌≡◌, ◌∷◌, ◌%◌, ◌*◌, ◌/◌, ◌^◌, ◌+◌, ◌-◌, ◌<◌, ◌≤◌, ℕ, false, Some, IfOk, IsTrue, length, slice_get};
+ghost use Rattle.std.specs.Prelude.{◌≡◌, ◌∷◌, ◌%◌, ◌*◌, ◌/◌, ◌^◌, ◌+◌, ◌-◌, ◌<◌, ◌≤◌, ℕ, false, Some, IfOk, IfSome, IsTrue, length, slice_get};
 ghost use Rattle.dn_net.specs.Terms.{unit_at};
 ghost use Rattle.dn_placement.specs.Terms.{Meets};
-ghost use Rattle.dn_place.specs.Terms.{AreToward, AreUsable, IsDoor, IsFirstOrNone, IsOutput, IsSearchStage, NoneUnder, hops_view, key_of_hops, to_output, to_port, to_unit};
+ghost use Rattle.dn_place.specs.Terms.{ArePreimages, AreToward, AreUsable, IsDoor, IsFirstOrNone, IsOutput, IsSearchReady, IsSearchStage, NoneUnder, hops_view, key_of_hops, to_output, to_port, to_unit};
 
 use crate::OutOfMemory;
 use crate::blocks::is_alone;
 use crate::hops::Hops;
 use crate::inputs::next_try;
+use crate::preimages::{Preimages, preimages_of};
 use crate::quest::{FoundPlacement, Quest, unit_of};
 use crate::reach::{ReachMarks, can_enter, can_stand, entry_at};
 use crate::rows::{is_clear, lent_rows, made_rows, output, wanted_name};
@@ -18,6 +19,10 @@ use dn_interval::{End, Row};
 use dn_net::node::Unit;
 use dn_tables::placement::Hop;
 use std::alloc::Global;
+
+/// So many inputs of the first hop from the agent's end are tried by the rows of the agent, before it is made at once which
+/// address leads to each input.
+const PLAIN_TRIES: u8 = 16;
 
 /// How far the search has come.
 #[derive(Clone, Copy)]
@@ -50,13 +55,10 @@ pub(crate) struct Door<'a> {
 pub(crate) fn by_hops<Q: Quest>(quest: &Q, stage: SearchStage) -> FoundPlacement
     requires consistent { Q.is_consistent quest.now }
     requires stage { IsSearchStage (Q.sought quest.now) stage }
-    requires some { 1 ≤ stage.count }
+    requires more { length (hops_view stage.chosen) < stage.count }
     ensures { IfOk result (λ found. IsFirstOrNone (Q.sought quest.now)
         (key_of_hops stage.entry.count (hops_view stage.entry.chosen)) found) }
 {
-    if stage.chosen.count() == stage.count {
-        return by_agent(stage.alloc, quest, stage.chosen);
-    }
     let place = stage.count - stage.chosen.count();
     let reach = stage.reach;
     let units = reach.units.as_slice();
@@ -157,18 +159,6 @@ fn by_output<Q: Quest>(quest: &Q, stage: SearchStage, door: Door, y: u64) -> Fou
     if gives_more(quest, stage, door, y)? {
         return Ok(None);
     }
-    by_whole(quest, stage, door, y)
-}
-
-/// The same with an output that may give whole blocks.
-#[cycle(hops)]
-fn by_whole<Q: Quest>(quest: &Q, stage: SearchStage, door: Door, y: u64) -> FoundPlacement
-    requires consistent { Q.is_consistent quest.now }
-    requires output { IsOutput (Q.sought quest.now) stage door y }
-    ensures { IfOk result (λ found. IsFirstOrNone (Q.sought quest.now)
-        (to_output stage.entry.count (hops_view stage.entry.chosen)
-        door.entry.unit door.entry.port y) found) }
-{
     match entry_at(stage.reach, stage.count - stage.chosen.count()) {
         Some(entry) => by_entry(quest, stage, door, y, entry),
         None => by_inputs(quest, stage, door, y),
@@ -207,7 +197,7 @@ fn by_entry<Q: Quest>(
     if next != x {
         return Ok(None);
     }
-    by_input(quest, stage, door.translator, hop)
+    by_input(quest, stage, door.translator, hop, &None)
 }
 
 /// The same with each input in turn: inputs agree with the output modulo the page.
@@ -225,6 +215,8 @@ fn by_inputs<Q: Quest>(quest: &Q, stage: SearchStage, door: Door, y: u64) -> Fou
     let place = stage.count - stage.chosen.count();
     let mut x = y % page;
     let mut free = 0;
+    let mut made = None;
+    let mut tries = PLAIN_TRIES;
     'inputs: while x + size <= end {
         let hop = Hop {
             unit: door.unit,
@@ -236,9 +228,18 @@ fn by_inputs<Q: Quest>(quest: &Q, stage: SearchStage, door: Door, y: u64) -> Fou
         let next = tried.x;
         free = tried.free;
         if next == x {
-            if let Some(placement) = by_input(quest, stage, door.translator, hop)? {
+            let now = due_preimages(
+                quest,
+                stage.alloc,
+                door.unit,
+                place == 1 && tries == 0,
+                made,
+            )?;
+            if let Some(placement) = by_input(quest, stage, door.translator, hop, &now)? {
                 return Ok(Some(placement));
             }
+            made = now;
+            tries = tries.saturating_sub(1);
             x += page;
         } else {
             x = next;
@@ -247,9 +248,37 @@ fn by_inputs<Q: Quest>(quest: &Q, stage: SearchStage, door: Door, y: u64) -> Fou
     Ok(None)
 }
 
+/// The preimages that are made; where there are none and they are due, those in this unit.
+fn due_preimages<Q: Quest>(
+    quest: &Q,
+    alloc: Global,
+    unit: u16,
+    due: bool,
+    made: Option<Preimages>,
+) -> Result<Option<Preimages>, OutOfMemory>
+    requires consistent { Q.is_consistent quest.now }
+    requires ready { IsSearchReady (Q.sought quest.now) }
+    requires made { IfSome made (λ p. ArePreimages (Q.sought quest.now).net
+        (Q.sought quest.now).request.agent p) }
+    ensures { IfOk result (λ now. IfSome now (λ p. ArePreimages (Q.sought quest.now).net
+        (Q.sought quest.now).request.agent p)) }
+{
+    if !due || made.is_some() {
+        return Ok(made);
+    }
+    let fresh = preimages_of(alloc, quest, unit)?;
+    Ok(Some(fresh))
+}
+
 /// The same with an input, so with a whole hop.
 #[cycle(hops)]
-fn by_input<Q: Quest>(quest: &Q, stage: SearchStage, translator: &Unit, hop: Hop) -> FoundPlacement
+fn by_input<Q: Quest>(
+    quest: &Q,
+    stage: SearchStage,
+    translator: &Unit,
+    hop: Hop,
+    preimages: &Option<Preimages>,
+) -> FoundPlacement
     requires consistent { Q.is_consistent quest.now }
     requires stage { IsSearchStage (Q.sought quest.now) stage }
     requires more { length (hops_view stage.chosen) < stage.count }
@@ -266,10 +295,15 @@ fn by_input<Q: Quest>(quest: &Q, stage: SearchStage, translator: &Unit, hop: Hop
     requires meets { (n : ℕ) → slice_get translator.now.ports hop.port ≡ Some n →
         Meets (Q.sought quest.now).net (Q.sought quest.now).request n hop.y
         (hops_view stage.chosen) }
+    requires preimages { IfSome preimages.now (λ p. ArePreimages (Q.sought quest.now).net
+        (Q.sought quest.now).request.agent p) }
     ensures { IfOk result (λ found. IsFirstOrNone (Q.sought quest.now)
         (key_of_hops stage.entry.count (hop ∷ hops_view stage.entry.chosen)) found) }
 {
     let chosen = stage.chosen.behind(hop);
+    if chosen.count() == stage.count {
+        return by_agent(stage.alloc, quest, chosen, preimages);
+    }
     by_hops(quest, SearchStage { chosen, ..stage })
 }
 

@@ -16,6 +16,7 @@ mod hops;
 mod inputs;
 mod lone;
 mod marks;
+mod preimages;
 mod problem;
 mod quest;
 pub mod reach;

@@ -1,9 +1,12 @@
 //! What is searched for and in what net, where slots and placements are tested by functions that are
 //! handed in.
 
-ghost use Rattle.std.specs.Prelude.{◌<◌, List, length, IfOk, IsTrue};
+ghost use Rattle.std.specs.Prelude.{◌≡◌, ℕ, ◌<◌, ◌≤◌, ◌↔◌, true, List, length, IfOk, IsTrue};
+ghost use Rattle.dn_interval.specs.declared.row.End.{End};
+ghost use Rattle.dn_interval.specs.declared.span.TheConstants.{TOP};
+ghost use Rattle.dn_interval.specs.Terms.{segs_give};
 ghost use Rattle.dn_net.specs.declared.node.NodeDecl.{NodeDecl};
-ghost use Rattle.dn_flat.specs.Terms.{AreFlats};
+ghost use Rattle.dn_flat.specs.Terms.{AreFlats, StopsFrom};
 ghost use Rattle.dn_place.specs.Terms.{ShowsWithin};
 
 use crate::OutOfMemory;
@@ -12,7 +15,7 @@ use crate::quest::Quest;
 use crate::slot_state::SlotState;
 use dn_flat::flats::Flats;
 use dn_flat::levels::Levels;
-use dn_interval::{End, Rows, Seg, Span};
+use dn_interval::{End, Rows, Seg, Span, TOP};
 use dn_net::net::Net;
 use dn_net::node::Unit;
 use dn_placement::request::Request;
@@ -88,6 +91,10 @@ impl<
         self.flats.toward(alloc, node, first, size)
     }
 
+    fn stops(&self, alloc: Global, node: u16) -> Result<Vec<Seg>, OutOfMemory> {
+        stops(alloc, self.flats, node)
+    }
+
     fn shows(&self, alloc: Global, node: u16, span: Span) -> Result<bool, OutOfMemory> {
         shows(alloc, self.flats, node, span)
     }
@@ -111,6 +118,24 @@ impl<
     fn is_exact(&self, v: u64, hops: Hops, own: u8) -> Result<bool, OutOfMemory> {
         (self.exact)(v, hops, own)
     }
+}
+
+/// The names in units to which the addresses of a node come, as segments.
+fn stops(alloc: Global, flats: &Flats, node: u16) -> Result<Vec<Seg>, OutOfMemory>
+    requires { node < length flats.now.nodes }
+    ensures { IfOk result (λ segs. (net : List NodeDecl) → AreFlats net flats.now →
+        (a : ℕ) (z : End) → a ≤ TOP →
+        (segs_give segs.items a z ≡ true) ↔ StopsFrom net node a z) }
+{
+    let mut segs = Vec::new(alloc);
+    let span = Span { lo: 0, hi: TOP };
+    let seg = Seg {
+        span,
+        node,
+        base: 0,
+    };
+    flats.push_stops(&mut segs, seg)?;
+    Ok(segs)
 }
 
 /// Whether an address of a span of a node is known to resolve to a name.

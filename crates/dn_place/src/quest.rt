@@ -8,7 +8,7 @@ use crate::OutOfMemory;
 use crate::hops::Hops;
 use crate::slot_state::SlotState;
 use dn_flat::levels::Levels;
-use dn_interval::{End, Rows, Span};
+use dn_interval::{End, Rows, Seg, Span};
 use dn_net::node::Unit;
 use dn_placement::request::Request;
 use dn_tables::placement::Placement;
@@ -19,13 +19,16 @@ pub(crate) type FoundPlacement = Result<Option<Placement>, OutOfMemory>;
 
 /// A request, and the net and the slots in which a placement of it is looked for.
 pub(crate) trait Quest {
-    ghost use Rattle.std.specs.Prelude.{◌≡◌, ◌+◌, ◌<◌, ◌≤◌, ◌↔◌, length, IfOk, IfSome, IsTrue};
+    ghost use Rattle.std.specs.Prelude.{◌≡◌, ◌+◌, ◌<◌, ◌≤◌, ◌↔◌, ℕ, true, length, IfOk, IfSome, IsTrue};
     ghost use Rattle.std.specs.Option.{option_copied};
     ghost use Rattle.dn_net.specs.Decode.{unit_at};
     ghost use Rattle.dn_flat.specs.Crowds.{AreAgentStops, AreCrowded};
     ghost use Rattle.dn_flat.specs.Levels.{IsLevels, ResolvesWhole};
     ghost use Rattle.dn_interval.specs.declared.span.TheConstants.{TOP};
+    ghost use Rattle.dn_interval.specs.declared.row.End.{End};
     ghost use Rattle.dn_interval.specs.Rows.{AreNormal};
+    ghost use Rattle.dn_interval.specs.Strands.{segs_give};
+    ghost use Rattle.dn_flat.specs.Views.{StopsFrom};
     ghost use Rattle.dn_placement.specs.Exposure.{IsAdmissible};
     ghost use Rattle.dn_placement.specs.Placement.{IsPlacement};
     ghost use Rattle.dn_place.specs.Blocks.{ShowsWithin};
@@ -74,6 +77,13 @@ pub(crate) trait Quest {
         requires within { first.base + size ≤ TOP + 1 }
         ensures { IfOk result (λ rows. AreNormal
             (ResolvesWhole (sought self.now).net node first size) rows) };
+
+    /// The names in units to which the addresses of a node come, as segments.
+    fn stops(&self, alloc: Global, node: u16) -> Result<Vec<Seg>, OutOfMemory>
+        requires consistent { is_consistent self.now }
+        requires there { node < length (sought self.now).net }
+        ensures { IfOk result (λ segs. (a : ℕ) (z : End) → a ≤ TOP →
+            (segs_give segs.items a z ≡ true) ↔ StopsFrom (sought self.now).net node a z) };
 
     /// Whether an address of a span of a node is known to resolve to a name.
     fn shows(&self, alloc: Global, node: u16, span: Span) -> Result<bool, OutOfMemory>

@@ -1,24 +1,84 @@
 //! The search among the placements whose hops are all chosen: the agent's address, and the own hop.
 
-ghost use Rattle.std.specs.Prelude.{◌≡◌, ◌∷◌, [], ◌≤◌, ◌↔◌, false, Some, IfOk, IfSome, IfNone, IsTrue, length, slice_get};
+ghost use Rattle.std.specs.Prelude.{◌≡◌, ◌∷◌, [], ◌≤◌, ◌↔◌, ℕ, List, false, Some, IfOk, IfSome, IfNone, IsTrue, length, slice_get};
+ghost use Rattle.dn_interval.specs.Terms.{AreNormal};
+ghost use Rattle.dn_net.specs.declared.node.NodeDecl.{NodeDecl};
 ghost use Rattle.dn_kind.specs.Terms.{both_rights};
 ghost use Rattle.dn_placement.specs.Terms.{IsAt, Leads, hop_page};
-ghost use Rattle.dn_place.specs.Terms.{AreToward, CanOwn, GivesStops, InRow, IsAddressed, IsChosen, IsFirstOrNone, IsSearchReady, NoneUnder, PagesBelow, PagesFrom, hops_view, key_of_hops, to_address, to_page, wanted_name};
+ghost use Rattle.dn_place.specs.Terms.{ArePreimages, AreToward, CanOwn, IsAddressed, IsChosen, IsFirstOrNone, IsPreimage, IsSearchReady, IsWay, NoneUnder, PagesBelow, PagesFrom, hops_view, key_of_hops, to_address, to_page, wanted_name};
 
 use crate::OutOfMemory;
 use crate::blocks::shows_some;
 use crate::hops::Hops;
+use crate::preimages::{Preimages, Way, way_to};
 use crate::quest::{FoundPlacement, Quest, unit_of};
 use crate::rows::{lent_rows, made_rows, output, wanted_name};
 use crate::slots::{is_hop_free, power};
-use dn_interval::Row;
+use dn_interval::{Row, Rows};
 use dn_kind::rights::Rights;
 use dn_net::node::Unit;
 use dn_tables::placement::Hop;
 use std::alloc::Global;
 
-/// The first placement of just these hops, by the rows of the agent that give the input of the first.
-pub(crate) fn by_agent<Q: Quest>(alloc: Global, quest: &Q, hops: Hops) -> FoundPlacement
+/// The first placement of just these hops: by the preimages of the unit of the first, where they are made.
+pub(crate) fn by_agent<Q: Quest>(
+    alloc: Global,
+    quest: &Q,
+    hops: Hops,
+    preimages: &Option<Preimages>,
+) -> FoundPlacement
+    requires consistent { Q.is_consistent quest.now }
+    requires ready { IsSearchReady (Q.sought quest.now) }
+    requires chosen { IsChosen (Q.sought quest.now) (length (hops_view hops)) (hops_view hops) }
+    requires some { 1 ≤ length (hops_view hops) }
+    requires preimages { IfSome preimages.now (λ p. ArePreimages (Q.sought quest.now).net
+        (Q.sought quest.now).request.agent p) }
+    ensures { IfOk result (λ found. IsFirstOrNone (Q.sought quest.now)
+        (key_of_hops (length (hops_view hops)) (hops_view hops)) found) }
+{
+    match preimages_in(preimages, wanted_name(quest.request(), hops).node) {
+        Some(rows) => by_preimages(alloc, quest, hops, rows),
+        None => by_stops(alloc, quest, hops),
+    }
+}
+
+/// The preimages in a unit, where they are made.
+fn preimages_in(preimages: &Option<Preimages>, unit: u16) -> Option<&Rows>
+    ensures { IfSome result (λ rows. (net : List NodeDecl) (agent : ℕ) →
+        IfSome preimages.now (λ p. ArePreimages net agent p) →
+        AreNormal (IsPreimage net agent unit) rows.now) }
+{
+    match preimages {
+        Some(made) if made.unit == unit => Some(&made.rows),
+        _ => None,
+    }
+}
+
+/// The same by the preimages of the input of the first hop: one address of the agent alone may lead there.
+fn by_preimages<Q: Quest>(alloc: Global, quest: &Q, hops: Hops, rows: &Rows) -> FoundPlacement
+    requires consistent { Q.is_consistent quest.now }
+    requires ready { IsSearchReady (Q.sought quest.now) }
+    requires chosen { IsChosen (Q.sought quest.now) (length (hops_view hops)) (hops_view hops) }
+    requires some { 1 ≤ length (hops_view hops) }
+    requires rows { AreNormal (IsPreimage (Q.sought quest.now).net
+        (Q.sought quest.now).request.agent
+        (wanted_name (Q.sought quest.now).request (hops_view hops)).node) rows.now }
+    ensures { IfOk result (λ found. IsFirstOrNone (Q.sought quest.now)
+        (key_of_hops (length (hops_view hops)) (hops_view hops)) found) }
+{
+    let request = quest.request();
+    let input = wanted_name(request, hops).base;
+    let Some(way) = way_to(rows, input, request.size) else {
+        return Ok(None);
+    };
+    if !is_at(quest.at(), way.v) {
+        return Ok(None);
+    }
+    by_way(alloc, quest, hops, way)
+}
+
+/// The same by the rows of the agent that give the input of the first hop.
+fn by_stops<Q: Quest>(alloc: Global, quest: &Q, hops: Hops) -> FoundPlacement
     requires consistent { Q.is_consistent quest.now }
     requires ready { IsSearchReady (Q.sought quest.now) }
     requires chosen { IsChosen (Q.sought quest.now) (length (hops_view hops)) (hops_view hops) }
@@ -52,7 +112,12 @@ fn by_rows<Q: Quest>(alloc: Global, quest: &Q, hops: Hops, rows: &[Row]) -> Foun
     'rows: for row in rows {
         if let Some(v) = output(row, target, size) {
             if is_at(quest.at(), v) {
-                if let Some(placement) = by_row(alloc, quest, hops, row, v)? {
+                let way = Way {
+                    first: row.span.lo,
+                    last: row.span.hi,
+                    v,
+                };
+                if let Some(placement) = by_way(alloc, quest, hops, way)? {
                     return Ok(Some(placement));
                 }
             }
@@ -61,42 +126,36 @@ fn by_rows<Q: Quest>(alloc: Global, quest: &Q, hops: Hops, rows: &[Row]) -> Foun
     Ok(None)
 }
 
-/// The same at the address that a row gives: with none where the row leads on to names beside the buffer.
-fn by_row<Q: Quest>(alloc: Global, quest: &Q, hops: Hops, row: &Row, v: u64) -> FoundPlacement
+/// The same at the address of a way of the agent: with none where the way leads on to names beside the buffer.
+fn by_way<Q: Quest>(alloc: Global, quest: &Q, hops: Hops, way: Way) -> FoundPlacement
     requires consistent { Q.is_consistent quest.now }
     requires ready { IsSearchReady (Q.sought quest.now) }
-    requires addressed { IsAddressed (Q.sought quest.now) (hops_view hops) v }
-    requires row { GivesStops (Q.sought quest.now).net (Q.sought quest.now).request.agent row.now }
-    requires inside { InRow row.now (wanted_name (Q.sought quest.now).request (hops_view hops))
-        (Q.sought quest.now).request.size v }
+    requires addressed { IsAddressed (Q.sought quest.now) (hops_view hops) way.v }
+    requires way { IsWay (Q.sought quest.now).net (Q.sought quest.now).request.agent
+        (wanted_name (Q.sought quest.now).request (hops_view hops))
+        (Q.sought quest.now).request.size way }
     ensures { IfOk result (λ found. IsFirstOrNone (Q.sought quest.now)
-        (to_address (length (hops_view hops)) (hops_view hops) v) found) }
+        (to_address (length (hops_view hops)) (hops_view hops) way.v) found) }
 {
     if let Hops::One(hop) = hops {
-        if shows_beside(alloc, quest, hop, row, v)? {
+        if shows_beside(alloc, quest, hop, way)? {
             return Ok(None);
         }
     }
-    by_address(alloc, quest, hops, v)
+    by_address(alloc, quest, hops, way.v)
 }
 
-/// Whether a row of the agent is known to lead on, through a lone hop, to a name beside the buffer: in a slot of its
+/// Whether a way of the agent is known to lead on, through a lone hop, to a name beside the buffer: in a slot of its
 /// first or last address.
-fn shows_beside<Q: Quest>(
-    alloc: Global,
-    quest: &Q,
-    hop: Hop,
-    row: &Row,
-    v: u64,
-) -> Result<bool, OutOfMemory>
+fn shows_beside<Q: Quest>(alloc: Global, quest: &Q, hop: Hop, way: Way) -> Result<bool, OutOfMemory>
     requires consistent { Q.is_consistent quest.now }
     requires ready { IsSearchReady (Q.sought quest.now) }
-    requires addressed { IsAddressed (Q.sought quest.now) (hop ∷ []) v }
-    requires row { GivesStops (Q.sought quest.now).net (Q.sought quest.now).request.agent row.now }
-    requires inside { InRow row.now (wanted_name (Q.sought quest.now).request (hop ∷ []))
-        (Q.sought quest.now).request.size v }
+    requires addressed { IsAddressed (Q.sought quest.now) (hop ∷ []) way.v }
+    requires way { IsWay (Q.sought quest.now).net (Q.sought quest.now).request.agent
+        (wanted_name (Q.sought quest.now).request (hop ∷ []))
+        (Q.sought quest.now).request.size way }
     ensures { IfOk result (λ more. IsTrue more → NoneUnder (Q.sought quest.now)
-        (to_address 1 (hop ∷ []) v)) }
+        (to_address 1 (hop ∷ []) way.v)) }
 {
     let Some(translator) = unit_of(quest, hop.unit) else {
         return Ok(false);
@@ -109,11 +168,11 @@ fn shows_beside<Q: Quest>(
     let back = size - 1;
     let last = hop.y + back;
     let rest = page - 1 - (hop.x + back) % page;
-    let more = rest.min(row.span.hi - (v + back));
+    let more = rest.min(way.last - (way.v + back));
     if shows_some(quest, alloc, node, last + 1, last + more)? {
         return Ok(true);
     }
-    let fewer = (hop.x % page).min(v - row.span.lo);
+    let fewer = (hop.x % page).min(way.v - way.first);
     if fewer == 0 {
         return Ok(false);
     }

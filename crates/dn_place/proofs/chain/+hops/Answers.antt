@@ -30,18 +30,18 @@ pub by_hops-loop-unit-init : goal.by_hops-loop-unit-init
 by_hops-loop-unit-init g t c = sifted_begun (g.Q.Quest.sought c.args.quest.now) c.args.stage.count (hops_view c.args.stage.chosen) c.as_slice-units.result.now (subst (λ (l : List ℕ). AreUnitsFrom (g.Q.Quest.sought c.args.quest.now).net 0 l) (sym c.as_slice-units.ensures.value) c.requires.stage.reach.units)
 
 pub by_hops-returns-in-Some : goal.by_hops-returns-in-Some
-by_hops-returns-in-Some g t c = sifted_found (g.Q.Quest.sought c.args.quest.now) c.args.stage.count (hops_view c.args.stage.chosen) c.as_slice-units.result.now c.loop-unit.unit-index (get_or c.as_slice-units.result.now c.loop-unit.unit-index 0) c.in-Some.placement (omega (arith, c.count.ensures, c.if-count-stage.false)) c.loop-unit-test.true refl (rw c.in-Some.is at c.in_ok-placement.ensures) c.loop-unit.invariant
+by_hops-returns-in-Some g t c = sifted_found (g.Q.Quest.sought c.args.quest.now) c.args.stage.count (hops_view c.args.stage.chosen) c.as_slice-units.result.now c.loop-unit.unit-index (get_or c.as_slice-units.result.now c.loop-unit.unit-index 0) c.in-Some.placement c.requires.more c.loop-unit-test.true refl (rw c.in-Some.is at c.in_ok-placement.ensures) c.loop-unit.invariant
 
 pub by_hops-loop-unit-preserved : goal.by_hops-loop-unit-preserved
-by_hops-loop-unit-preserved g t c = sifted_on (g.Q.Quest.sought c.args.quest.now) c.args.stage.count (hops_view c.args.stage.chosen) c.as_slice-units.result.now c.loop-unit.unit-index (get_or c.as_slice-units.result.now c.loop-unit.unit-index 0) (omega (arith, c.count.ensures, c.if-count-stage.false)) c.loop-unit-test.true refl
+by_hops-loop-unit-preserved g t c = sifted_on (g.Q.Quest.sought c.args.quest.now) c.args.stage.count (hops_view c.args.stage.chosen) c.as_slice-units.result.now c.loop-unit.unit-index (get_or c.as_slice-units.result.now c.loop-unit.unit-index 0) c.requires.more c.loop-unit-test.true refl
     (elim c.if-can_stand.branch [
       | by_hops-then-can_stand+in_ok-placement+in_default w ↦ rw w.in_default.is at w.in_ok-placement.ensures
-      | by_hops-else-can_stand w ↦ unmarked (g.Q.Quest.sought c.args.quest.now) c.args.stage.count (hops_view c.args.stage.chosen) (get_or c.as_slice-units.result.now c.loop-unit.unit-index 0) (c.args.stage.count - c.count-2.result) c.args.stage.reach.now.first.items c.args.stage.reach.now.second.items c.args.stage.reach.now.third.items c.requires.stage.ready c.requires.stage.reach.marked (omega (arith, c.count.ensures, c.if-count-stage.false)) c.requires.stage.chosen.most (omega (arith, c.count-2.ensures)) (sym c.can_stand.ensures ∙ w.if-can_stand.false)
+      | by_hops-else-can_stand w ↦ unmarked (g.Q.Quest.sought c.args.quest.now) c.args.stage.count (hops_view c.args.stage.chosen) (get_or c.as_slice-units.result.now c.loop-unit.unit-index 0) (c.args.stage.count - c.count.result) c.args.stage.reach.now.first.items c.args.stage.reach.now.second.items c.args.stage.reach.now.third.items c.requires.stage.ready c.requires.stage.reach.marked c.requires.more c.requires.stage.chosen.most (omega (arith, c.count.ensures)) (sym c.can_stand.ensures ∙ w.if-can_stand.false)
     ])
     c.loop-unit.invariant
 
 pub by_hops-returns : goal.by_hops-returns
-by_hops-returns g t c = sifted_done (g.Q.Quest.sought c.args.quest.now) c.args.stage.count (hops_view c.args.stage.chosen) c.as_slice-units.result.now c.loop-unit.unit-index (omega (arith, c.count.ensures, c.if-count-stage.false)) c.loop-unit-test.false c.loop-unit.invariant
+by_hops-returns g t c = sifted_done (g.Q.Quest.sought c.args.quest.now) c.args.stage.count (hops_view c.args.stage.chosen) c.as_slice-units.result.now c.loop-unit.unit-index c.requires.more c.loop-unit-test.false c.loop-unit.invariant
 
 pub by_unit-returns-then-not-can_enter : goal.by_unit-returns-then-not-can_enter
 by_unit-returns-then-not-can_enter g t c = unentered (g.Q.Quest.sought c.args.quest.now) c.args.stage.count (hops_view c.args.stage.chosen) c.args.unit c.args.stage.reach.now.entry c.requires.stage.ready (subst (λ (o : Option ℕ). IsEntry (g.Q.Quest.sought c.args.quest.now).net (g.Q.Quest.sought c.args.quest.now).request.agent o c.args.stage.reach.now.entry) c.requires.stage.at c.requires.stage.reach.entry) c.requires.more (omega (arith, c.can_enter.ensures.first c.if-not-can_enter.true, c.count.ensures)) (c.can_enter.ensures.asked c.if-not-can_enter.true) (c.can_enter.ensures.other c.if-not-can_enter.true)
@@ -223,6 +223,7 @@ pub by_inputs-inputs-init : goal.by_inputs-inputs-init
 by_inputs-inputs-init g t c = rw c.power-page.ensures (record {
   agree = mod-mod c.args.y (2 ^ c.args.door.translator.now.page);
   few = omega (arith, mod-le c.args.y (2 ^ c.args.door.translator.now.page), power_below c.args.door.translator.now.reach (c.requires.output.through.stage.ready.bounds c.args.door.unit c.args.door.translator.now c.requires.output.through.unit).reach, c.requires.output.reached);
+  made = tt;
   free = none_free (g.Q.Quest.sought c.args.quest.now).slots c.args.door.unit (c.args.y % 2 ^ c.args.door.translator.now.page / 2 ^ c.args.door.translator.now.page);
   below = inputs_begun (g.Q.Quest.sought c.args.quest.now) c.args.stage.count (hops_view c.args.stage.chosen) c.args.door.unit c.args.door.port c.args.y c.args.door.translator.now c.requires.output.through.more c.requires.output.through.unit;
 })
@@ -234,6 +235,7 @@ pub by_inputs-inputs-preserved : goal.by_inputs-inputs-preserved
 by_inputs-inputs-preserved g t c = record {
   agree = c.next_try-tried.ensures.agree ∙ c.inputs.invariant.agree;
   few = omega (arith, c.next_try-tried.ensures.few);
+  made = c.inputs.invariant.made;
   free = free_onward (g.Q.Quest.sought c.args.quest.now).slots c.args.door.unit c.inputs.x c.next_try-tried.result.x c.args.door.translator.now.page c.next_try-tried.result.free c.next_try-tried.ensures.onward c.next_try-tried.ensures.free;
   below = inputs_useless (g.Q.Quest.sought c.args.quest.now) c.args.stage.count (hops_view c.args.stage.chosen) c.args.door.unit c.args.door.port c.args.y c.inputs.x c.next_try-tried.result.x (c.args.stage.count - c.count.result) c.args.door.translator.now c.requires.output.through.stage.ready c.requires.output.through.more (omega (arith, c.count.ensures)) c.requires.output.through.unit c.inputs.invariant.agree c.next_try-tried.ensures.useless c.inputs.invariant.below;
 }
@@ -256,6 +258,7 @@ by_inputs-inputs-preserved-then-next-x g t c = rw c.power-page.ensures (record {
       let f = c.requires.output.through.stage.ready.bounds c.args.door.unit c.args.door.translator.now c.requires.output.through.unit in
       let within : c.inputs.x + c.request-size.result.size ≤ c.args.door.translator.now.slots * 2 ^ c.args.door.translator.now.page = subst (λ (n : ℕ). c.inputs.x + c.request-size.result.size ≤ c.args.door.translator.now.slots * n) c.power-page.ensures (subst (λ (n : ℕ). c.inputs.x + c.request-size.result.size ≤ n * c.power-page.result) c.from.ensures c.inputs-test.true) in
       omega (arith, page_few c.args.door.translator.now.page f.page, input_bound c.args.door.translator.now.slots c.args.door.translator.now.page f.page f.few, within);
+  made = c.in_ok-now.ensures;
   free = free_onward (g.Q.Quest.sought c.args.quest.now).slots c.args.door.unit c.inputs.x (c.inputs.x + 2 ^ c.args.door.translator.now.page) c.args.door.translator.now.page c.next_try-tried.result.free (omega arith) c.next_try-tried.ensures.free;
   below = inputs_leapt (g.Q.Quest.sought c.args.quest.now) c.args.stage.count (hops_view c.args.stage.chosen) c.args.door.unit c.args.door.port c.args.y c.inputs.x c.args.door.translator.now c.requires.output.through.more c.requires.output.through.unit c.inputs.invariant.agree c.inputs.invariant.below (rw c.in_default.is at (answered_input (g.Q.Quest.sought c.args.quest.now) c.args.stage.count (hops_view c.args.stage.chosen) c.args.door.unit c.args.door.port c.args.y c.inputs.x c.in_ok-placement.field-0 c.in_ok-placement.ensures));
 })
@@ -266,3 +269,9 @@ by_input-by_hops-requires g t c =
     let chosen : IsChosen (g.Q.Quest.sought c.args.quest.now) c.args.stage.count (hops_view c.behind-chosen.result) = subst (λ (l : List Hop). IsChosen (g.Q.Quest.sought c.args.quest.now) c.args.stage.count l) (sym c.behind-chosen.ensures) next in
     let longer : length (hops_view c.behind-chosen.result) ≡ suc (length (hops_view c.args.stage.chosen)) = ap length c.behind-chosen.ensures in
     search rules
+
+pub by_input-by_agent-requires-clause-chosen : goal.by_input-by_agent-requires-clause-chosen
+by_input-by_agent-requires-clause-chosen g t c =
+    let next = chosen_on (g.Q.Quest.sought c.args.quest.now) c.args.stage.count (hops_view c.args.stage.chosen) c.args.hop.unit c.args.hop.port c.args.hop.y c.args.hop.x c.args.translator.now c.requires.stage.chosen c.requires.more c.requires.unit c.requires.port c.requires.agree c.requires.within c.requires.reached c.requires.usable c.requires.meets in
+    let chosen : IsChosen (g.Q.Quest.sought c.args.quest.now) c.args.stage.count (hops_view c.behind-chosen.result) = subst (λ (l : List Hop). IsChosen (g.Q.Quest.sought c.args.quest.now) c.args.stage.count l) (sym c.behind-chosen.ensures) next in
+    subst (λ (n : ℕ). IsChosen (g.Q.Quest.sought c.args.quest.now) n (hops_view c.behind-chosen.result)) (sym c.if-count-stage.true ∙ c.count.ensures) chosen

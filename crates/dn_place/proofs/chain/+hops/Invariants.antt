@@ -1,7 +1,9 @@
-use Rattle.std.proofs.Common.{◌≡◌, ◌+◌, ◌-◌, ◌*◌, ◌/◌, ◌%◌, ◌^◌, ◌≤◌, length, drop}
+use Rattle.std.proofs.Common.{◌≡◌, ◌+◌, ◌-◌, ◌*◌, ◌/◌, ◌%◌, ◌^◌, ◌≤◌, length, drop, IfSome}
 use Rattle.dn_place.specs.Hops.{hops_view}
 use Rattle.dn_place.specs.Candidates.{to_unit, to_port, to_output}
 use Rattle.dn_place.proofs.Levels.{NoneBelow}
+use Rattle.dn_place.specs.declared.preimages.Preimages.{Preimages}
+use Rattle.dn_place.specs.Preimages.{ArePreimages}
 use Rattle.dn_place.specs.Slots.{AreFreeTo}
 use Rattle.dn_place.proofs.Units.{Sifted}
 use Rattle.dn_place.proofs.Walks.{Walked}
@@ -21,9 +23,6 @@ decreases-by_rows g l = 8 * (l.stage.count - length (hops_view l.stage.chosen)) 
 
 abbrev pub decreases-by_output : goal.decreases-by_output
 decreases-by_output g l = 8 * (l.stage.count - length (hops_view l.stage.chosen)) + 3
-
-abbrev pub decreases-by_whole : goal.decreases-by_whole
-decreases-by_whole g l = 8 * (l.stage.count - length (hops_view l.stage.chosen)) + 2
 
 abbrev pub decreases-by_entry : goal.decreases-by_entry
 decreases-by_entry g l = 8 * (l.stage.count - length (hops_view l.stage.chosen)) + 1
@@ -48,6 +47,7 @@ invariant-by_inputs-inputs g l = record {
   agree : l.x % 2 ^ l.door.translator.now.page ≡ l.y % 2 ^ l.door.translator.now.page;
   few : l.x ≤ 2 ^ 60;
   free : AreFreeTo (g.Q.Quest.sought l.quest).slots l.door.unit (l.x / 2 ^ l.door.translator.now.page) l.free;
+  made : IfSome l.made (λ (p : Preimages). ArePreimages (g.Q.Quest.sought l.quest).net (g.Q.Quest.sought l.quest).request.agent p);
   below : NoneBelow (g.Q.Quest.sought l.quest) (to_output l.stage.count (hops_view l.stage.chosen) l.door.unit l.door.port l.y) l.x;
 }
 

@@ -1,4 +1,4 @@
-use Rattle.std.proofs.Common.{◌≡◌, ◌∙◌, ◌+◌, ◌-◌, ◌/◌, ◌^◌, ◌<◌, ◌≤◌, ℕ, IsTrue, ap, sym, subst, arith}
+use Rattle.std.proofs.Common.{◌≡◌, ◌∙◌, ◌+◌, ◌-◌, ◌/◌, ◌^◌, ℕ, IsTrue, ap, sym, subst, arith}
 use Rattle.dn_interval.proofs.Membership.{in_from}
 use Rattle.dn_flat.specs.Crowds.{IsAgentStop}
 use Rattle.dn_placement.specs.declared.request.Request.{Request}

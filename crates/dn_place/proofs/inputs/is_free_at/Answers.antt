@@ -1,4 +1,4 @@
-use Rattle.std.proofs.Common.{◌≡◌, ◌/◌, ◌<◌, ◌∙◌, ap, arith}
+use Rattle.std.proofs.Common.{◌/◌, ◌<◌, ◌∙◌, ap, arith}
 use Rattle.dn_place.specs.Slots.{is_free_slot}
 use Rattle.dn_place.proofs.Pages.{name_slot, slot_there}
 use Rattle.dn_place.proofs.Usable.{free_is}

@@ -5,6 +5,7 @@ use Rattle.dn_place.specs.Hops.{hops_view}
 use Rattle.dn_place.specs.Rows.{wanted_name}
 use Rattle.dn_place.specs.Candidates.{key_of_hops}
 use Rattle.dn_place.proofs.Beside.{row_stops}
+use Rattle.dn_place.proofs.Turned.{row_way}
 use Rattle.dn_place.proofs.Walks.{set_out}
 use Rattle.dn_place.proofs.Agents.{agent_stretches, agent_goes, clear_of, not_asked, row_asked, step, step_found, step_done, step_meets, only_there, row_fits}
 use Rattle.dn_place.proofs.whole.by_rows.Goals as goal
@@ -13,8 +14,8 @@ use Rattle.dn_place.proofs.whole.by_rows.Goals.{in-Some+then-is_at+in_ok-placeme
 pub rows-init : goal.rows-init
 rows-init g c = set_out _ _ _ c.requires.toward.apart
 
-pub by_row-requires-clause-addressed : goal.by_row-requires-clause-addressed
-by_row-requires-clause-addressed g c =
+pub by_way-requires-clause-addressed : goal.by_way-requires-clause-addressed
+by_way-requires-clause-addressed g c =
     let hops = hops_view c.args.hops in
     let front = key_of_hops (length hops) hops in
     let here = (row_asked (g.Q.Quest.sought c.args.quest.now) hops c.row-item.result c.wanted_name-target.result c.request.result c.request-size.result c.in-Some.v c.wanted_name-target.ensures c.request.ensures c.request-size.ensures).0 c.in-Some.ensures.some in
@@ -26,11 +27,12 @@ by_row-requires-clause-addressed g c =
       meets = step_meets (g.Q.Quest.sought c.args.quest.now) front (g.Q.Quest.sought c.args.quest.now).request.agent hops c.args.rows.now c.rows.row-index c.row-item.result c.in-Some.v c.requires.toward (row_fits _ _ _ _ here) c.rows-test.true c.row-item.is c.rows.invariant here (clear_of (g.Q.Quest.sought c.args.quest.now) (g.Q.Quest.sought c.args.quest.now).request.agent hops c.in-Some.v (g.Q.Quest.sought c.args.quest.now).request.size c.requires.some);
     }
 
-pub by_row-requires-clause-row : goal.by_row-requires-clause-row
-by_row-requires-clause-row g c = row_stops (g.Q.Quest.sought c.args.quest.now) (hops_view c.args.hops) c.args.rows.now c.rows.row-index c.row-item.result c.requires.some c.rows-test.true c.row-item.is c.requires.toward
-
-pub by_row-requires-clause-inside : goal.by_row-requires-clause-inside
-by_row-requires-clause-inside g c = (row_asked (g.Q.Quest.sought c.args.quest.now) (hops_view c.args.hops) c.row-item.result c.wanted_name-target.result c.request.result c.request-size.result c.in-Some.v c.wanted_name-target.ensures c.request.ensures c.request-size.ensures).0 c.in-Some.ensures.some
+pub by_way-requires-clause-way : goal.by_way-requires-clause-way
+by_way-requires-clause-way g c =
+    let s = g.Q.Quest.sought c.args.quest.now in
+    let hops = hops_view c.args.hops in
+    let here = (row_asked s hops c.row-item.result c.wanted_name-target.result c.request.result c.request-size.result c.in-Some.v c.wanted_name-target.ensures c.request.ensures c.request-size.ensures).0 c.in-Some.ensures.some in
+    row_way s.net s.request.agent c.row-item.result (wanted_name s.request hops) s.request.size c.in-Some.v here (row_stops s hops c.args.rows.now c.rows.row-index c.row-item.result c.requires.some c.rows-test.true c.row-item.is c.requires.toward)
 
 pub returns-in-Some-2 : goal.returns-in-Some-2
 returns-in-Some-2 g c =
