@@ -30,22 +30,24 @@ pub record IsFirstHop (net : List NodeDecl) (slots : Slots) (rq : Request) (unit
   pub suited : IsSuitedHop net slots rq unit v hop
   pub least : (k : Hop) → IsSuitedHop net slots rq unit v k → comes_before (hop_key k) (hop_key hop) ≡ false
 
--- each hop serves its piece, one after another from an address of the agent on, and no two take the same
--- slot
-abbrev pub AreSuitedHops : List NodeDecl → Slots → ℕ → Rights → ℕ → ℕ → List Piece → List Hop → Type 0
-AreSuitedHops net slots agent rights unit v [] [] = Unit {0}
-AreSuitedHops net slots agent rights unit v (p ∷ ps) (hop ∷ hops) =
-    IsSuitedHop net slots (piece_request agent rights p) unit v hop × IsApart net p.size hop ps hops
-    × AreSuitedHops net slots agent rights unit (v + p.size) ps hops
-AreSuitedHops net slots agent rights unit v _ _ = ⊥
+-- it is so of the request of each piece with its address and its hop, one after another from an address of the agent
+-- on, and no two hops take the same slot
+abbrev pub AreHopsBy : (Request → ℕ → Hop → Type 0) → List NodeDecl → ℕ → Rights → ℕ → List Piece → List Hop → Type 0
+AreHopsBy Is net agent rights v [] [] = Unit {0}
+AreHopsBy Is net agent rights v (p ∷ ps) (hop ∷ hops) =
+    Is (piece_request agent rights p) v hop × IsApart net p.size hop ps hops
+    × AreHopsBy Is net agent rights (v + p.size) ps hops
+AreHopsBy Is net agent rights v _ _ = ⊥
 
--- so it is, and each is the first that serves its piece
+-- each hop serves its piece
+abbrev pub AreSuitedHops : List NodeDecl → Slots → ℕ → Rights → ℕ → ℕ → List Piece → List Hop → Type 0
+AreSuitedHops net slots agent rights unit v ps hops =
+    AreHopsBy (λ rq a hop. IsSuitedHop net slots rq unit a hop) net agent rights v ps hops
+
+-- each is the first that serves its piece
 abbrev pub AreFirstHops : List NodeDecl → Slots → ℕ → Rights → ℕ → ℕ → List Piece → List Hop → Type 0
-AreFirstHops net slots agent rights unit v [] [] = Unit {0}
-AreFirstHops net slots agent rights unit v (p ∷ ps) (hop ∷ hops) =
-    IsFirstHop net slots (piece_request agent rights p) unit v hop × IsApart net p.size hop ps hops
-    × AreFirstHops net slots agent rights unit (v + p.size) ps hops
-AreFirstHops net slots agent rights unit v _ _ = ⊥
+AreFirstHops net slots agent rights unit v ps hops =
+    AreHopsBy (λ rq a hop. IsFirstHop net slots rq unit a hop) net agent rights v ps hops
 
 -- no hops of the unit serve the pieces from an address of the agent on
 abbrev pub NoneAt : List NodeDecl → Slots → ℕ → Rights → List Piece → ℕ → ℕ → Type 0
