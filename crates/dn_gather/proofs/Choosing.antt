@@ -1,5 +1,5 @@
 -- Hops of one unit for pieces: what a placement of one hop is, which slots it takes, and the first hops of all.
-use Rattle.std.proofs.Common.{◌≡◌, ℕ, zero, suc, ◌+◌, ◌-◌, ◌*◌, ◌/◌, ◌%◌, ◌^◌, ◌<◌, ◌≤◌, ◌⊎◌, inl, inr, Bool, true, false, if◌then◌else◌, ◌&&◌, nat_eq, nat_lt, nat_le, List, [], ◌∷◌, length, drop, take, get_or, slice_get, Option, Some, None, is_some, IsTrue, refl, sym, ap, ◌∙◌, subst, arith, leb-true, ltb-true, lt-ltb, pow_pos}
+use Rattle.std.proofs.Common.{◌≡◌, ℕ, zero, suc, ◌+◌, ◌-◌, ◌*◌, ◌/◌, ◌%◌, ◌^◌, ◌<◌, ◌≤◌, ◌⊎◌, inl, inr, Bool, true, false, if◌then◌else◌, ◌&&◌, nat_eq, nat_lt, nat_le, List, [], ◌∷◌, length, take, get_or, slice_get, Option, Some, None, is_some, IsTrue, refl, sym, ap, ◌∙◌, subst, arith, leb-true, ltb-true, lt-ltb, pow_pos}
 use Rattle.std.specs.List.{All}
 use Rattle.std.proofs.lemmas.Bool.{cases_lt, eqb-true, or_cases, or_left, or_right}
 use Rattle.std.proofs.lemmas.Option.{same_Some}
@@ -31,7 +31,6 @@ use Rattle.dn_gather.specs.Scattered.{IsApart, at_hop, piece_request}
 use Rattle.dn_gather.specs.Grounds.{IsSized, total}
 use Rattle.dn_gather.proofs.Slots.{taken_in}
 use Rattle.dn_gather.specs.Stands.{AreAt, CanStand, Enters, IsPartedFrom, Stands, are_parted_at}
-use Rattle.std.proofs.Math.Seq.{drop-cons}
 
 -- the slots that a hop takes
 

@@ -10,7 +10,6 @@ use Rattle.dn_interval.specs.Rows.{Apart, GivenBy}
 use Rattle.dn_interval.specs.Spans.{in_span}
 use Rattle.dn_interval.proofs.Membership.{in_from, lo_of}
 use Rattle.dn_interval.proofs.Normal.{behind_first, nothing_below}
-use Rattle.dn_net.specs.declared.node.Unit.{Unit as UnitPart}
 use Rattle.dn_place.specs.declared.exits.Exit.{Exit}
 use Rattle.dn_place.specs.Exits.{has_exit}
 use Rattle.dn_place.specs.Rows.{InRow}

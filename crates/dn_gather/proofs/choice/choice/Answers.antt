@@ -1,4 +1,4 @@
-use Rattle.std.proofs.Common.{◌≡◌, ◌∙◌, ◌+◌, ◌-◌, ℕ, List, [], ◌∷◌, ap, arith, drop, get_or, length, subst, suc, sym, take}
+use Rattle.std.proofs.Common.{◌≡◌, ◌∙◌, ◌+◌, ◌-◌, ℕ, List, [], ◌∷◌, ap, arith, drop, length, subst, suc, sym, take}
 use Rattle.std.proofs.Math.ListN.{drop_of_length-le}
 use Rattle.dn_tables.specs.declared.placement.Hop.{Hop}
 use Rattle.dn_gather.specs.declared.piece.Piece.{Piece}

@@ -1,4 +1,4 @@
-use Rattle.std.proofs.Common.{◌∙◌, ◌≤◌, ℕ, List, arith, get_or, length, subst, sym, take}
+use Rattle.std.proofs.Common.{◌∙◌, ◌≤◌, ℕ, List, arith, get_or, length, subst, sym}
 use Rattle.std.proofs.lemmas.List.{length-take-le}
 use Rattle.std.proofs.lemmas.List.Elements.{All-take}
 use Rattle.dn_place.specs.declared.exits.Exit.{Exit}

@@ -1,4 +1,4 @@
-use Rattle.std.proofs.Common.{List, ℕ, subst, sym, rules}
+use Rattle.std.proofs.Common.{List, ℕ, subst, sym}
 use Rattle.dn_interval.specs.declared.row.Row.{Row}
 use Rattle.dn_place.specs.declared.exits.Exit.{Exit}
 use Rattle.dn_place.proofs.Pages.{slot_there}

@@ -1,4 +1,4 @@
-use Rattle.std.proofs.Common.{◌≡◌, ◌+◌, ◌-◌, ◌≤◌, ◌^◌, ℕ, List, [], ◌∷◌, arith, drop, length, subst, suc, sym, take}
+use Rattle.std.proofs.Common.{◌+◌, ◌-◌, ℕ, List, [], ◌∷◌, arith, drop, length, subst, suc, sym, take}
 use Rattle.dn_gather.specs.declared.piece.Piece.{Piece}
 use Rattle.dn_gather.specs.Grounds.{CanStandOn, StandsOn, total}
 use Rattle.dn_gather.specs.Stands.{AreAt, AreFew, IsPartedFrom}
