@@ -19,7 +19,8 @@ use Rattle.dn_gather.specs.declared.scatter.Scatter.{Scatter}
 use Rattle.dn_gather.specs.Gather.{IsScattered}
 use Rattle.dn_gather.specs.Grants.{AreGrantsFor, AreNewIds, AreOthers}
 use Rattle.dn_gather.specs.Grounds.{ArePieces, IsSized}
-use Rattle.dn_gather.specs.Refusal.{id_used, no_agent, not_accepted, book_full, address_refusal, first_refused, gather_refusal, is_used, target_refusal, used_refusal}
+use Rattle.dn_gather.specs.declared.refusal.GatherRefusal.TheVariants.{IdUsed, NoAgent, NotAccepted, BookFull}
+use Rattle.dn_gather.specs.Refusal.{address_refusal, first_refused, gather_refusal, is_used, target_refusal, used_refusal}
 use Rattle.dn_gather.proofs.Refused.{first_none}
 
 -- the ids
@@ -58,7 +59,7 @@ new_from book earlier (p ∷ ps) none =
     let less = clear_less earlier p ps rest.1 in
     ((here.0, less.1, rest.0), (here.1, less.0))
   where
-    not_used : (i : ℕ) (b : Bool) → (if b then Some (id_used i) else None) ≡ None → b ≡ false
+    not_used : (i : ℕ) (b : Bool) → (if b then Some (IdUsed i) else None) ≡ None → b ≡ false
     not_used i true e = cc
     not_used i false e = refl
 
@@ -75,7 +76,7 @@ sized net i (p ∷ ps) none =
     let within = accepted_within (slice_get net p.node) p.base p.size (unmapped (refused_address (slice_get net p.node) p.base p.size) both.0) in
     All-cons IsSized p ps (record { some = within.0; buffer = within.1 }) (sized net (suc i) ps both.1)
   where
-    unmapped : (o : Option ℕ) → option_map (not_accepted i) o ≡ None → o ≡ None
+    unmapped : (o : Option ℕ) → option_map (NotAccepted i) o ≡ None → o ≡ None
     unmapped None e = refl
     unmapped (Some first) e = cc
 
@@ -89,7 +90,7 @@ pub record AreAllowed (net : List NodeDecl) (book : List Grant) (agent : ℕ) (p
 pub allowed_are : (net : List NodeDecl) (book : List Grant) (agent : ℕ) (ps : List Piece) → gather_refusal net book agent ps ≡ None → AreAllowed net book agent ps
 allowed_are net book agent ps none =
     let used = first_none (first_refused (used_refusal book ps) 0 ps) _ none in
-    let agents = first_none (if is_agent_at (slice_get net agent) then None else Some no_agent) _ used.1 in
+    let agents = first_none (if is_agent_at (slice_get net agent) then None else Some NoAgent) _ used.1 in
     let targets = first_none (first_refused (target_refusal net) 0 ps) _ agents.1 in
     let addresses = first_none (first_refused (address_refusal net) 0 ps) _ targets.1 in
     record {
@@ -99,11 +100,11 @@ allowed_are net book agent ps none =
       few = has_room (nat_lt 4096 (length book + length ps)) refl addresses.1;
     }
   where
-    is_agent : (b : Bool) → (if b then None else Some no_agent) ≡ None → IsTrue b
+    is_agent : (b : Bool) → (if b then None else Some NoAgent) ≡ None → IsTrue b
     is_agent true e = refl
     is_agent false e = cc
 
-    has_room : (b : Bool) → nat_lt 4096 (length book + length ps) ≡ b → (if b then Some book_full else None) ≡ None → length book + length ps ≤ 4096
+    has_room : (b : Bool) → nat_lt 4096 (length book + length ps) ≡ b → (if b then Some BookFull else None) ≡ None → length book + length ps ≤ 4096
     has_room true h e = cc
     has_room false h e = ltb-false 4096 (length book + length ps) h
 

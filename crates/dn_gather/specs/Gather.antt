@@ -10,7 +10,9 @@ use Rattle.dn_gather.specs.declared.piece.Piece.{Piece}
 use Rattle.dn_gather.specs.declared.scatter.Scatter.{Scatter}
 use Rattle.dn_gather.specs.Commits.{AreCommitted}
 use Rattle.dn_gather.specs.Grants.{grants_at}
-use Rattle.dn_gather.specs.Refusal.{GatherRefusal, gather_refusal, no_placement}
+use Rattle.dn_gather.specs.declared.refusal.GatherRefusal.{GatherRefusal}
+use Rattle.dn_gather.specs.declared.refusal.GatherRefusal.TheVariants.{NoPlacement}
+use Rattle.dn_gather.specs.Refusal.{gather_refusal}
 use Rattle.dn_gather.specs.Scattered.{IsFirstScatter, NoneScattered}
 
 -- the grants of pieces at a scattered placement
@@ -39,7 +41,7 @@ pub record IsGatherMade (net : List NodeDecl) (book : List Grant) (agent : ℕ) 
 
 -- the refusal is the first that holds; that no scattered placement is admissible is the last
 abbrev pub IsGatherRefused : List NodeDecl → List Grant → ℕ → Rights → List Piece → GatherRefusal → Type 0
-IsGatherRefused net book agent rights ps no_placement = IsUnscattered net book agent rights ps
+IsGatherRefused net book agent rights ps NoPlacement = IsUnscattered net book agent rights ps
 IsGatherRefused net book agent rights ps why = gather_refusal net book agent ps ≡ Some why
 
 -- A turn of `gather`: the first refusal that holds, and the book stays; or the agent's address of the first admissible

@@ -1,5 +1,4 @@
 pub mod Commits
-pub mod Faults
 pub mod Firsts
 pub mod Gather
 pub mod Grants

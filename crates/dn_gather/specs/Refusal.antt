@@ -1,4 +1,4 @@
--- Why a buffer in pieces is refused, and the refusals that need no search.
+-- The refusals of a buffer in pieces that need no search.
 use Rattle.std.specs.Prelude.{ℕ, suc, ◌+◌, Bool, if◌then◌else◌, ◌||◌, ◌==◌, nat_lt, List, [], ◌∷◌, length, slice_get, take, Option, Some, None}
 use Rattle.std.specs.List.{list_any}
 use Rattle.std.specs.Option.{option_map}
@@ -8,17 +8,8 @@ use Rattle.dn_book.specs.declared.grant.Grant.{Grant}
 use Rattle.dn_book.specs.Book.{has_id}
 use Rattle.dn_place.specs.Targets.{is_target_at, refused_address}
 use Rattle.dn_gather.specs.declared.piece.Piece.{Piece}
-
--- why pieces are refused, with the number of the piece where one is meant: a live grant or an earlier piece has the id;
--- the agent is none; the node is none or has interrupt vectors; the node does not accept this address; the book has no
--- room for all; no scattered placement serves
-pub data GatherRefusal : Type 0 where
-  id_used : ℕ → GatherRefusal
-  no_agent : GatherRefusal
-  no_target : ℕ → GatherRefusal
-  not_accepted : ℕ → ℕ → GatherRefusal
-  book_full : GatherRefusal
-  no_placement : GatherRefusal
+use Rattle.dn_gather.specs.declared.refusal.GatherRefusal.{GatherRefusal}
+use Rattle.dn_gather.specs.declared.refusal.GatherRefusal.TheVariants.{IdUsed, NoAgent, NoTarget, NotAccepted, BookFull}
 
 -- a live grant has the id, or one of the earlier pieces has it
 abbrev pub is_used : List Grant → List Piece → ℕ → Bool
@@ -36,22 +27,22 @@ first_refused test i (p ∷ ps) = first_refusal (test i p) (first_refused test (
 
 -- the refusal of a piece whose id is used, where these are all pieces
 abbrev pub used_refusal : List Grant → List Piece → ℕ → Piece → Option GatherRefusal
-used_refusal book all i p = if is_used book (take i all) p.id then Some (id_used i) else None
+used_refusal book all i p = if is_used book (take i all) p.id then Some (IdUsed i) else None
 
 -- the refusal of a piece whose node is none or has interrupt vectors
 abbrev pub target_refusal : List NodeDecl → ℕ → Piece → Option GatherRefusal
-target_refusal net i p = if is_target_at (slice_get net p.node) then None else Some (no_target i)
+target_refusal net i p = if is_target_at (slice_get net p.node) then None else Some (NoTarget i)
 
 -- the refusal of a piece that is empty, or of which its node does not accept an address
 abbrev pub address_refusal : List NodeDecl → ℕ → Piece → Option GatherRefusal
-address_refusal net i p = option_map (not_accepted i) (refused_address (slice_get net p.node) p.base p.size)
+address_refusal net i p = option_map (NotAccepted i) (refused_address (slice_get net p.node) p.base p.size)
 
 -- the first refusal of pieces that holds, of those that need no search, each over all pieces: an id is used; the agent is
 -- none; a node is none or has interrupt vectors; a node does not accept all of its piece; the book has no room for all
 abbrev pub gather_refusal : List NodeDecl → List Grant → ℕ → List Piece → Option GatherRefusal
 gather_refusal net book agent ps =
     first_refusal (first_refused (used_refusal book ps) 0 ps)
-    (first_refusal (if is_agent_at (slice_get net agent) then None else Some no_agent)
+    (first_refusal (if is_agent_at (slice_get net agent) then None else Some NoAgent)
     (first_refusal (first_refused (target_refusal net) 0 ps)
     (first_refusal (first_refused (address_refusal net) 0 ps)
-    (if nat_lt 4096 (length book + length ps) then Some book_full else None))))
+    (if nat_lt 4096 (length book + length ps) then Some BookFull else None))))

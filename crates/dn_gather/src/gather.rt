@@ -1,19 +1,18 @@
 //! Granting a buffer in pieces.
 
-ghost use Rattle.std.specs.Prelude.{◌≡◌, ◌≢◌, ◌≤◌, false, true, is_err, length, OnOk, IsTrue};
+ghost use Rattle.std.specs.Prelude.{◌≤◌, length, IsTrue};
 ghost use Rattle.dn_kind.specs.Terms.{are_rights, kinds_of};
 ghost use Rattle.dn_tables.specs.Terms.{words_of};
-ghost use Rattle.dn_book.specs.Terms.{IsChangedBook, IsFaithful, MayChange};
-ghost use Rattle.dn_view.specs.Terms.{IsSystem};
-ghost use Rattle.dn_gather.specs.Terms.{IsGatherLogged, IsGatherOutcome, gather_answer_view, is_gather_fault};
+ghost use Rattle.dn_grant.specs.Terms.{IsGrantDone, MayGrant};
+ghost use Rattle.dn_gather.specs.Terms.{IsGatherLogged, IsGatherOutcome};
 
 use crate::booked::first_in_book;
 use crate::commits::commit_pieces;
-use crate::fault::GatherFault;
 use crate::piece::Piece;
-use crate::refusal::refusal;
+use crate::refusal::{GatherRefusal, refusal};
 use dn_base::device::Tables;
 use dn_book::book::Book;
+use dn_grant::fault::GrantFault;
 use dn_kind::rights::Rights;
 use dn_net::checked::CheckedNet;
 use dn_view::system::System;
@@ -39,46 +38,33 @@ pub fn gather<D: Tables>(
     pieces: &[Piece],
     rights: Rights,
     device: &mut D,
-) -> Result<u64, GatherFault>
-    requires system { IsSystem meaning system }
-    requires ready { MayChange meaning system.on book.old
-        (D.units device.old) (D.words device.old) }
+) -> Result<u64, GrantFault<GatherRefusal>>
+    requires ready { MayGrant meaning system book.old (D.units device.old) (D.words device.old) }
     requires rights { IsTrue (are_rights rights) }
     requires some { 1 ≤ length pieces.now }
     requires few { length pieces.now ≤ 8 }
-    ensures turn { IsGatherOutcome system.entry.on.net.now book.old.grants agent rights pieces.now
-        (gather_answer_view result) book.new.grants }
-    ensures unchanged { is_err result ≡ true → result ≢ Err GatherFault.Device →
-        (book.new ≡ book.old) × (device.new ≡ device.old) }
-    ensures changed { IsChangedBook system.entry.on.net.now
-        (kinds_of meaning system.entry.on.kinds.now) false result (is_gather_fault result) book.new
-        (D.units device.new) (D.words device.new) (D.faults device.old) (D.faults device.new) }
-    ensures faithful { OnOk result (IsFaithful system.entry.on.net.now book.old.grants
-        → IsFaithful system.entry.on.net.now book.new.grants) }
-    ensures granted { OnOk result (IsGatherLogged system.entry.on.net.now
-        (kinds_of meaning system.entry.on.kinds.now) book.old.grants book.old.cleared agent rights
-        pieces.now false (D.log device.old) (D.log device.new) (words_of book.new.set)
-        book.new.grants) }
-    ensures stopped { result ≡ Err GatherFault.Device → IsGatherLogged system.entry.on.net.now
-        (kinds_of meaning system.entry.on.kinds.now) book.old.grants book.old.cleared agent rights
-        pieces.now true (D.log device.old) (D.log device.new) (words_of book.new.set)
-        book.new.grants }
+    ensures { IsGrantDone meaning system.entry.on
+        (IsGatherOutcome system.entry.on.net.now book.old.grants agent rights pieces.now)
+        (λ failed log log'. IsGatherLogged system.entry.on.net.now
+        (kinds_of meaning system.entry.on.kinds.now) book.old.grants book.old.cleared agent
+        rights pieces.now failed log log' (words_of book.new.set) book.new.grants)
+        result book.old book.new D.units D.words D.faults D.log device.old device.new }
 {
     if let Some(why) = refusal(book, CheckedNet { net: system.on.net }, agent, pieces) {
-        return Err(why);
+        return Err(GrantFault::Refused(why));
     }
     let scatter = match first_in_book(alloc, book, system, agent, rights, pieces) {
         Ok(Some(scatter)) => scatter,
-        Ok(None) => return Err(GatherFault::NoPlacement),
-        Err(_) => return Err(GatherFault::OutOfMemory),
+        Ok(None) => return Err(GrantFault::Refused(GatherRefusal::NoPlacement)),
+        Err(_) => return Err(GrantFault::OutOfMemory),
     };
     let Ok(()) = book.reserve(pieces.len() as u32) else {
-        return Err(GatherFault::OutOfMemory);
+        return Err(GrantFault::OutOfMemory);
     };
     match commit_pieces(
         alloc, book, system.on, agent, rights, pieces, &scatter, device,
     ) {
         Ok(()) => Ok(scatter.v),
-        Err(_) => Err(GatherFault::Device),
+        Err(_) => Err(GrantFault::Device),
     }
 }

@@ -7,7 +7,6 @@
 mod booked;
 mod choice;
 mod commits;
-pub mod fault;
 pub mod gather;
 mod ground;
 pub mod laws;

@@ -1,17 +1,39 @@
-//! The refusals of pieces that need no search.
+//! Why a buffer in pieces is refused, and the refusals that need no search.
 
-ghost use Rattle.std.specs.Prelude.{◌≡◌, ◌+◌, ◌<◌, ◌≤◌, ◌==◌, Some, None, nat_lt, length};
+ghost use Rattle.std.specs.Prelude.{◌≡◌, ◌+◌, ◌<◌, ◌≤◌, ◌==◌, None, nat_lt, length};
 ghost use Rattle.std.specs.List.{All, list_any};
-ghost use Rattle.std.specs.Option.{option_map};
-ghost use Rattle.dn_gather.specs.Terms.{address_refusal, first_refused, gather_fault_view, gather_refusal, is_used, target_refusal, used_refusal};
+ghost use Rattle.dn_gather.specs.Terms.{address_refusal, first_refused, gather_refusal, is_used, target_refusal, used_refusal};
 
-use crate::fault::GatherFault;
 use crate::piece::Piece;
 use dn_book::book::Book;
 use dn_net::checked::CheckedNet;
 use dn_net::net::Net;
 use dn_place::accepted::{is_target, refused_address};
 use dn_placement::roles::is_agent;
+use thiserror::Error;
+
+/// Why a buffer in pieces is refused. The first that holds is told, in this order; each that is of a piece tells the first
+/// such piece, counted from 0.
+#[derive(Clone, Copy, Debug, PartialEq, Eq, Error)]
+#[error("{:?}", self)]
+pub enum GatherRefusal {
+    /// A live grant or an earlier piece has the id.
+    #[error("IdUsed {piece}")]
+    IdUsed { piece: u32 },
+    /// The agent's number is that of no node, or of a node that is no agent.
+    NoAgent,
+    /// The piece's node is that of no node, or the node's addresses are interrupt vectors.
+    #[error("NoTarget {piece}")]
+    NoTarget { piece: u32 },
+    /// The node does not accept all of the piece: `first` is the first address that it does not accept, and the base
+    /// where the piece is empty.
+    #[error("NotAccepted {piece} {first:#x}")]
+    NotAccepted { piece: u32, first: u64 },
+    /// The live grants and the pieces are more than 4,096.
+    BookFull,
+    /// No scattered placement gives the agent exactly the pieces.
+    NoPlacement,
+}
 
 /// The most grants of a book.
 const MAX_GRANTS: usize = 4096;
@@ -22,10 +44,9 @@ pub fn refusal(
     checked: CheckedNet,
     agent: u16,
     pieces: &[Piece],
-) -> Option<GatherFault>
+) -> Option<GatherRefusal>
     requires few { length pieces.now ≤ 8 }
-    ensures same { option_map gather_fault_view result ≡ option_map (λ why. Some why)
-        (gather_refusal checked.entry.net.now book.now.grants agent pieces.now) }
+    ensures same { result ≡ gather_refusal checked.entry.net.now book.now.grants agent pieces.now }
     ensures none { result ≡ None →
         gather_refusal checked.entry.net.now book.now.grants agent pieces.now ≡ None }
 {
@@ -33,7 +54,7 @@ pub fn refusal(
         return Some(why);
     }
     if !is_agent(checked.net, agent) {
-        return Some(GatherFault::NoAgent);
+        return Some(GatherRefusal::NoAgent);
     }
     if let Some(why) = untargeted_piece(checked.net, pieces) {
         return Some(why);
@@ -42,7 +63,7 @@ pub fn refusal(
         return Some(why);
     }
     if is_too_full(book, pieces) {
-        return Some(GatherFault::BookFull);
+        return Some(GatherRefusal::BookFull);
     }
     None
 }
@@ -56,14 +77,13 @@ fn is_too_full(book: &Book, pieces: &[Piece]) -> bool
 }
 
 /// The first piece whose id a live grant or an earlier piece has.
-fn used_piece(book: &Book, pieces: &[Piece]) -> Option<GatherFault>
+fn used_piece(book: &Book, pieces: &[Piece]) -> Option<GatherRefusal>
     requires few { length pieces.now ≤ 8 }
-    ensures { option_map gather_fault_view result ≡ option_map (λ why. Some why)
-        (first_refused (used_refusal book.now.grants pieces.now) 0 pieces.now) }
+    ensures { result ≡ first_refused (used_refusal book.now.grants pieces.now) 0 pieces.now }
 {
     for i in 0..pieces.len() {
         if is_used(book, &pieces[..i], pieces[i].id) {
-            return Some(GatherFault::IdUsed { piece: i as u32 });
+            return Some(GatherRefusal::IdUsed { piece: i as u32 });
         }
     }
     None
@@ -84,32 +104,30 @@ fn has_piece(pieces: &[Piece], id: u32) -> bool
 }
 
 /// The first piece whose node is none, or has interrupt vectors.
-fn untargeted_piece(net: &Net, pieces: &[Piece]) -> Option<GatherFault>
+fn untargeted_piece(net: &Net, pieces: &[Piece]) -> Option<GatherRefusal>
     requires few { length pieces.now ≤ 8 }
-    ensures same { option_map gather_fault_view result ≡ option_map (λ why. Some why)
-        (first_refused (target_refusal net.now) 0 pieces.now) }
+    ensures same { result ≡ first_refused (target_refusal net.now) 0 pieces.now }
     ensures there { result ≡ None → All (λ p. p.node < length net.now) pieces.now }
 {
     for i in 0..pieces.len() {
         if !is_target(net, pieces[i].node) {
-            return Some(GatherFault::NoTarget { piece: i as u32 });
+            return Some(GatherRefusal::NoTarget { piece: i as u32 });
         }
     }
     None
 }
 
 /// The first piece of which its node does not accept an address, with the first such address.
-fn unaccepted_piece(checked: CheckedNet, pieces: &[Piece]) -> Option<GatherFault>
+fn unaccepted_piece(checked: CheckedNet, pieces: &[Piece]) -> Option<GatherRefusal>
     requires few { length pieces.now ≤ 8 }
     requires there { All (λ p. p.node < length checked.net.now) pieces.now }
-    ensures { option_map gather_fault_view result ≡ option_map (λ why. Some why)
-        (first_refused (address_refusal checked.entry.net.now) 0 pieces.now) }
+    ensures { result ≡ first_refused (address_refusal checked.entry.net.now) 0 pieces.now }
 {
     for i in 0..pieces.len() {
         let piece = pieces[i];
         if let Some(first) = refused_address(checked, piece.node, piece.base, piece.size) {
             let piece = i as u32;
-            return Some(GatherFault::NotAccepted { piece, first });
+            return Some(GatherRefusal::NotAccepted { piece, first });
         }
     }
     None

@@ -15,7 +15,8 @@ use Rattle.dn_book.specs.declared.grant.Grant.{Grant}
 use Rattle.dn_book.specs.Book.{IsFaithful, IsSound, has_id, slots_of}
 use Rattle.dn_book.specs.Laws.{IsGrantFor}
 use Rattle.dn_grant.specs.Grant.{IsUnplaced, NoAddition, grant_of_request}
-use Rattle.dn_grant.specs.Refusal.{id_used, no_agent, no_target, book_full, grant_refusal, refusal_by}
+use Rattle.dn_grant.specs.declared.refusal.GrantRefusal.TheVariants.{IdUsed, NoAgent, NoTarget, BookFull}
+use Rattle.dn_grant.specs.Refusal.{grant_refusal, refusal_by}
 use Rattle.dn_place.specs.Targets.{is_target_at, refused_address}
 use Rattle.dn_place.proofs.Unaccepted.{accepted_within}
 
@@ -36,7 +37,7 @@ allowed_is net book id rq none = by_id (has_id id book) refl none
 
     by_room : has_id id book ≡ false → IsTrue (is_agent_at (slice_get net rq.agent)) →
         IsTrue (is_target_at (slice_get net rq.node)) → address ≡ None →
-        (f : Bool) → nat_le 4096 (length book) ≡ f → (if f then Some book_full else None) ≡ None →
+        (f : Bool) → nat_le 4096 (length book) ≡ f → (if f then Some BookFull else None) ≡ None →
         IsAllowed net book id rq
     by_room i a t r true e none = cc
     by_room i a t r false e none =
@@ -50,21 +51,21 @@ allowed_is net book id rq none = by_id (has_id id book) refl none
 
     by_target : has_id id book ≡ false → IsTrue (is_agent_at (slice_get net rq.agent)) →
         (t : Bool) → is_target_at (slice_get net rq.node) ≡ t →
-        (if not t then Some no_target else refusal_by book address) ≡ None → IsAllowed net book id rq
+        (if not t then Some NoTarget else refusal_by book address) ≡ None → IsAllowed net book id rq
     by_target i a false e none = cc
     by_target i a true e none = by_address i a e address refl none
 
     by_agent : has_id id book ≡ false → (a : Bool) → is_agent_at (slice_get net rq.agent) ≡ a →
-        (if not a then Some no_agent
-        else (if not (is_target_at (slice_get net rq.node)) then Some no_target
+        (if not a then Some NoAgent
+        else (if not (is_target_at (slice_get net rq.node)) then Some NoTarget
         else refusal_by book address)) ≡ None → IsAllowed net book id rq
     by_agent i false e none = cc
     by_agent i true e none = by_target i e (is_target_at (slice_get net rq.node)) refl none
 
     by_id : (h : Bool) → has_id id book ≡ h →
-        (if h then Some id_used
-        else (if not (is_agent_at (slice_get net rq.agent)) then Some no_agent
-        else (if not (is_target_at (slice_get net rq.node)) then Some no_target
+        (if h then Some IdUsed
+        else (if not (is_agent_at (slice_get net rq.agent)) then Some NoAgent
+        else (if not (is_target_at (slice_get net rq.node)) then Some NoTarget
         else refusal_by book address))) ≡ None → IsAllowed net book id rq
     by_id true e none = cc
     by_id false e none = by_agent e (is_agent_at (slice_get net rq.agent)) refl none

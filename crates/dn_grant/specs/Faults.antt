@@ -1,27 +1,16 @@
--- What the answers of `grant` say, by their faults.
+-- What the answers of calls that grant say, by their faults.
 use Rattle.std.specs.Prelude.{ℕ, Bool, true, false, Option, Some, None, Result, Ok, Err}
-use Rattle.std.specs.Option.{option_map}
 use Rattle.dn_grant.specs.declared.fault.GrantFault.{GrantFault}
-use Rattle.dn_grant.specs.declared.fault.GrantFault.TheVariants.{IdUsed, NoAgent, NoTarget, NotAccepted, BookFull, NoPlacement, Device, OutOfMemory}
-use Rattle.dn_grant.specs.Refusal.{GrantRefusal, id_used, no_agent, no_target, not_accepted, book_full, no_placement}
+use Rattle.dn_grant.specs.declared.fault.GrantFault.TheVariants.{Refused, Device, OutOfMemory}
 
--- the refusal that a fault says; a fault of the device and want of memory say none
-abbrev pub grant_fault_view : GrantFault → Option GrantRefusal
-grant_fault_view IdUsed = Some id_used
-grant_fault_view NoAgent = Some no_agent
-grant_fault_view NoTarget = Some no_target
-grant_fault_view (NotAccepted first) = Some (not_accepted first)
-grant_fault_view BookFull = Some book_full
-grant_fault_view NoPlacement = Some no_placement
-grant_fault_view Device = None
-grant_fault_view OutOfMemory = None
+-- what was granted, an address or a vector, or the refusal that is told; a call that failed answers neither
+abbrev pub grant_answer : {R : Type 0} → Result ℕ (GrantFault R) → Option (Result ℕ R)
+grant_answer (Ok v) = Some (Ok v)
+grant_answer (Err (Refused why)) = Some (Err why)
+grant_answer (Err Device) = None
+grant_answer (Err OutOfMemory) = None
 
--- the agent's address or the refusal that is answered; a call that failed answers neither
-abbrev pub grant_answer_view : Result ℕ GrantFault → Option (Result ℕ GrantRefusal)
-grant_answer_view (Ok v) = Some (Ok v)
-grant_answer_view (Err fault) = option_map (λ why. Err why) (grant_fault_view fault)
-
--- a request was not granted by a fault of the device
-abbrev pub is_grant_fault : {A : Type 0} → Result A GrantFault → Bool
+-- nothing was granted, by a fault of the device
+abbrev pub is_grant_fault : {A R : Type 0} → Result A (GrantFault R) → Bool
 is_grant_fault (Err Device) = true
 is_grant_fault _ = false

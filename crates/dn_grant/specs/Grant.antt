@@ -1,5 +1,5 @@
 -- What a request for a grant comes to: a refusal, or a grant at the first admissible placement.
-use Rattle.std.specs.Prelude.{◌≡◌, ◌≢◌, ℕ, Bool, true, false, List, [], ◌∷◌, ◌++◌, Option, Some, None, Result, Ok, Err}
+use Rattle.std.specs.Prelude.{◌≡◌, ℕ, Bool, true, List, [], ◌∷◌, ◌++◌, Option, Some, None, Result, Ok, Err}
 use Rattle.dn_base.specs.declared.device.TableEvent.{TableEvent}
 use Rattle.dn_net.specs.declared.node.NodeDecl.{NodeDecl}
 use Rattle.dn_kind.specs.Kind.{Meaning}
@@ -12,10 +12,9 @@ use Rattle.dn_book.specs.declared.grant.Grant.{Grant}
 use Rattle.dn_book.specs.Between.{IsCaught}
 use Rattle.dn_book.specs.Book.{slots_of}
 use Rattle.dn_book.specs.Writes.{AreAdded, grant_events}
-use Rattle.dn_grant.specs.declared.fault.GrantFault.{GrantFault}
-use Rattle.dn_grant.specs.declared.fault.GrantFault.TheVariants.{NoPlacement, Device}
-use Rattle.dn_grant.specs.Faults.{grant_answer_view, is_grant_fault}
-use Rattle.dn_grant.specs.Refusal.{GrantRefusal, no_placement, grant_refusal}
+use Rattle.dn_grant.specs.declared.refusal.GrantRefusal.{GrantRefusal}
+use Rattle.dn_grant.specs.declared.refusal.GrantRefusal.TheVariants.{NoPlacement}
+use Rattle.dn_grant.specs.Refusal.{grant_refusal}
 
 -- the grant of a request at a placement
 abbrev pub grant_of_request : ℕ → Request → Place → Grant
@@ -49,7 +48,7 @@ pub record IsGrantMade (net : List NodeDecl) (book : List Grant) (id : ℕ) (rq 
 
 -- the refusal is the first of the request that holds; that no placement is admissible is the last
 abbrev pub IsGrantRefused : List NodeDecl → List Grant → ℕ → Request → GrantRefusal → Type 0
-IsGrantRefused net book id rq no_placement = IsUnplaced net book id rq
+IsGrantRefused net book id rq NoPlacement = IsUnplaced net book id rq
 IsGrantRefused net book id rq why = grant_refusal net book id rq ≡ Some why
 
 -- A turn of `grant`: the first refusal that holds, and the book stays; or the agent's address of the
@@ -77,12 +76,3 @@ pub record IsGrantLogged (net : List NodeDecl) (kinds : List Meaning) (book : Li
   pub added : AreAdded (grant_events net kinds book cleared (grant_of_request id rq place)) failed log log'
   pub caught : failed ≡ true →
       IsCaught net kinds words' book (book ++ grant_of_request id rq place ∷ [])
-
--- what is known of a fault that is told before a placement is sought: it says the first refusal that holds, and comes
--- neither of the search nor of the device
-pub record IsGrantTold (net : List NodeDecl) (book : List Grant) (id : ℕ) (rq : Request) (fault : GrantFault)
-    : Type 0 where
-  pub outcome : IsGrantOutcome net book id rq (grant_answer_view (Err fault)) book
-  pub no_search : ◌≢◌ {A = Result ℕ GrantFault} (Err fault) (Err NoPlacement)
-  pub no_failure : ◌≢◌ {A = Result ℕ GrantFault} (Err fault) (Err Device)
-  pub no_device : is_grant_fault {A = ℕ} (Err fault) ≡ false

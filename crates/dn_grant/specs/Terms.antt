@@ -1,4 +1,5 @@
 -- The words of the crate that clauses cite, from one place.
-pub use Rattle.dn_grant.specs.Faults.{grant_answer_view, grant_fault_view, is_grant_fault}
-pub use Rattle.dn_grant.specs.Grant.{IsGrantLogged, IsGrantOutcome, IsGrantTold, NoAddition}
-pub use Rattle.dn_grant.specs.Refusal.{grant_refusal, not_accepted}
+pub use Rattle.dn_grant.specs.Done.{IsGrantDone, MayGrant}
+pub use Rattle.dn_grant.specs.Faults.{grant_answer, is_grant_fault}
+pub use Rattle.dn_grant.specs.Grant.{IsGrantLogged, IsGrantOutcome, IsGrantRefused, NoAddition}
+pub use Rattle.dn_grant.specs.Refusal.{grant_refusal}

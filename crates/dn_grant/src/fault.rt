@@ -1,27 +1,18 @@
-//! Why a request is not granted.
+//! Why a call grants nothing.
 
+use std::fmt::Display;
 use thiserror::Error;
 
-/// Why a request is not granted. The first that holds is told, in this order.
+/// Why a call grants nothing, where it may be refused for such reasons.
 #[derive(Clone, Copy, Debug, PartialEq, Eq, Error)]
-#[error("{:?}", self)]
-pub enum GrantFault {
-    /// A live grant has the id.
-    IdUsed,
-    /// The agent's number is that of no node, or of a node that is no agent.
-    NoAgent,
-    /// The node's number is that of no node, or the node's addresses are interrupt vectors.
-    NoTarget,
-    /// The node does not accept all of the buffer: `first` is the first address that it does not
-    /// accept, and the base where the buffer is empty.
-    #[error("NotAccepted {first:#x}")]
-    NotAccepted { first: u64 },
-    /// 4,096 grants live.
-    BookFull,
-    /// No placement gives the agent exactly the buffer.
-    NoPlacement,
+pub enum GrantFault<R: Display> {
+    /// It is refused: the first refusal that holds.
+    #[error("{0}")]
+    Refused(R),
     /// The device failed. It counts its faults.
+    #[error("Device")]
     Device,
-    /// There was no memory for the search or the grant.
+    /// There was no memory for the search or the grants.
+    #[error("OutOfMemory")]
     OutOfMemory,
 }

@@ -1,14 +1,12 @@
 //! Granting a buffer.
 
-ghost use Rattle.std.specs.Prelude.{◌≡◌, ◌≢◌, true, false, is_err, OnOk, IsTrue};
+ghost use Rattle.std.specs.Prelude.{IsTrue};
 ghost use Rattle.dn_kind.specs.Terms.{are_rights, kinds_of};
 ghost use Rattle.dn_tables.specs.Terms.{words_of};
-ghost use Rattle.dn_book.specs.Terms.{IsChangedBook, IsFaithful, MayChange};
-ghost use Rattle.dn_view.specs.Terms.{IsSystem};
-ghost use Rattle.dn_grant.specs.Terms.{IsGrantLogged, IsGrantOutcome, grant_answer_view, is_grant_fault};
+ghost use Rattle.dn_grant.specs.Terms.{IsGrantDone, IsGrantLogged, IsGrantOutcome, MayGrant};
 
 use crate::fault::GrantFault;
-use crate::refusal::refusal;
+use crate::refusal::{GrantRefusal, refusal};
 use dn_base::device::{DeviceOrMemory, Tables};
 use dn_book::book::Book;
 use dn_book::grant::Grant;
@@ -37,35 +35,22 @@ pub fn grant<D: Tables>(
     id: u32,
     request: &Request,
     device: &mut D,
-) -> Result<u64, GrantFault>
-    requires system { IsSystem meaning system }
-    requires ready { MayChange meaning system.on book.old
-        (D.units device.old) (D.words device.old) }
+) -> Result<u64, GrantFault<GrantRefusal>>
+    requires ready { MayGrant meaning system book.old (D.units device.old) (D.words device.old) }
     requires rights { IsTrue (are_rights request.now.rights) }
-    ensures turn { IsGrantOutcome system.entry.on.net.now book.old.grants id request.now
-        (grant_answer_view result) book.new.grants }
-    ensures unchanged { is_err result ≡ true → result ≢ Err GrantFault.Device →
-        (book.new ≡ book.old) × (device.new ≡ device.old) }
-    ensures changed { IsChangedBook system.entry.on.net.now
-        (kinds_of meaning system.entry.on.kinds.now) false result (is_grant_fault result) book.new
-        (D.units device.new) (D.words device.new) (D.faults device.old) (D.faults device.new) }
-    ensures faithful { OnOk result (IsFaithful system.entry.on.net.now book.old.grants
-        → IsFaithful system.entry.on.net.now book.new.grants) }
-    ensures granted { OnOk result (IsGrantLogged system.entry.on.net.now
-        (kinds_of meaning system.entry.on.kinds.now) book.old.grants
-        book.old.cleared id request.now false (D.log device.old) (D.log device.new)
-        (words_of book.new.set)) }
-    ensures stopped { result ≡ Err GrantFault.Device
-        → IsGrantLogged system.entry.on.net.now (kinds_of meaning system.entry.on.kinds.now)
-        book.old.grants book.old.cleared id request.now true (D.log device.old) (D.log device.new)
-        (words_of book.new.set) }
+    ensures { IsGrantDone meaning system.entry.on
+        (IsGrantOutcome system.entry.on.net.now book.old.grants id request.now)
+        (λ failed log log'. IsGrantLogged system.entry.on.net.now
+        (kinds_of meaning system.entry.on.kinds.now) book.old.grants book.old.cleared id
+        request.now failed log log' (words_of book.new.set)) result book.old book.new
+        D.units D.words D.faults D.log device.old device.new }
 {
     if let Some(why) = refusal(book, CheckedNet { net: system.on.net }, id, request) {
-        return Err(why);
+        return Err(GrantFault::Refused(why));
     }
     let placement = match first_in_book(alloc, book, system, request, None) {
         Ok(Some(placement)) => placement,
-        Ok(None) => return Err(GrantFault::NoPlacement),
+        Ok(None) => return Err(GrantFault::Refused(GrantRefusal::NoPlacement)),
         Err(_) => return Err(GrantFault::OutOfMemory),
     };
     let v = placement.v();

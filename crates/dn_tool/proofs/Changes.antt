@@ -1,6 +1,6 @@
 -- From what grants, routes, gathers and revokes say to the turns of a script.
-use Rattle.std.specs.Option.{IfSome, option_map}
-use Rattle.std.proofs.Common.{◌≡◌, ◌≢◌, ◌∙◌, ap, sym, subst, refl, arith, ℕ, suc, ◌≤◌, ◌<◌, ◌⊎◌, inl, inr, Bool, true, false, List, [], ◌∷◌, take, length, Option, IsSome, Some, None, Result, Ok, Err, is_ok, OnOk, ◌==◌, ◌||◌, IsTrue, nat_le, eqb-true, leb-true}
+use Rattle.std.specs.Option.{IfSome}
+use Rattle.std.proofs.Common.{◌≡◌, ◌≢◌, ◌∙◌, ap, sym, subst, refl, arith, ℕ, suc, ◌≤◌, ◌<◌, ◌⊎◌, inl, inr, Bool, true, false, List, [], ◌∷◌, take, length, Option, Some, None, Result, Ok, Err, is_ok, OnOk, ◌==◌, ◌||◌, IsTrue, nat_le, eqb-true, leb-true}
 use Rattle.std.proofs.Math.Seq.{take-length}
 use Rattle.dn_base.specs.declared.device.TableEvent.{TableEvent}
 use Rattle.dn_base.specs.Device.{Logged}
@@ -17,29 +17,17 @@ use Rattle.dn_placement.proofs.Order.{first_is_one}
 use Rattle.dn_book.specs.declared.grant.Grant.{Grant}
 use Rattle.dn_book.specs.Book.{has_id, slots_of, without_id}
 use Rattle.dn_book.specs.Writes.{AreAdded, grant_events, revoke_events}
-use Rattle.dn_grant.specs.declared.fault.GrantFault.{GrantFault}
-use Rattle.dn_grant.specs.declared.fault.GrantFault.TheVariants as grant_fault
-use Rattle.dn_grant.specs.Faults.{grant_answer_view, grant_fault_view}
-use Rattle.dn_grant.specs.Grant.{IsGrantLogged, IsGrantMade, IsGrantOutcome, IsGrantRefused, grant_of_request}
-use Rattle.dn_grant.specs.Refusal.{GrantRefusal}
+use Rattle.dn_grant.specs.Grant.{IsGrantLogged, IsGrantMade, grant_of_request}
 use Rattle.dn_kind.specs.declared.rights.Rights.{Rights}
-use Rattle.dn_gather.specs.declared.fault.GatherFault.{GatherFault}
-use Rattle.dn_gather.specs.declared.fault.GatherFault.TheVariants as gather_fault
 use Rattle.dn_gather.specs.declared.piece.Piece.{Piece}
 use Rattle.dn_gather.specs.declared.scatter.Scatter.{Scatter}
-use Rattle.dn_gather.specs.Faults.{gather_answer_view, gather_fault_view}
-use Rattle.dn_gather.specs.Gather.{IsGatherLogged, IsGatherMade, IsGatherOutcome, grants_of}
+use Rattle.dn_gather.specs.Gather.{IsGatherLogged, IsGatherMade, grants_of}
 use Rattle.dn_gather.specs.Grants.{gather_events, grants_at}
 use Rattle.dn_gather.specs.Scattered.{ArePlaced}
 use Rattle.dn_tables.specs.declared.placement.Hop.{Hop}
 use Rattle.dn_placement.specs.Slots.{Slots}
-use Rattle.dn_gather.specs.Refusal.{GatherRefusal}
 use Rattle.dn_gather.proofs.Chosen.{first_scatter_is_one}
-use Rattle.dn_vector.specs.declared.fault.RouteFault.{RouteFault}
-use Rattle.dn_vector.specs.declared.fault.RouteFault.TheVariants as route_fault
-use Rattle.dn_vector.specs.Faults.{route_answer_view, route_fault_view}
-use Rattle.dn_vector.specs.Refusal.{RouteRefusal}
-use Rattle.dn_vector.specs.Route.{IsPlacedRoute, IsRouteLogged, IsRouteMade, IsRouteOutcome, IsRouteRefused, grant_of_route}
+use Rattle.dn_vector.specs.Route.{IsPlacedRoute, IsRouteLogged, IsRouteMade, grant_of_route}
 use Rattle.dn_vector.specs.Vectors.{vector_request}
 use Rattle.dn_book.specs.Book.{IsFaithful}
 use Rattle.dn_book.specs.State.{BookState}
@@ -57,12 +45,12 @@ use Rattle.dn_tool.specs.declared.state.Session.{Session as Kept}
 use Rattle.dn_tool.specs.declared.halt.RunHalt.{RunHalt}
 use Rattle.dn_tool.specs.declared.halt.RunHalt.TheVariants.{WriteFault, DeviceFault, NoMemory}
 use Rattle.dn_tool.specs.Asked.{numbered, with_ids}
-use Rattle.dn_tool.specs.Changed.{gather_refused_text, gathered_text, grant_refused_text, granted_text, revoke_refused_text, revoked_text, route_refused_text, routed_text}
+use Rattle.dn_tool.specs.Changed.{gathered_text, granted_text, revoke_refused_text, revoked_text, routed_text}
 use Rattle.dn_tool.specs.Halt.{ending_status, is_device_halt, is_write_halt}
 use Rattle.dn_tool.specs.Ids.{id_number, with_id}
 use Rattle.dn_tool.specs.Played.{CameIn}
 use Rattle.dn_tool.specs.State.{CameThrough, CameThroughChange, IsChanged, IsFirstView, IsHalted, IsState, state_view}
-use Rattle.dn_tool.specs.Turn.{IsGatherTurn, IsGrantTurn, IsRevokeTurn, IsRouteTurn, IsTurn, State, Turn, cleared_after, is_change, reply, reply_turn, state_with_id, state_with_ids, turn_with_grant, turn_with_grants}
+use Rattle.dn_tool.specs.Turn.{IsGatherTurn, IsGrantTurn, IsRevokeTurn, IsRouteTurn, IsTurn, State, Turn, cleared_after, is_change, reply, reply_turn, state_with_id, turn_with_grant, turn_with_grants}
 use Rattle.dn_tool.specs.Unmade.{AreUnmade}
 
 -- all events were added
@@ -129,7 +117,7 @@ grant_stopped kinds net s next id rq r log log' words' e logged =
     stopped_inside (IsGrantTurn kinds net s id rq) (turn_with_grant net kinds s id (grant_of_request (id_number s.ids id) rq logged.place) (granted_text id logged.place.v)) r next log log' e (inl (record { place = logged.place; placed = logged.placed; is_turn = refl })) logged.added
 
 -- the turn of a refusal that leaves this state, whose reply is this text
-refused_turn : (P : Turn → Type 0) (after next : State) (own text : List ℕ) (log log' : Option (List TableEvent)) → P (reply_turn own after) → text ≡ own → log' ≡ log → after ≡ next → IsChanged P next text log log'
+pub refused_turn : (P : Turn → Type 0) (after next : State) (own text : List ℕ) (log log' : Option (List TableEvent)) → P (reply_turn own after) → text ≡ own → log' ≡ log → after ≡ next → IsChanged P next text log log'
 refused_turn P after next own text log log' turn is same left = record {
   turn = reply_turn own after;
   is_turn = turn;
@@ -137,30 +125,6 @@ refused_turn P after next own text log log' turn is same left = record {
   replied = sym is;
   left = left;
 }
-
--- the same of the refusal that a fault says
-refused_as : {W : Type 0} (P : Turn → Type 0) (after next : State) (text : List ℕ) (say : W → List ℕ) (said : Option W) (log log' : Option (List TableEvent)) → IsSome said → IfSome said (λ why. P (reply_turn (say why) after)) → IfSome said (λ why. text ≡ say why) → log' ≡ log → after ≡ next → IsChanged P next text log log'
-refused_as P after next text say None log log' some turn is same left = cc
-refused_as P after next text say (Some why) log log' some turn is same left = refused_turn P after next (say why) text log log' turn is same left
-
--- faults that differ are answers that differ
-pub err_differs : {A E : Type 0} (e f : E) → e ≢ f → ◌≢◌ {A = Result A E} (Err e) (Err f)
-err_differs e f other same = other (cc)
-
--- a fault that comes neither of the device nor of want of memory says a refusal
-pub grant_told : (fault : GrantFault) → fault ≢ grant_fault.Device → fault ≢ grant_fault.OutOfMemory → IsSome (grant_fault_view fault)
-grant_told grant_fault.Device d m = absurd (d refl)
-grant_told grant_fault.OutOfMemory d m = absurd (m refl)
-grant_told _ d m = refl
-
--- a grant that was refused, under the number of its id, as its fault says
-pub not_granted_turn : (kinds : List Meaning) (net : List NodeDecl) (s next : State) (id : List ℕ) (rq : Request) (n : ℕ) (fault : GrantFault) (book : List Grant) (text : List ℕ) (log log' : Option (List TableEvent)) → fault ≢ grant_fault.Device → fault ≢ grant_fault.OutOfMemory → n ≡ id_number s.ids id → IsGrantOutcome net s.book n rq (grant_answer_view (Err fault)) book → IfSome (grant_fault_view fault) (λ why. text ≡ grant_refused_text id why) → log' ≡ log → state_with_id s id ≡ next → IsChanged (IsGrantTurn kinds net s id rq) next text log log'
-not_granted_turn kinds net s next id rq n fault book text log log' d m number outcome told same left =
-    refused_as (IsGrantTurn kinds net s id rq) (state_with_id s id) next text (grant_refused_text id) (grant_fault_view fault) log log' (grant_told fault d m) (turns (grant_fault_view fault) outcome) told same left
-  where
-    turns : (o : Option GrantRefusal) → IsGrantOutcome net s.book n rq (option_map (λ w. Err w) o) book → IfSome o (λ why. IsGrantTurn kinds net s id rq (reply_turn (grant_refused_text id why) (state_with_id s id)))
-    turns None o = tt
-    turns (Some why) o = inr (record { why = why; refused = subst (λ k. IsGrantRefused net s.book k rq why) number o.0; is_turn = refl })
 
 -- routes
 
@@ -202,21 +166,6 @@ pub route_stopped : (kinds : List Meaning) (net : List NodeDecl) (s next : State
 route_stopped kinds net s next id agent line node r log log' words' e logged =
     stopped_inside (IsRouteTurn kinds net s id agent line node) (turn_with_grant net kinds s id (grant_of_route (id_number s.ids id) agent node logged.vector logged.place) (routed_text id logged.vector)) r next log log' e (inl (record { vector = logged.vector; place = logged.place; placed = logged.placed; is_turn = refl })) logged.added
 
--- a fault that comes neither of the device nor of want of memory says a refusal
-pub route_told : (fault : RouteFault) → fault ≢ route_fault.Device → fault ≢ route_fault.OutOfMemory → IsSome (route_fault_view fault)
-route_told route_fault.Device d m = absurd (d refl)
-route_told route_fault.OutOfMemory d m = absurd (m refl)
-route_told _ d m = refl
-
--- a route that was refused, under the number of its id, as its fault says
-pub not_routed_turn : (kinds : List Meaning) (net : List NodeDecl) (s next : State) (id : List ℕ) (agent line node : ℕ) (n : ℕ) (fault : RouteFault) (book : List Grant) (text : List ℕ) (log log' : Option (List TableEvent)) → fault ≢ route_fault.Device → fault ≢ route_fault.OutOfMemory → n ≡ id_number s.ids id → IsRouteOutcome net s.book n agent line node (route_answer_view (Err fault)) book → IfSome (route_fault_view fault) (λ why. text ≡ route_refused_text id why) → log' ≡ log → state_with_id s id ≡ next → IsChanged (IsRouteTurn kinds net s id agent line node) next text log log'
-not_routed_turn kinds net s next id agent line node n fault book text log log' d m number outcome told same left =
-    refused_as (IsRouteTurn kinds net s id agent line node) (state_with_id s id) next text (route_refused_text id) (route_fault_view fault) log log' (route_told fault d m) (turns (route_fault_view fault) outcome) told same left
-  where
-    turns : (o : Option RouteRefusal) → IsRouteOutcome net s.book n agent line node (option_map (λ w. Err w) o) book → IfSome o (λ why. IsRouteTurn kinds net s id agent line node (reply_turn (route_refused_text id why) (state_with_id s id)))
-    turns None o = tt
-    turns (Some why) o = inr (record { why = why; refused = subst (λ k. IsRouteRefused net s.book k agent line node why) number o.0; is_turn = refl })
-
 -- gathers
 
 -- a command that asks for pieces asks for one to eight
@@ -251,21 +200,6 @@ gathered_turn kinds net s next agent rights pieces v book' log log' words' made 
 pub gather_stopped : (kinds : List Meaning) (net : List NodeDecl) (s next : State) (agent : ℕ) (rights : Rights) (pieces : List PieceTarget) (r : Result (List ℕ) RunHalt) (log log' : Option (List TableEvent)) (words' : List (List ℕ)) (book' : List Grant) → r ≡ Err DeviceFault → IsGatherLogged net kinds s.book s.cleared agent rights (numbered s.ids pieces) true log log' words' book' → CameThroughChange (IsGatherTurn kinds net s agent rights pieces) r next log log'
 gather_stopped kinds net s next agent rights pieces r log log' words' book' e logged =
     stopped_inside (IsGatherTurn kinds net s agent rights pieces) (turn_with_grants net kinds s pieces (grants_of agent rights (numbered s.ids pieces) logged.place) (gathered_text logged.place.v (length pieces))) r next log log' e (inl (record { place = logged.place; placed = logged.placed; is_turn = refl })) logged.committed.added
-
--- a fault that comes neither of the device nor of want of memory says a refusal
-pub gather_told : (fault : GatherFault) → fault ≢ gather_fault.Device → fault ≢ gather_fault.OutOfMemory → IsSome (gather_fault_view fault)
-gather_told gather_fault.Device d m = absurd (d refl)
-gather_told gather_fault.OutOfMemory d m = absurd (m refl)
-gather_told _ d m = refl
-
--- a gather that was refused, as its fault says
-pub not_gathered_turn : (kinds : List Meaning) (net : List NodeDecl) (s next : State) (agent : ℕ) (rights : Rights) (pieces : List PieceTarget) (fault : GatherFault) (book : List Grant) (text : List ℕ) (log log' : Option (List TableEvent)) → fault ≢ gather_fault.Device → fault ≢ gather_fault.OutOfMemory → IsGatherOutcome net s.book agent rights (numbered s.ids pieces) (gather_answer_view (Err fault)) book → IfSome (gather_fault_view fault) (λ why. text ≡ gather_refused_text why) → log' ≡ log → state_with_ids s pieces ≡ next → IsChanged (IsGatherTurn kinds net s agent rights pieces) next text log log'
-not_gathered_turn kinds net s next agent rights pieces fault book text log log' d m outcome told same left =
-    refused_as (IsGatherTurn kinds net s agent rights pieces) (state_with_ids s pieces) next text gather_refused_text (gather_fault_view fault) log log' (gather_told fault d m) (turns (gather_fault_view fault) outcome) told same left
-  where
-    turns : (o : Option GatherRefusal) → IsGatherOutcome net s.book agent rights (numbered s.ids pieces) (option_map (λ w. Err w) o) book → IfSome o (λ why. IsGatherTurn kinds net s agent rights pieces (reply_turn (gather_refused_text why) (state_with_ids s pieces)))
-    turns None o = tt
-    turns (Some why) o = inr (record { why = why; refused = o.0; is_turn = refl })
 
 -- revokes
 

@@ -13,16 +13,20 @@ use Rattle.dn_book.specs.Book.{IsSound, slots_of, without_id}
 use Rattle.dn_book.specs.Writes.{revoke_events}
 use Rattle.dn_book.proofs.Live.{one_grant}
 use Rattle.dn_grant.specs.Grant.{IsGrantRefused, IsUnplaced, grant_of_request}
-use Rattle.dn_grant.specs.Refusal.{GrantRefusal, id_used, no_agent, no_target, not_accepted, book_full, no_placement, grant_refusal}
+use Rattle.dn_grant.specs.declared.refusal.GrantRefusal.{GrantRefusal}
+use Rattle.dn_grant.specs.declared.refusal.GrantRefusal.TheVariants.{IdUsed, NoAgent, NoTarget, NotAccepted, BookFull, NoPlacement}
+use Rattle.dn_grant.specs.Refusal.{grant_refusal}
 use Rattle.dn_gather.specs.declared.scatter.Scatter.{Scatter}
 use Rattle.dn_gather.specs.declared.piece.Piece.{Piece}
 use Rattle.dn_gather.specs.Gather.{IsGatherRefused, IsUnscattered, grants_of}
-use Rattle.dn_gather.specs.Refusal.{GatherRefusal, gather_refusal}
-use Rattle.dn_gather.specs.Refusal as gather
+use Rattle.dn_gather.specs.declared.refusal.GatherRefusal.{GatherRefusal}
+use Rattle.dn_gather.specs.declared.refusal.GatherRefusal.TheVariants as gather
+use Rattle.dn_gather.specs.Refusal.{gather_refusal}
 use Rattle.dn_gather.proofs.Chosen.{first_scatter_is_one}
 use Rattle.dn_kind.specs.declared.rights.Rights.{Rights}
-use Rattle.dn_vector.specs.Refusal.{RouteRefusal, route_refusal}
-use Rattle.dn_vector.specs.Refusal as route
+use Rattle.dn_vector.specs.declared.refusal.RouteRefusal.{RouteRefusal}
+use Rattle.dn_vector.specs.declared.refusal.RouteRefusal.TheVariants as route
+use Rattle.dn_vector.specs.Refusal.{route_refusal}
 use Rattle.dn_vector.specs.Route.{IsLeastVector, IsRouteRefused, IsUnplacedRoute, grant_of_route}
 use Rattle.dn_vector.specs.Vectors.{vector_request}
 use Rattle.dn_module.specs.declared.command.Command.{Command}
@@ -36,32 +40,32 @@ use Rattle.dn_tool.specs.Turn.{AreTurns, IsGatherTurn, IsGrantTurn, IsRevokeTurn
 use Rattle.dn_tool.proofs.Books.{empty_kept, turn_keeps}
 
 -- a refusal is that for want of a placement, or the one that needs no search
-told : (net : List NodeDecl) (book : List GrantPart) (id : ℕ) (rq : Request) (why : GrantRefusal) → IsGrantRefused net book id rq why → ((why ≡ no_placement) × IsUnplaced net book id rq) ⊎ (grant_refusal net book id rq ≡ Some why)
-told net book id rq id_used r = inr r
-told net book id rq no_agent r = inr r
-told net book id rq no_target r = inr r
-told net book id rq (not_accepted first) r = inr r
-told net book id rq book_full r = inr r
-told net book id rq no_placement r = inl (refl, r)
+told : (net : List NodeDecl) (book : List GrantPart) (id : ℕ) (rq : Request) (why : GrantRefusal) → IsGrantRefused net book id rq why → ((why ≡ NoPlacement) × IsUnplaced net book id rq) ⊎ (grant_refusal net book id rq ≡ Some why)
+told net book id rq IdUsed r = inr r
+told net book id rq NoAgent r = inr r
+told net book id rq NoTarget r = inr r
+told net book id rq (NotAccepted first) r = inr r
+told net book id rq BookFull r = inr r
+told net book id rq NoPlacement r = inl (refl, r)
 
-told_route : (net : List NodeDecl) (book : List GrantPart) (id agent line node : ℕ) (why : RouteRefusal) → IsRouteRefused net book id agent line node why → ((why ≡ route.no_placement) × IsUnplacedRoute net book id agent line node) ⊎ (route_refusal net book id agent node ≡ Some why)
-told_route net book id agent line node route.id_used r = inr r
-told_route net book id agent line node route.no_agent r = inr r
-told_route net book id agent line node route.no_target r = inr r
-told_route net book id agent line node route.book_full r = inr r
-told_route net book id agent line node route.no_placement r = inl (refl, r)
+told_route : (net : List NodeDecl) (book : List GrantPart) (id agent line node : ℕ) (why : RouteRefusal) → IsRouteRefused net book id agent line node why → ((why ≡ route.NoPlacement) × IsUnplacedRoute net book id agent line node) ⊎ (route_refusal net book id agent node ≡ Some why)
+told_route net book id agent line node route.IdUsed r = inr r
+told_route net book id agent line node route.NoAgent r = inr r
+told_route net book id agent line node route.NoTarget r = inr r
+told_route net book id agent line node route.BookFull r = inr r
+told_route net book id agent line node route.NoPlacement r = inl (refl, r)
 
 -- what is allowed is not refused
 not_both : {A : Type 0} (o : Option A) (a : A) → o ≡ None → o ≡ Some a → ⊥
 not_both o a e f = let c : None ≡ Some a = sym e ∙ f in cc
 
-told_gather : (net : List NodeDecl) (book : List GrantPart) (agent : ℕ) (rights : Rights) (ps : List Piece) (why : GatherRefusal) → IsGatherRefused net book agent rights ps why → ((why ≡ gather.no_placement) × IsUnscattered net book agent rights ps) ⊎ (gather_refusal net book agent ps ≡ Some why)
-told_gather net book agent rights ps (gather.id_used piece) r = inr r
-told_gather net book agent rights ps gather.no_agent r = inr r
-told_gather net book agent rights ps (gather.no_target piece) r = inr r
-told_gather net book agent rights ps (gather.not_accepted piece first) r = inr r
-told_gather net book agent rights ps gather.book_full r = inr r
-told_gather net book agent rights ps gather.no_placement r = inl (refl, r)
+told_gather : (net : List NodeDecl) (book : List GrantPart) (agent : ℕ) (rights : Rights) (ps : List Piece) (why : GatherRefusal) → IsGatherRefused net book agent rights ps why → ((why ≡ gather.NoPlacement) × IsUnscattered net book agent rights ps) ⊎ (gather_refusal net book agent ps ≡ Some why)
+told_gather net book agent rights ps (gather.IdUsed piece) r = inr r
+told_gather net book agent rights ps gather.NoAgent r = inr r
+told_gather net book agent rights ps (gather.NoTarget piece) r = inr r
+told_gather net book agent rights ps (gather.NotAccepted piece first) r = inr r
+told_gather net book agent rights ps gather.BookFull r = inr r
+told_gather net book agent rights ps gather.NoPlacement r = inl (refl, r)
 
 -- two refusals are one: each is that for want of a placement, or the one that needs no search
 one_why : {W U : Type 0} (none why other : W) (o : Option W) → (U → o ≡ None) → ((why ≡ none) × U) ⊎ (o ≡ Some why) → ((other ≡ none) × U) ⊎ (o ≡ Some other) → why ≡ other
@@ -83,13 +87,13 @@ gather_one kinds net s agent rights pieces t u (inl g) (inl h) =
     g.is_turn ∙ ap (λ (p : Scatter). turn_with_grants net kinds s pieces (grants_of agent rights ps p) (gathered_text p.v (length pieces))) same ∙ sym h.is_turn
 gather_one kinds net s agent rights pieces t u (inl g) (inr h) =
     let ps : List Piece = numbered s.ids pieces in
-    absurd (not_refused gather.no_placement h.why (gather_refusal net s.book agent ps) g.placed.allowed (λ (n : IsUnscattered net s.book agent rights ps). n.none g.place g.placed.first.suited) (told_gather net s.book agent rights ps h.why h.refused))
+    absurd (not_refused gather.NoPlacement h.why (gather_refusal net s.book agent ps) g.placed.allowed (λ (n : IsUnscattered net s.book agent rights ps). n.none g.place g.placed.first.suited) (told_gather net s.book agent rights ps h.why h.refused))
 gather_one kinds net s agent rights pieces t u (inr g) (inl h) =
     let ps : List Piece = numbered s.ids pieces in
-    absurd (not_refused gather.no_placement g.why (gather_refusal net s.book agent ps) h.placed.allowed (λ (n : IsUnscattered net s.book agent rights ps). n.none h.place h.placed.first.suited) (told_gather net s.book agent rights ps g.why g.refused))
+    absurd (not_refused gather.NoPlacement g.why (gather_refusal net s.book agent ps) h.placed.allowed (λ (n : IsUnscattered net s.book agent rights ps). n.none h.place h.placed.first.suited) (told_gather net s.book agent rights ps g.why g.refused))
 gather_one kinds net s agent rights pieces t u (inr g) (inr h) =
     let ps : List Piece = numbered s.ids pieces in
-    let same : g.why ≡ h.why = one_why gather.no_placement g.why h.why (gather_refusal net s.book agent ps) (λ (n : IsUnscattered net s.book agent rights ps). n.allowed) (told_gather net s.book agent rights ps g.why g.refused) (told_gather net s.book agent rights ps h.why h.refused) in
+    let same : g.why ≡ h.why = one_why gather.NoPlacement g.why h.why (gather_refusal net s.book agent ps) (λ (n : IsUnscattered net s.book agent rights ps). n.allowed) (told_gather net s.book agent rights ps g.why g.refused) (told_gather net s.book agent rights ps h.why h.refused) in
     g.is_turn ∙ ap (λ why. reply_turn (gather_refused_text why) (state_with_ids s pieces)) same ∙ sym h.is_turn
 
 module _ (kinds : List Meaning) (net : List NodeDecl) (s : State) (id : List ℕ) (t u : Turn) where
@@ -100,10 +104,10 @@ module _ (kinds : List Meaning) (net : List NodeDecl) (s : State) (id : List ℕ
   grant_one rq (inl g) (inl h) =
       let same : g.place ≡ h.place = first_is_one net (slots_of net s.book) rq None g.place h.place g.placed.first h.placed.first in
       g.is_turn ∙ ap (λ (p : Place). turn_with_grant net kinds s id (grant_of_request number rq p) (granted_text id p.v)) same ∙ sym h.is_turn
-  grant_one rq (inl g) (inr h) = absurd (not_refused no_placement h.why (grant_refusal net s.book number rq) g.placed.allowed (λ (n : IsUnplaced net s.book number rq). n.none g.place g.placed.first.suited) (told net s.book number rq h.why h.refused))
-  grant_one rq (inr g) (inl h) = absurd (not_refused no_placement g.why (grant_refusal net s.book number rq) h.placed.allowed (λ (n : IsUnplaced net s.book number rq). n.none h.place h.placed.first.suited) (told net s.book number rq g.why g.refused))
+  grant_one rq (inl g) (inr h) = absurd (not_refused NoPlacement h.why (grant_refusal net s.book number rq) g.placed.allowed (λ (n : IsUnplaced net s.book number rq). n.none g.place g.placed.first.suited) (told net s.book number rq h.why h.refused))
+  grant_one rq (inr g) (inl h) = absurd (not_refused NoPlacement g.why (grant_refusal net s.book number rq) h.placed.allowed (λ (n : IsUnplaced net s.book number rq). n.none h.place h.placed.first.suited) (told net s.book number rq g.why g.refused))
   grant_one rq (inr g) (inr h) =
-      let same : g.why ≡ h.why = one_why no_placement g.why h.why (grant_refusal net s.book number rq) (λ (n : IsUnplaced net s.book number rq). n.allowed) (told net s.book number rq g.why g.refused) (told net s.book number rq h.why h.refused) in
+      let same : g.why ≡ h.why = one_why NoPlacement g.why h.why (grant_refusal net s.book number rq) (λ (n : IsUnplaced net s.book number rq). n.allowed) (told net s.book number rq g.why g.refused) (told net s.book number rq h.why h.refused) in
       g.is_turn ∙ ap (λ why. reply_turn (grant_refused_text id why) (state_with_id s id)) same ∙ sym h.is_turn
 
   module _ (agent line node : ℕ) where
@@ -131,10 +135,10 @@ module _ (kinds : List Meaning) (net : List NodeDecl) (s : State) (id : List ℕ
         ∙ ap (λ (v : ℕ). turn_with_grant net kinds s id (grant_of_route number agent node v g.place) (routed_text id v)) vector
         ∙ ap (λ (p : Place). turn_with_grant net kinds s id (grant_of_route number agent node h.vector p) (routed_text id h.vector)) place
         ∙ sym h.is_turn
-    route_one (inl g) (inr h) = absurd (not_refused route.no_placement h.why (route_refusal net s.book number agent node) g.placed.allowed (λ (n : IsUnplacedRoute net s.book number agent line node). n.none g.vector g.placed.placed.free g.place g.placed.placed.first.suited) (told_route net s.book number agent line node h.why h.refused))
-    route_one (inr g) (inl h) = absurd (not_refused route.no_placement g.why (route_refusal net s.book number agent node) h.placed.allowed (λ (n : IsUnplacedRoute net s.book number agent line node). n.none h.vector h.placed.placed.free h.place h.placed.placed.first.suited) (told_route net s.book number agent line node g.why g.refused))
+    route_one (inl g) (inr h) = absurd (not_refused route.NoPlacement h.why (route_refusal net s.book number agent node) g.placed.allowed (λ (n : IsUnplacedRoute net s.book number agent line node). n.none g.vector g.placed.placed.free g.place g.placed.placed.first.suited) (told_route net s.book number agent line node h.why h.refused))
+    route_one (inr g) (inl h) = absurd (not_refused route.NoPlacement g.why (route_refusal net s.book number agent node) h.placed.allowed (λ (n : IsUnplacedRoute net s.book number agent line node). n.none h.vector h.placed.placed.free h.place h.placed.placed.first.suited) (told_route net s.book number agent line node g.why g.refused))
     route_one (inr g) (inr h) =
-        let same : g.why ≡ h.why = one_why route.no_placement g.why h.why (route_refusal net s.book number agent node) (λ (n : IsUnplacedRoute net s.book number agent line node). n.allowed) (told_route net s.book number agent line node g.why g.refused) (told_route net s.book number agent line node h.why h.refused) in
+        let same : g.why ≡ h.why = one_why route.NoPlacement g.why h.why (route_refusal net s.book number agent node) (λ (n : IsUnplacedRoute net s.book number agent line node). n.allowed) (told_route net s.book number agent line node g.why g.refused) (told_route net s.book number agent line node h.why h.refused) in
         g.is_turn ∙ ap (λ why. reply_turn (route_refused_text id why) (state_with_id s id)) same ∙ sym h.is_turn
 
   -- a live grant of an id is one

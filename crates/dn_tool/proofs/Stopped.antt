@@ -1,5 +1,5 @@
 -- What a device tells of the tables: those of a book, and those that a fault left inside a turn.
-use Rattle.std.proofs.Common.{◌≡◌, ◌≢◌, ◌∙◌, ap, sym, subst, refl, ℕ, inl, true, false, List, [], ◌∷◌, ◌++◌, length, Option, Result, Ok, Err}
+use Rattle.std.proofs.Common.{◌≡◌, ◌∙◌, ap, sym, subst, refl, ℕ, inl, Bool, true, false, List, [], ◌∷◌, ◌++◌, length, Option, Some, Result, Ok, Err}
 use Rattle.std.specs.Option.{IfSome}
 use Rattle.dn_base.specs.declared.device.TableEvent.{TableEvent}
 use Rattle.dn_base.specs.declared.device.UnitWords.{UnitWords}
@@ -22,33 +22,28 @@ use Rattle.dn_book.specs.State.{BookState}
 use Rattle.dn_book.specs.Tables.{IsKept, tables_of}
 use Rattle.dn_book.specs.Writes.{revoke_events}
 use Rattle.dn_grant.specs.declared.fault.GrantFault.{GrantFault}
+use Rattle.dn_grant.specs.declared.fault.GrantFault.TheVariants.{Refused}
 use Rattle.dn_grant.specs.declared.fault.GrantFault.TheVariants as grant_fault
-use Rattle.dn_grant.specs.Faults.{grant_answer_view, grant_fault_view}
-use Rattle.dn_grant.specs.Grant.{IsGrantLogged, IsGrantOutcome, grant_of_request}
+use Rattle.dn_grant.specs.Done.{IsGrantDone}
+use Rattle.dn_grant.specs.Grant.{IsGrantLogged, grant_of_request}
 use Rattle.dn_kind.specs.declared.rights.Rights.{Rights}
-use Rattle.dn_gather.specs.declared.fault.GatherFault.{GatherFault}
-use Rattle.dn_gather.specs.declared.fault.GatherFault.TheVariants as gather_fault
 use Rattle.dn_gather.specs.declared.piece.Piece.{Piece}
-use Rattle.dn_gather.specs.Faults.{gather_answer_view, gather_fault_view}
-use Rattle.dn_gather.specs.Gather.{IsGatherLogged, IsGatherOutcome, grants_of}
+use Rattle.dn_gather.specs.Gather.{IsGatherLogged, grants_of}
 use Rattle.dn_module.specs.declared.command.PieceTarget.{PieceTarget}
-use Rattle.dn_vector.specs.declared.fault.RouteFault.{RouteFault}
-use Rattle.dn_vector.specs.declared.fault.RouteFault.TheVariants as route_fault
-use Rattle.dn_vector.specs.Faults.{route_answer_view, route_fault_view}
-use Rattle.dn_vector.specs.Route.{IsRouteLogged, IsRouteOutcome, grant_of_route}
+use Rattle.dn_vector.specs.Route.{IsRouteLogged, grant_of_route}
 use Rattle.dn_tool.specs.declared.halt.RunHalt.{RunHalt}
 use Rattle.dn_tool.specs.declared.halt.RunHalt.TheVariants.{DeviceFault, NoMemory}
-use Rattle.dn_tool.specs.Asked.{numbered, with_ids}
-use Rattle.dn_tool.specs.Changed.{gather_refused_text, gathered_text, grant_refused_text, granted_text, revoked_text, route_refused_text, routed_text}
-use Rattle.dn_tool.specs.Halt.{HaltsByDevice, is_device_halt}
+use Rattle.dn_tool.specs.Asked.{numbered}
+use Rattle.dn_tool.specs.Changed.{gathered_text, granted_text, revoked_text, routed_text}
+use Rattle.dn_tool.specs.Halt.{HaltsByDevice, is_device_halt, refusal_or_halt}
 use Rattle.dn_tool.specs.Ids.{id_number, with_id}
 use Rattle.dn_tool.specs.declared.machine.Machine.{Machine}
 use Rattle.dn_tool.specs.declared.state.Session.{Session as Kept}
 use Rattle.dn_tool.specs.Machine.{IsMachine}
 use Rattle.dn_tool.specs.State.{CameThroughChange, IsChangeDone, IsChanged, IsReadyOn, IsState, state_view}
 use Rattle.dn_tool.specs.Stopped.{AreCaught, IsStopped}
-use Rattle.dn_tool.specs.Turn.{IsGatherTurn, IsGrantTurn, IsRevokeTurn, IsRouteTurn, State, Turn, turn_with_grant, turn_with_grants}
-use Rattle.dn_tool.proofs.Changes.{err_differs, gather_stopped, grant_stopped, halted_after, lives, not_gathered_turn, not_granted_turn, not_routed_turn, route_stopped, state_named, state_same}
+use Rattle.dn_tool.specs.Turn.{IsGatherTurn, IsGrantTurn, IsRevokeTurn, IsRouteTurn, State, Turn, reply_turn, turn_with_grant, turn_with_grants}
+use Rattle.dn_tool.proofs.Changes.{gather_stopped, grant_stopped, halted_after, lives, refused_turn, route_stopped, state_named, state_same}
 
 -- the words that a device tells are the tables of the book
 pub words_told : (kinds : List Meaning) (net : List NodeDecl) (book : List GrantPart) (set : List NodeTable) (sizes : List UnitSize) (told : Option (List UnitWords)) → IsKept net kinds book set → IsOnDevice set sizes told → IfSome told (λ tables. tables ≡ device_tables 0 net (tables_of net kinds book))
@@ -147,43 +142,46 @@ handed_on {X} {Y} r r' h is by fault =
     let halt : h ≡ DeviceFault = cc in
     is ∙ ap (λ (k : RunHalt). Err k) halt
 
--- a grant at which the device failed, under the number of its id
-pub grant_cut : {K : Type 0} {V : K → Type 0} (means : (k : K) × V k → Meaning) (m : Machine K V) (k k' : Kept) (id : List ℕ) (rq : Request) (n : ℕ) (set : List NodeTable) (log log' : Option (List TableEvent)) (units : List UnitSize) (words : Option (List UnitWords)) (x y : Faults) → FitsNet m.on.net.now (kinds_of means m.on.kinds.now) set → IsOnDevice set units words → n ≡ id_number k.ids id → IsGrantLogged m.on.net.now (kinds_of means m.on.kinds.now) k.book.grants k.book.cleared n rq true log log' (words_of set) → HaltsByDevice {A = List ℕ} (Err DeviceFault) x y → IsChangeDone means m (IsGrantTurn (kinds_of means m.on.kinds.now) m.on.net.now (state_view k) id rq) (Err DeviceFault) k k' log log' units words x y
-grant_cut means m k k' id rq n set log log' units words x y fits on number logged halted =
-    let kinds : List Meaning = kinds_of means m.on.kinds.now in
-    let net : List NodeDecl = m.on.net.now in
-    let s : State = state_view k in
+same_halt : {X : Type 0} (a b : RunHalt) → ◌≡◌ {A = Result X RunHalt} (Err a) (Err b) → ◌≡◌ {A = Result (List ℕ) RunHalt} (Err b) (Err a)
+same_halt a b e = let is : a ≡ b = cc in ap (λ (x : RunHalt). Err x) (sym is)
+
+-- A call that granted nothing and halts: `cut` says what it leaves where the device failed.
+pub halted_done : {K : Type 0} {V : K → Type 0} {R D : Type 0} {means : (k : K) × V k → Meaning} {m : Machine K V} {P : Turn → Type 0} {k k' : Kept} {Outcome : Option (Result ℕ R) → List GrantPart → Type 0} {Added : Bool → Option (List TableEvent) → Option (List TableEvent) → Type 0} {book : BookState} {units : D → List UnitSize} {words : D → Option (List UnitWords)} {faults : D → Faults} {log : D → Option (List TableEvent)} {d d' : D} (fault : GrantFault R) (h : RunHalt) (r : Result (List ℕ) RunHalt) → IsGrantDone means m.on Outcome Added (Err fault) k.book book units words faults log d d' → refusal_or_halt fault ≡ Err h → r ≡ Err h → (Added true (log d) (log d') → CameThroughChange P (Err DeviceFault) (state_view k') (log d) (log d') × IsStopped (kinds_of means m.on.kinds.now) m.on.net.now k.book.grants P (words d')) → IsChangeDone means m P r k k' (log d) (log d') (units d') (words d') (faults d) (faults d')
+halted_done (Refused why) h r done e is cut = cc
+halted_done {K} {V} {R} {D} {means} {m} {P} {k} {k'} {Outcome} {Added} {book} {units} {words} {faults} {log} {d} {d'} grant_fault.Device h r done e is cut =
+    let left = cut (done.stopped refl) in
+    subst (λ (q : Result (List ℕ) RunHalt). IsChangeDone means m P q k k' (log d) (log d') (units d') (words d') (faults d) (faults d')) (sym (is ∙ same_halt DeviceFault h e))
+    (done_stopped means m P k k' (log d) (log d') (units d') (words d') (faults d) (faults d') left.0 left.1 (record { no_write = refl; counted = done.changed.counted }))
+halted_done {K} {V} {R} {D} {means} {m} {P} {k} {k'} {Outcome} {Added} {book} {units} {words} {faults} {log} {d} {d'} grant_fault.OutOfMemory h r done e is cut =
+    subst (λ (q : Result (List ℕ) RunHalt). IsChangeDone means m P q k k' (log d) (log d') (units d') (words d') (faults d) (faults d')) (sym (is ∙ same_halt NoMemory h e)) (record {
+      changed = λ told. inl (record { memory = refl; log_is = ap log (done.unchanged refl (λ q. cc)).1; sink_is = refl });
+      caught = λ f. cc;
+      ready = tt;
+      halted = record { no_write = refl; counted = done.changed.counted };
+    })
+
+-- a call that granted nothing and is refused
+pub refusal_done : {K : Type 0} {V : K → Type 0} {R D : Type 0} {means : (k : K) × V k → Meaning} {m : Machine K V} {P : Turn → Type 0} {k : Kept} {Outcome : Option (Result ℕ R) → List GrantPart → Type 0} {Added : Bool → Option (List TableEvent) → Option (List TableEvent) → Type 0} {book : BookState} {units : D → List UnitSize} {words : D → Option (List UnitWords)} {faults : D → Faults} {log : D → Option (List TableEvent)} {d d' : D} (fault : GrantFault R) (why : R) (ids named : List (List ℕ)) (flats : Option FlatsView) (text : List ℕ) → IsMachine means m → IsState (kinds_of means m.on.kinds.now) m.on.net.now k → IsGrantDone means m.on Outcome Added (Err fault) k.book book units words faults log d d' → refusal_or_halt fault ≡ Ok why → ids ≡ named → IfSome flats (AreFlats m.on.net.now) → (Outcome (Some (Err why)) book.grants → P (reply_turn text (record { book = k.book.grants; cleared = k.book.cleared; ids = named }))) → IsChangeDone means m P (Ok text) k (refused_state k book ids flats) (log d) (log d') (units d') (words d') (faults d) (faults d')
+refusal_done {K} {V} {R} {D} {means} {m} {P} {k} {Outcome} {Added} {book} {units} {words} {faults} {log} {d} {d'} (Refused said) why ids named flats text machine state done e names reach turn =
+    let is : said ≡ why = cc in
+    let same = done.unchanged refl (λ q. cc) in
+    let before : State = record { book = k.book.grants; cleared = k.book.cleared; ids = named } in
+    done_refused means m P text k book ids named flats (log d) (log d') (units d') (words d') (faults d) (faults d') machine state same.0 names reach done.changed.on_device (ap faults same.1)
+    (refused_turn P before (state_view (refused_state k book ids flats)) text text (log d) (log d') (turn (subst (λ (w : R). Outcome (Some (Err w)) book.grants) is done.turn)) refl (ap log same.1))
+refusal_done grant_fault.Device why ids named flats text machine state done e names reach turn = cc
+refusal_done grant_fault.OutOfMemory why ids named flats text machine state done e names reach turn = cc
+
+-- what a grant leaves at which the device failed, under the number of its id
+pub grant_cut : (kinds : List Meaning) (net : List NodeDecl) (s next : State) (id : List ℕ) (rq : Request) (n : ℕ) (set : List NodeTable) (log log' : Option (List TableEvent)) (units : List UnitSize) (words : Option (List UnitWords)) → FitsNet net kinds set → IsOnDevice set units words → n ≡ id_number s.ids id → IsGrantLogged net kinds s.book s.cleared n rq true log log' (words_of set) → CameThroughChange (IsGrantTurn kinds net s id rq) (Err DeviceFault) next log log' × IsStopped kinds net s.book (IsGrantTurn kinds net s id rq) words
+grant_cut kinds net s next id rq n set log log' units words fits on number logged =
     let came : IsGrantLogged net kinds s.book s.cleared (id_number s.ids id) rq true log log' (words_of set) = subst (λ i. IsGrantLogged net kinds s.book s.cleared i rq true log log' (words_of set)) number logged in
-    done_stopped means m (IsGrantTurn kinds net s id rq) k k' log log' units words x y
-    (grant_stopped kinds net s (state_view k') id rq (Err DeviceFault) log log' (words_of set) refl came)
-    (grant_caught kinds net s id set units words fits on rq log log' came) halted
+    (grant_stopped kinds net s next id rq (Err DeviceFault) log log' (words_of set) refl came, grant_caught kinds net s id set units words fits on rq log log' came)
 
--- a grant that was refused, under the number of its id
-pub grant_unmade : {K D : Type 0} {V : K → Type 0} (means : (k : K) × V k → Meaning) (m : Machine K V) (k : Kept) (book : BookState) (ids : List (List ℕ)) (flats : Option FlatsView) (id text : List ℕ) (rq : Request) (n : ℕ) (fault : GrantFault) (log : D → Option (List TableEvent)) (faults : D → Faults) (d d' : D) (units : List UnitSize) (words : Option (List UnitWords)) → IsMachine means m → IsState (kinds_of means m.on.kinds.now) m.on.net.now k → (◌≢◌ {A = Result ℕ GrantFault} (Err fault) (Err grant_fault.Device) → (book ≡ k.book) × (d' ≡ d)) → ids ≡ with_id k.ids id → IfSome flats (AreFlats m.on.net.now) → IsOnDevice book.set units words → fault ≢ grant_fault.Device → fault ≢ grant_fault.OutOfMemory → n ≡ id_number k.ids id → IsGrantOutcome m.on.net.now k.book.grants n rq (grant_answer_view (Err fault)) book.grants → IfSome (grant_fault_view fault) (λ why. text ≡ grant_refused_text id why) → IsChangeDone means m (IsGrantTurn (kinds_of means m.on.kinds.now) m.on.net.now (state_view k) id rq) (Ok text) k (refused_state k book ids flats) (log d) (log d') units words (faults d) (faults d')
-grant_unmade means m k book ids flats id text rq n fault log faults d d' units words machine state unchanged named reach on device memory number outcome told =
-    let kinds : List Meaning = kinds_of means m.on.kinds.now in
-    let same = unchanged (err_differs fault grant_fault.Device device) in
-    done_refused means m (IsGrantTurn kinds m.on.net.now (state_view k) id rq) text k book ids (with_id k.ids id) flats (log d) (log d') units words (faults d) (faults d') machine state same.0 named reach on (ap faults same.1)
-    (not_granted_turn kinds m.on.net.now (state_view k) (state_view (refused_state k book ids flats)) id rq n fault book.grants text (log d) (log d') device memory number outcome told (ap log same.1))
-
--- a route at which the device failed, under the number of its id
-pub route_cut : {K : Type 0} {V : K → Type 0} (means : (k : K) × V k → Meaning) (m : Machine K V) (k k' : Kept) (id : List ℕ) (agent line node : ℕ) (n : ℕ) (set : List NodeTable) (log log' : Option (List TableEvent)) (units : List UnitSize) (words : Option (List UnitWords)) (x y : Faults) → FitsNet m.on.net.now (kinds_of means m.on.kinds.now) set → IsOnDevice set units words → n ≡ id_number k.ids id → IsRouteLogged m.on.net.now (kinds_of means m.on.kinds.now) k.book.grants k.book.cleared n agent line node true log log' (words_of set) → HaltsByDevice {A = List ℕ} (Err DeviceFault) x y → IsChangeDone means m (IsRouteTurn (kinds_of means m.on.kinds.now) m.on.net.now (state_view k) id agent line node) (Err DeviceFault) k k' log log' units words x y
-route_cut means m k k' id agent line node n set log log' units words x y fits on number logged halted =
-    let kinds : List Meaning = kinds_of means m.on.kinds.now in
-    let net : List NodeDecl = m.on.net.now in
-    let s : State = state_view k in
+-- what a route leaves
+pub route_cut : (kinds : List Meaning) (net : List NodeDecl) (s next : State) (id : List ℕ) (agent line node n : ℕ) (set : List NodeTable) (log log' : Option (List TableEvent)) (units : List UnitSize) (words : Option (List UnitWords)) → FitsNet net kinds set → IsOnDevice set units words → n ≡ id_number s.ids id → IsRouteLogged net kinds s.book s.cleared n agent line node true log log' (words_of set) → CameThroughChange (IsRouteTurn kinds net s id agent line node) (Err DeviceFault) next log log' × IsStopped kinds net s.book (IsRouteTurn kinds net s id agent line node) words
+route_cut kinds net s next id agent line node n set log log' units words fits on number logged =
     let came : IsRouteLogged net kinds s.book s.cleared (id_number s.ids id) agent line node true log log' (words_of set) = subst (λ i. IsRouteLogged net kinds s.book s.cleared i agent line node true log log' (words_of set)) number logged in
-    done_stopped means m (IsRouteTurn kinds net s id agent line node) k k' log log' units words x y
-    (route_stopped kinds net s (state_view k') id agent line node (Err DeviceFault) log log' (words_of set) refl came)
-    (route_caught kinds net s id set units words fits on agent line node log log' came) halted
-
--- a route that was refused, under the number of its id
-pub route_unmade : {K D : Type 0} {V : K → Type 0} (means : (k : K) × V k → Meaning) (m : Machine K V) (k : Kept) (book : BookState) (ids : List (List ℕ)) (flats : Option FlatsView) (id text : List ℕ) (agent line node : ℕ) (n : ℕ) (fault : RouteFault) (log : D → Option (List TableEvent)) (faults : D → Faults) (d d' : D) (units : List UnitSize) (words : Option (List UnitWords)) → IsMachine means m → IsState (kinds_of means m.on.kinds.now) m.on.net.now k → (◌≢◌ {A = Result ℕ RouteFault} (Err fault) (Err route_fault.Device) → (book ≡ k.book) × (d' ≡ d)) → ids ≡ with_id k.ids id → IfSome flats (AreFlats m.on.net.now) → IsOnDevice book.set units words → fault ≢ route_fault.Device → fault ≢ route_fault.OutOfMemory → n ≡ id_number k.ids id → IsRouteOutcome m.on.net.now k.book.grants n agent line node (route_answer_view (Err fault)) book.grants → IfSome (route_fault_view fault) (λ why. text ≡ route_refused_text id why) → IsChangeDone means m (IsRouteTurn (kinds_of means m.on.kinds.now) m.on.net.now (state_view k) id agent line node) (Ok text) k (refused_state k book ids flats) (log d) (log d') units words (faults d) (faults d')
-route_unmade means m k book ids flats id text agent line node n fault log faults d d' units words machine state unchanged named reach on device memory number outcome told =
-    let kinds : List Meaning = kinds_of means m.on.kinds.now in
-    let same = unchanged (err_differs fault route_fault.Device device) in
-    done_refused means m (IsRouteTurn kinds m.on.net.now (state_view k) id agent line node) text k book ids (with_id k.ids id) flats (log d) (log d') units words (faults d) (faults d') machine state same.0 named reach on (ap faults same.1)
-    (not_routed_turn kinds m.on.net.now (state_view k) (state_view (refused_state k book ids flats)) id agent line node n fault book.grants text (log d) (log d') device memory number outcome told (ap log same.1))
+    (route_stopped kinds net s next id agent line node (Err DeviceFault) log log' (words_of set) refl came, route_caught kinds net s id set units words fits on agent line node log log' came)
 
 -- what the words of a set say where the device failed at a gather
 gather_caught : (kinds : List Meaning) (net : List NodeDecl) (s : State) (set : List NodeTable) (sizes : List UnitSize) (told : Option (List UnitWords)) → FitsNet net kinds set → IsOnDevice set sizes told → (agent : ℕ) (rights : Rights) (pieces : List PieceTarget) (log log' : Option (List TableEvent)) (book : List GrantPart) → IsGatherLogged net kinds s.book s.cleared agent rights (numbered s.ids pieces) true log log' (words_of set) book → IsStopped kinds net s.book (IsGatherTurn kinds net s agent rights pieces) told
@@ -195,20 +193,8 @@ gather_caught kinds net s set sizes told fits on agent rights pieces log log' bo
       caught = told_caught kinds net s.book (s.book ++ gs) set sizes told fits on (logged.committed.caught refl);
     }
 
--- a gather at which the device failed, with its pieces under the numbers of their ids
-pub gather_cut : {K : Type 0} {V : K → Type 0} (means : (k : K) × V k → Meaning) (m : Machine K V) (k k' : Kept) (agent : ℕ) (rights : Rights) (pieces : List PieceTarget) (asked : List Piece) (set : List NodeTable) (book : List GrantPart) (log log' : Option (List TableEvent)) (units : List UnitSize) (words : Option (List UnitWords)) (x y : Faults) → FitsNet m.on.net.now (kinds_of means m.on.kinds.now) set → IsOnDevice set units words → asked ≡ numbered k.ids pieces → IsGatherLogged m.on.net.now (kinds_of means m.on.kinds.now) k.book.grants k.book.cleared agent rights asked true log log' (words_of set) book → HaltsByDevice {A = List ℕ} (Err DeviceFault) x y → IsChangeDone means m (IsGatherTurn (kinds_of means m.on.kinds.now) m.on.net.now (state_view k) agent rights pieces) (Err DeviceFault) k k' log log' units words x y
-gather_cut means m k k' agent rights pieces asked set book log log' units words x y fits on number logged halted =
-    let kinds : List Meaning = kinds_of means m.on.kinds.now in
-    let s : State = state_view k in
-    let came : IsGatherLogged m.on.net.now kinds s.book s.cleared agent rights (numbered s.ids pieces) true log log' (words_of set) book = subst (λ (ps : List Piece). IsGatherLogged m.on.net.now kinds s.book s.cleared agent rights ps true log log' (words_of set) book) number logged in
-    done_stopped means m (IsGatherTurn kinds m.on.net.now s agent rights pieces) k k' log log' units words x y
-    (gather_stopped kinds m.on.net.now s (state_view k') agent rights pieces (Err DeviceFault) log log' (words_of set) book refl came)
-    (gather_caught kinds m.on.net.now s set units words fits on agent rights pieces log log' book came) halted
-
--- a gather that was refused
-pub gather_unmade : {K D : Type 0} {V : K → Type 0} (means : (k : K) × V k → Meaning) (m : Machine K V) (k : Kept) (book : BookState) (ids : List (List ℕ)) (flats : Option FlatsView) (text : List ℕ) (agent : ℕ) (rights : Rights) (pieces : List PieceTarget) (asked : List Piece) (fault : GatherFault) (log : D → Option (List TableEvent)) (faults : D → Faults) (d d' : D) (units : List UnitSize) (words : Option (List UnitWords)) → IsMachine means m → IsState (kinds_of means m.on.kinds.now) m.on.net.now k → (◌≢◌ {A = Result ℕ GatherFault} (Err fault) (Err gather_fault.Device) → (book ≡ k.book) × (d' ≡ d)) → ids ≡ with_ids k.ids pieces → IfSome flats (AreFlats m.on.net.now) → IsOnDevice book.set units words → fault ≢ gather_fault.Device → fault ≢ gather_fault.OutOfMemory → asked ≡ numbered k.ids pieces → IsGatherOutcome m.on.net.now k.book.grants agent rights asked (gather_answer_view (Err fault)) book.grants → IfSome (gather_fault_view fault) (λ why. text ≡ gather_refused_text why) → IsChangeDone means m (IsGatherTurn (kinds_of means m.on.kinds.now) m.on.net.now (state_view k) agent rights pieces) (Ok text) k (refused_state k book ids flats) (log d) (log d') units words (faults d) (faults d')
-gather_unmade means m k book ids flats text agent rights pieces asked fault log faults d d' units words machine state unchanged named reach on device memory number outcome told =
-    let kinds : List Meaning = kinds_of means m.on.kinds.now in
-    let same = unchanged (err_differs fault gather_fault.Device device) in
-    done_refused means m (IsGatherTurn kinds m.on.net.now (state_view k) agent rights pieces) text k book ids (with_ids k.ids pieces) flats (log d) (log d') units words (faults d) (faults d') machine state same.0 named reach on (ap faults same.1)
-    (not_gathered_turn kinds m.on.net.now (state_view k) (state_view (refused_state k book ids flats)) agent rights pieces fault book.grants text (log d) (log d') device memory (subst (λ (ps : List Piece). IsGatherOutcome m.on.net.now k.book.grants agent rights ps (gather_answer_view (Err fault)) book.grants) number outcome) told (ap log same.1))
+-- what a gather leaves, with its pieces under the numbers of their ids
+pub gather_cut : (kinds : List Meaning) (net : List NodeDecl) (s next : State) (agent : ℕ) (rights : Rights) (pieces : List PieceTarget) (asked : List Piece) (set : List NodeTable) (book : List GrantPart) (log log' : Option (List TableEvent)) (units : List UnitSize) (words : Option (List UnitWords)) → FitsNet net kinds set → IsOnDevice set units words → asked ≡ numbered s.ids pieces → IsGatherLogged net kinds s.book s.cleared agent rights asked true log log' (words_of set) book → CameThroughChange (IsGatherTurn kinds net s agent rights pieces) (Err DeviceFault) next log log' × IsStopped kinds net s.book (IsGatherTurn kinds net s agent rights pieces) words
+gather_cut kinds net s next agent rights pieces asked set book log log' units words fits on number logged =
+    let came : IsGatherLogged net kinds s.book s.cleared agent rights (numbered s.ids pieces) true log log' (words_of set) book = subst (λ (ps : List Piece). IsGatherLogged net kinds s.book s.cleared agent rights ps true log log' (words_of set) book) number logged in
+    (gather_stopped kinds net s next agent rights pieces (Err DeviceFault) log log' (words_of set) book refl came, gather_caught kinds net s set units words fits on agent rights pieces log log' book came)

@@ -1,11 +1,12 @@
 -- The replies to the commands that change the book.
 use Rattle.std.specs.Prelude.{ℕ, List, ◌++◌, codes}
 use Rattle.std.specs.Fmt.{decimal}
-use Rattle.dn_grant.specs.Refusal.{GrantRefusal, id_used, no_agent, no_target, not_accepted, book_full, no_placement}
-use Rattle.dn_gather.specs.Refusal.{GatherRefusal}
-use Rattle.dn_gather.specs.Refusal as gather
-use Rattle.dn_vector.specs.Refusal.{RouteRefusal}
-use Rattle.dn_vector.specs.Refusal as route
+use Rattle.dn_grant.specs.declared.refusal.GrantRefusal.{GrantRefusal}
+use Rattle.dn_grant.specs.declared.refusal.GrantRefusal.TheVariants.{IdUsed, NoAgent, NoTarget, NotAccepted, BookFull, NoPlacement}
+use Rattle.dn_gather.specs.declared.refusal.GatherRefusal.{GatherRefusal}
+use Rattle.dn_gather.specs.declared.refusal.GatherRefusal.TheVariants as gather
+use Rattle.dn_vector.specs.declared.refusal.RouteRefusal.{RouteRefusal}
+use Rattle.dn_vector.specs.declared.refusal.RouteRefusal.TheVariants as route
 use Rattle.dn_print.specs.Names.{address_text}
 
 -- the reply that names an id and a refusal
@@ -14,12 +15,12 @@ refused_text id refusal = id ++ (codes " refused: " ++ (refusal ++ codes "\n"))
 
 -- the refusal of a grant as it is printed
 abbrev pub grant_refusal_text : GrantRefusal → List ℕ
-grant_refusal_text id_used = codes "IdUsed"
-grant_refusal_text no_agent = codes "NoAgent"
-grant_refusal_text no_target = codes "NoTarget"
-grant_refusal_text (not_accepted first) = codes "NotAccepted " ++ address_text first
-grant_refusal_text book_full = codes "BookFull"
-grant_refusal_text no_placement = codes "NoPlacement"
+grant_refusal_text IdUsed = codes "IdUsed"
+grant_refusal_text NoAgent = codes "NoAgent"
+grant_refusal_text NoTarget = codes "NoTarget"
+grant_refusal_text (NotAccepted first) = codes "NotAccepted " ++ address_text first
+grant_refusal_text BookFull = codes "BookFull"
+grant_refusal_text NoPlacement = codes "NoPlacement"
 
 -- the reply to a grant, which has the first address of the buffer in its agent
 abbrev pub granted_text : List ℕ → ℕ → List ℕ
@@ -35,11 +36,11 @@ routed_text id vector = id ++ (codes " vector " ++ (address_text vector ++ codes
 
 -- the refusal of a route as it is printed
 abbrev pub route_refusal_text : RouteRefusal → List ℕ
-route_refusal_text route.id_used = codes "IdUsed"
-route_refusal_text route.no_agent = codes "NoAgent"
-route_refusal_text route.no_target = codes "NoTarget"
-route_refusal_text route.book_full = codes "BookFull"
-route_refusal_text route.no_placement = codes "NoPlacement"
+route_refusal_text route.IdUsed = codes "IdUsed"
+route_refusal_text route.NoAgent = codes "NoAgent"
+route_refusal_text route.NoTarget = codes "NoTarget"
+route_refusal_text route.BookFull = codes "BookFull"
+route_refusal_text route.NoPlacement = codes "NoPlacement"
 
 -- the reply to a route that is refused
 abbrev pub route_refused_text : List ℕ → RouteRefusal → List ℕ
@@ -51,13 +52,13 @@ piece_refusal_text refusal piece = refusal ++ (codes " " ++ decimal piece)
 
 -- the refusal of a gather as it is printed
 abbrev pub gather_refusal_text : GatherRefusal → List ℕ
-gather_refusal_text (gather.id_used piece) = piece_refusal_text (codes "IdUsed") piece
-gather_refusal_text gather.no_agent = codes "NoAgent"
-gather_refusal_text (gather.no_target piece) = piece_refusal_text (codes "NoTarget") piece
-gather_refusal_text (gather.not_accepted piece first) =
+gather_refusal_text (gather.IdUsed piece) = piece_refusal_text (codes "IdUsed") piece
+gather_refusal_text gather.NoAgent = codes "NoAgent"
+gather_refusal_text (gather.NoTarget piece) = piece_refusal_text (codes "NoTarget") piece
+gather_refusal_text (gather.NotAccepted piece first) =
     codes "NotAccepted " ++ (decimal piece ++ (codes " " ++ address_text first))
-gather_refusal_text gather.book_full = codes "BookFull"
-gather_refusal_text gather.no_placement = codes "NoPlacement"
+gather_refusal_text gather.BookFull = codes "BookFull"
+gather_refusal_text gather.NoPlacement = codes "NoPlacement"
 
 -- the reply to a gather, which has the agent's first address and the number of pieces
 abbrev pub gathered_text : ℕ → ℕ → List ℕ

@@ -3,6 +3,9 @@ use Rattle.std.specs.Prelude.{◌≡◌, ℕ, ◌==◌, Bool, true, false, ◌||
 use Rattle.dn_base.specs.declared.device.DeviceOrMemory.{DeviceOrMemory}
 use Rattle.dn_base.specs.declared.device.DeviceOrMemory.TheVariants.{Device, OutOfMemory}
 use Rattle.dn_base.specs.Outside.{Faults, IsCounted, IsWritten}
+use Rattle.dn_grant.specs.declared.fault.GrantFault.{GrantFault}
+use Rattle.dn_grant.specs.declared.fault.GrantFault.TheVariants.{Refused}
+use Rattle.dn_grant.specs.declared.fault.GrantFault.TheVariants as grant_fault
 use Rattle.dn_tool.specs.declared.halt.RunHalt.{RunHalt}
 use Rattle.dn_tool.specs.declared.halt.RunHalt.TheVariants.{WriteFault, DeviceFault, NoMemory}
 
@@ -52,3 +55,9 @@ is_free_status status = status == 2 || status == 3 || status == 6 || status == 7
 abbrev pub make_halt : DeviceOrMemory → RunHalt
 make_halt Device = DeviceFault
 make_halt OutOfMemory = NoMemory
+
+-- the refusal for which nothing was granted, or the halt that the fault is
+abbrev pub refusal_or_halt : {R : Type 0} → GrantFault R → Result R RunHalt
+refusal_or_halt (Refused why) = Ok why
+refusal_or_halt grant_fault.Device = Err DeviceFault
+refusal_or_halt grant_fault.OutOfMemory = Err NoMemory

@@ -8,7 +8,7 @@ pub use Rattle.dn_tool.specs.Compiled.{IsLegal, compilation, compile_fault_view,
 pub use Rattle.dn_tool.specs.Demo.{IsShown, IsShownOn, agent_rows, has_granted, has_revoked, held_records, held_slots, sum_below, summary_with}
 pub use Rattle.dn_tool.specs.Flown.{LookupsAreGiven}
 pub use Rattle.dn_tool.specs.Found.{access_of, access_text, agent_of, asked_text, found_text, names_under, node_refused_text}
-pub use Rattle.dn_tool.specs.Halt.{HaltsByDevice, HaltsByEither, HaltsBySink, Writes, ending_status, is_free_status, make_halt}
+pub use Rattle.dn_tool.specs.Halt.{HaltsByDevice, HaltsByEither, HaltsBySink, Writes, ending_status, is_free_status, make_halt, refusal_or_halt}
 pub use Rattle.dn_tool.specs.Ids.{id_number, with_id}
 pub use Rattle.dn_tool.specs.Input.{is_too_long, limit_for, parts_of, parts_view}
 pub use Rattle.dn_tool.specs.Machine.{IsMachine}

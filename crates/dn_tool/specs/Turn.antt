@@ -19,12 +19,12 @@ use Rattle.dn_book.specs.Book.{IsSound, has_id, without_id}
 use Rattle.dn_book.specs.Tables.{tables_of}
 use Rattle.dn_book.specs.Writes.{grant_events, revoke_events}
 use Rattle.dn_grant.specs.Grant.{IsGrantRefused, IsPlaced, grant_of_request}
-use Rattle.dn_grant.specs.Refusal.{GrantRefusal}
+use Rattle.dn_grant.specs.declared.refusal.GrantRefusal.{GrantRefusal}
 use Rattle.dn_gather.specs.declared.scatter.Scatter.{Scatter}
 use Rattle.dn_gather.specs.Gather.{IsGatherRefused, IsScattered, grants_of}
 use Rattle.dn_gather.specs.Grants.{gather_events}
-use Rattle.dn_gather.specs.Refusal.{GatherRefusal}
-use Rattle.dn_vector.specs.Refusal.{RouteRefusal}
+use Rattle.dn_gather.specs.declared.refusal.GatherRefusal.{GatherRefusal}
+use Rattle.dn_vector.specs.declared.refusal.RouteRefusal.{RouteRefusal}
 use Rattle.dn_vector.specs.Route.{IsPlacedRoute, IsRouteRefused, grant_of_route}
 use Rattle.dn_print.specs.Dump.{dump_text}
 use Rattle.dn_tool.specs.Changed.{gather_refused_text, gathered_text, grant_refused_text, granted_text, revoke_refused_text, revoked_text, route_refused_text, routed_text}

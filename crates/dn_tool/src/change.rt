@@ -1,27 +1,26 @@
 //! The commands that change the book: grants, routes, revokes, and buffers in pieces.
 
-ghost use Rattle.std.specs.Prelude.{◌≡◌, true, length, IfOk, IfSome, IsSome, IsTrue};
+ghost use Rattle.std.specs.Prelude.{◌≡◌, true, length, IfOk, IsTrue};
 ghost use Rattle.dn_kind.specs.Terms.{are_rights, kinds_of};
 ghost use Rattle.dn_module.specs.Terms.{names_within};
-ghost use Rattle.dn_grant.specs.Terms.{grant_fault_view, not_accepted};
-ghost use Rattle.dn_vector.specs.Terms.{route_fault_view};
+ghost use Rattle.dn_grant.specs.declared.refusal.GrantRefusal.TheVariants.{NotAccepted};
 ghost use Rattle.dn_tool.specs.Terms.{IsChangeDone, IsGrantTurn, IsReadyOn, IsRevokeTurn, IsRouteTurn, IsTurn, grant_refused_text, granted_text, is_change, number_or_none, refused_text, request_of, revoked_text, rights_of, route_refused_text, routed_text, state_view};
 
 use crate::OutOfMemory;
-use crate::halt::RunHalt;
+use crate::halt::{RunHalt, refusal_or_halt};
 use crate::machine::Machine;
 use crate::pieces::gather_change;
 use crate::state::{Session, keep_flats, kept_flats, renew};
 use dn_base::device::Tables;
 use dn_base::items::Items;
 use dn_book::book::RevokeFault;
-use dn_grant::fault::GrantFault;
 use dn_grant::grant::grant;
+use dn_grant::refusal::GrantRefusal;
 use dn_kind::rights::Rights;
 use dn_module::command::{Command, Target};
 use dn_parse::syntax::Mode;
 use dn_placement::request::Request;
-use dn_vector::fault::RouteFault;
+use dn_vector::refusal::RouteRefusal;
 use dn_vector::route::route;
 use dn_view::system::System;
 use std::alloc::Global;
@@ -145,9 +144,10 @@ fn grant_change<D: Tables>(
             renew(machine, state);
             Ok(granted_reply(alloc, id, v)?)
         }
-        Err(GrantFault::Device) => Err(RunHalt::DeviceFault),
-        Err(GrantFault::OutOfMemory) => Err(RunHalt::NoMemory),
-        Err(why) => Ok(grant_refused(alloc, id, why)?),
+        Err(fault) => {
+            let why = refusal_or_halt(fault)?;
+            Ok(grant_refused(alloc, id, why)?)
+        }
     }
 }
 
@@ -190,9 +190,10 @@ fn route_change<D: Tables>(
             renew(machine, state);
             Ok(routed_reply(alloc, id, vector)?)
         }
-        Err(RouteFault::Device) => Err(RunHalt::DeviceFault),
-        Err(RouteFault::OutOfMemory) => Err(RunHalt::NoMemory),
-        Err(why) => Ok(route_refused(alloc, id, why)?),
+        Err(fault) => {
+            let why = refusal_or_halt(fault)?;
+            Ok(route_refused(alloc, id, why)?)
+        }
     }
 }
 
@@ -259,45 +260,37 @@ pub(crate) fn refused_reply(
 }
 
 /// The reply to a grant that is refused.
-fn grant_refused(alloc: Global, id: &str, why: GrantFault) -> Result<Items<u8>, OutOfMemory>
-    requires { IsSome (grant_fault_view why) }
-    ensures { IfOk result (λ text. IfSome (grant_fault_view why)
-        (λ refusal. text ≡ grant_refused_text id.now refusal)) }
+fn grant_refused(alloc: Global, id: &str, why: GrantRefusal) -> Result<Items<u8>, OutOfMemory>
+    ensures { IfOk result (λ text. text ≡ grant_refused_text id.now why) }
 {
     match why {
-        GrantFault::IdUsed => refused_reply(alloc, id, "IdUsed"),
-        GrantFault::NoAgent => refused_reply(alloc, id, "NoAgent"),
-        GrantFault::NoTarget => refused_reply(alloc, id, "NoTarget"),
-        GrantFault::NotAccepted { first } => not_accepted(alloc, id, first),
-        GrantFault::BookFull => refused_reply(alloc, id, "BookFull"),
-        GrantFault::NoPlacement => refused_reply(alloc, id, "NoPlacement"),
-        GrantFault::Device => unreachable!(),
-        GrantFault::OutOfMemory => unreachable!(),
+        GrantRefusal::IdUsed => refused_reply(alloc, id, "IdUsed"),
+        GrantRefusal::NoAgent => refused_reply(alloc, id, "NoAgent"),
+        GrantRefusal::NoTarget => refused_reply(alloc, id, "NoTarget"),
+        GrantRefusal::NotAccepted { first } => not_accepted(alloc, id, first),
+        GrantRefusal::BookFull => refused_reply(alloc, id, "BookFull"),
+        GrantRefusal::NoPlacement => refused_reply(alloc, id, "NoPlacement"),
     }
 }
 
 /// The reply to a grant of a buffer of which an address is not accepted.
 fn not_accepted(alloc: Global, id: &str, first: u64) -> Result<Items<u8>, OutOfMemory>
     ensures { IfOk result (λ text. text
-        ≡ grant_refused_text id.now (not_accepted first)) }
+        ≡ grant_refused_text id.now (NotAccepted first)) }
 {
     let refusal = format!(in alloc; "NotAccepted 0x{first:x}")?;
     refused_reply(alloc, id, refusal.as_str())
 }
 
 /// The reply to a route that is refused.
-fn route_refused(alloc: Global, id: &str, why: RouteFault) -> Result<Items<u8>, OutOfMemory>
-    requires { IsSome (route_fault_view why) }
-    ensures { IfOk result (λ text. IfSome (route_fault_view why)
-        (λ refusal. text ≡ route_refused_text id.now refusal)) }
+fn route_refused(alloc: Global, id: &str, why: RouteRefusal) -> Result<Items<u8>, OutOfMemory>
+    ensures { IfOk result (λ text. text ≡ route_refused_text id.now why) }
 {
     match why {
-        RouteFault::IdUsed => refused_reply(alloc, id, "IdUsed"),
-        RouteFault::NoAgent => refused_reply(alloc, id, "NoAgent"),
-        RouteFault::NoTarget => refused_reply(alloc, id, "NoTarget"),
-        RouteFault::BookFull => refused_reply(alloc, id, "BookFull"),
-        RouteFault::NoPlacement => refused_reply(alloc, id, "NoPlacement"),
-        RouteFault::Device => unreachable!(),
-        RouteFault::OutOfMemory => unreachable!(),
+        RouteRefusal::IdUsed => refused_reply(alloc, id, "IdUsed"),
+        RouteRefusal::NoAgent => refused_reply(alloc, id, "NoAgent"),
+        RouteRefusal::NoTarget => refused_reply(alloc, id, "NoTarget"),
+        RouteRefusal::BookFull => refused_reply(alloc, id, "BookFull"),
+        RouteRefusal::NoPlacement => refused_reply(alloc, id, "NoPlacement"),
     }
 }

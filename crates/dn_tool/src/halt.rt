@@ -1,11 +1,13 @@
 //! Why an answer stops before its end.
 
 ghost use Rattle.std.specs.Prelude.{◌≡◌};
-ghost use Rattle.dn_tool.specs.Terms.{ending_status, make_halt};
+ghost use Rattle.dn_tool.specs.Terms.{ending_status, make_halt, refusal_or_halt};
 ghost use Rattle.dn_tool.specs.declared.halt.RunHalt.TheVariants.{NoMemory as no_memory};
 
 use crate::OutOfMemory;
 use dn_base::device::DeviceOrMemory;
+use dn_grant::fault::GrantFault;
+use std::fmt::Display;
 
 /// The sink failed.
 pub const WRITE_FAULT: u8 = 3;
@@ -53,5 +55,17 @@ pub(crate) fn status_of(ended: Result<u8, RunHalt>) -> u8
         Err(RunHalt::WriteFault) => WRITE_FAULT,
         Err(RunHalt::DeviceFault) => DEVICE_FAULT,
         Err(RunHalt::NoMemory) => NO_MEMORY,
+    }
+}
+
+/// The refusal for which nothing was granted. `Err` is what the fault stops the run by: a fault of the device, or want of
+/// memory.
+pub(crate) fn refusal_or_halt<R: Display>(fault: GrantFault<R>) -> Result<R, RunHalt>
+    ensures { result ≡ refusal_or_halt fault }
+{
+    match fault {
+        GrantFault::Refused(why) => Ok(why),
+        GrantFault::Device => Err(RunHalt::DeviceFault),
+        GrantFault::OutOfMemory => Err(RunHalt::NoMemory),
     }
 }

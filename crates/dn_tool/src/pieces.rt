@@ -1,21 +1,21 @@
 //! The command that grants a buffer in pieces.
 
-ghost use Rattle.std.specs.Prelude.{◌≡◌, ◌≤◌, length, IfOk, IfSome, IsSome, IsTrue, OnOk};
+ghost use Rattle.std.specs.Prelude.{◌≡◌, ◌≤◌, length, IfOk, IsTrue, OnOk};
 ghost use Rattle.dn_kind.specs.Terms.{are_rights, kinds_of};
-ghost use Rattle.dn_gather.specs.Terms.{gather_fault_view, not_accepted};
+ghost use Rattle.dn_gather.specs.declared.refusal.GatherRefusal.TheVariants.{NotAccepted};
 ghost use Rattle.dn_tool.specs.Terms.{IsChangeDone, IsGatherTurn, IsReadyOn, gather_refused_text, gathered_text, numbered, piece_of, refused_piece_text, state_view, with_ids};
 
 use crate::OutOfMemory;
 use crate::change::{number_or_none, refused_reply};
-use crate::halt::RunHalt;
+use crate::halt::{RunHalt, refusal_or_halt};
 use crate::ids::Ids;
 use crate::machine::Machine;
 use crate::state::{Session, keep_flats, kept_flats, renew};
 use dn_base::device::Tables;
 use dn_base::items::Items;
-use dn_gather::fault::GatherFault;
 use dn_gather::gather::gather;
 use dn_gather::piece::Piece;
+use dn_gather::refusal::GatherRefusal;
 use dn_kind::rights::Rights;
 use dn_module::command::PieceTarget;
 use dn_view::system::System;
@@ -61,9 +61,10 @@ pub(crate) fn gather_change<D: Tables>(
             renew(machine, state);
             Ok(gathered_reply(alloc, v, pieces.len())?)
         }
-        Err(GatherFault::Device) => Err(RunHalt::DeviceFault),
-        Err(GatherFault::OutOfMemory) => Err(RunHalt::NoMemory),
-        Err(why) => Ok(gather_refused(alloc, why)?),
+        Err(fault) => {
+            let why = refusal_or_halt(fault)?;
+            Ok(gather_refused(alloc, why)?)
+        }
     }
 }
 
@@ -105,20 +106,16 @@ fn gathered_reply(alloc: Global, v: u64, count: usize) -> Result<Items<u8>, OutO
 }
 
 /// The reply to a gather that is refused.
-fn gather_refused(alloc: Global, why: GatherFault) -> Result<Items<u8>, OutOfMemory>
-    requires { IsSome (gather_fault_view why) }
-    ensures { IfOk result (λ text. IfSome (gather_fault_view why)
-        (λ refusal. text ≡ gather_refused_text refusal)) }
+fn gather_refused(alloc: Global, why: GatherRefusal) -> Result<Items<u8>, OutOfMemory>
+    ensures { IfOk result (λ text. text ≡ gather_refused_text why) }
 {
     match why {
-        GatherFault::IdUsed { piece } => refused_piece(alloc, "IdUsed", piece),
-        GatherFault::NoAgent => refused_reply(alloc, "gather", "NoAgent"),
-        GatherFault::NoTarget { piece } => refused_piece(alloc, "NoTarget", piece),
-        GatherFault::NotAccepted { piece, first } => not_accepted(alloc, piece, first),
-        GatherFault::BookFull => refused_reply(alloc, "gather", "BookFull"),
-        GatherFault::NoPlacement => refused_reply(alloc, "gather", "NoPlacement"),
-        GatherFault::Device => unreachable!(),
-        GatherFault::OutOfMemory => unreachable!(),
+        GatherRefusal::IdUsed { piece } => refused_piece(alloc, "IdUsed", piece),
+        GatherRefusal::NoAgent => refused_reply(alloc, "gather", "NoAgent"),
+        GatherRefusal::NoTarget { piece } => refused_piece(alloc, "NoTarget", piece),
+        GatherRefusal::NotAccepted { piece, first } => not_accepted(alloc, piece, first),
+        GatherRefusal::BookFull => refused_reply(alloc, "gather", "BookFull"),
+        GatherRefusal::NoPlacement => refused_reply(alloc, "gather", "NoPlacement"),
     }
 }
 
@@ -132,7 +129,7 @@ fn refused_piece(alloc: Global, refusal: &str, piece: u32) -> Result<Items<u8>, 
 
 /// The reply to a gather of a piece of which an address is not accepted.
 fn not_accepted(alloc: Global, piece: u32, first: u64) -> Result<Items<u8>, OutOfMemory>
-    ensures { IfOk result (λ text. text ≡ gather_refused_text (not_accepted piece first)) }
+    ensures { IfOk result (λ text. text ≡ gather_refused_text (NotAccepted piece first)) }
 {
     let refusal = format!(in alloc; "NotAccepted {piece} 0x{first:x}")?;
     refused_reply(alloc, "gather", refusal.as_str())

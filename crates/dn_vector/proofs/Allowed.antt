@@ -17,7 +17,8 @@ use Rattle.dn_book.specs.Book.{IsFaithful, IsSound, has_id, slots_of}
 use Rattle.dn_book.specs.Laws.{IsGrantFor}
 use Rattle.dn_book.specs.Between.{IsCaught}
 use Rattle.dn_book.specs.Writes.{AreAdded, grant_events}
-use Rattle.dn_vector.specs.Refusal.{id_used, no_agent, no_target, book_full, route_refusal}
+use Rattle.dn_vector.specs.declared.refusal.RouteRefusal.TheVariants.{IdUsed, NoAgent, NoTarget, BookFull}
+use Rattle.dn_vector.specs.Refusal.{route_refusal}
 use Rattle.dn_vector.specs.Route.{IsLeastVector, IsPlacedRoute, IsRouteLogged, IsRouteMade, IsUnplacedRoute, NoRouteAddition, NoVector, grant_of_route}
 use Rattle.dn_vector.specs.Vectors.{vector_request}
 
@@ -34,7 +35,7 @@ allowed_is net book id agent node none = by_id (has_id id book) refl none
   where
     by_room : has_id id book ≡ false → IsTrue (is_agent_at (slice_get net agent)) →
         IsTrue (is_vectors_at (slice_get net node)) →
-        (f : Bool) → nat_le 4096 (length book) ≡ f → (if f then Some book_full else None) ≡ None →
+        (f : Bool) → nat_le 4096 (length book) ≡ f → (if f then Some BookFull else None) ≡ None →
         IsAllowed net book id agent node
     by_room i a t true e none = cc
     by_room i a t false e none =
@@ -42,25 +43,25 @@ allowed_is net book id agent node none = by_id (has_id id book) refl none
 
     by_target : has_id id book ≡ false → IsTrue (is_agent_at (slice_get net agent)) →
         (t : Bool) → is_vectors_at (slice_get net node) ≡ t →
-        (if not t then Some no_target
-        else (if nat_le 4096 (length book) then Some book_full else None)) ≡ None →
+        (if not t then Some NoTarget
+        else (if nat_le 4096 (length book) then Some BookFull else None)) ≡ None →
         IsAllowed net book id agent node
     by_target i a false e none = cc
     by_target i a true e none = by_room i a e (nat_le 4096 (length book)) refl none
 
     by_agent : has_id id book ≡ false → (a : Bool) → is_agent_at (slice_get net agent) ≡ a →
-        (if not a then Some no_agent
-        else (if not (is_vectors_at (slice_get net node)) then Some no_target
-        else (if nat_le 4096 (length book) then Some book_full else None))) ≡ None →
+        (if not a then Some NoAgent
+        else (if not (is_vectors_at (slice_get net node)) then Some NoTarget
+        else (if nat_le 4096 (length book) then Some BookFull else None))) ≡ None →
         IsAllowed net book id agent node
     by_agent i false e none = cc
     by_agent i true e none = by_target i e (is_vectors_at (slice_get net node)) refl none
 
     by_id : (h : Bool) → has_id id book ≡ h →
-        (if h then Some id_used
-        else (if not (is_agent_at (slice_get net agent)) then Some no_agent
-        else (if not (is_vectors_at (slice_get net node)) then Some no_target
-        else (if nat_le 4096 (length book) then Some book_full else None)))) ≡ None →
+        (if h then Some IdUsed
+        else (if not (is_agent_at (slice_get net agent)) then Some NoAgent
+        else (if not (is_vectors_at (slice_get net node)) then Some NoTarget
+        else (if nat_le 4096 (length book) then Some BookFull else None)))) ≡ None →
         IsAllowed net book id agent node
     by_id true e none = cc
     by_id false e none = by_agent e (is_agent_at (slice_get net agent)) refl none

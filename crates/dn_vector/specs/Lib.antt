@@ -1,4 +1,3 @@
-pub mod Faults
 pub mod Refusal
 pub mod Route
 pub mod Search

@@ -1,6 +1,6 @@
 -- What a route comes to: a refusal, or a grant of the least free vector that has an admissible placement
 -- at the line.
-use Rattle.std.specs.Prelude.{◌≡◌, ◌≢◌, ℕ, ◌<◌, Bool, true, false, List, [], ◌∷◌, ◌++◌, Option, Some, None, Result, Ok, Err, IsTrue}
+use Rattle.std.specs.Prelude.{◌≡◌, ℕ, ◌<◌, Bool, true, List, [], ◌∷◌, ◌++◌, Option, Some, None, Result, Ok, Err, IsTrue}
 use Rattle.dn_base.specs.declared.device.TableEvent.{TableEvent}
 use Rattle.dn_net.specs.declared.node.NodeDecl.{NodeDecl}
 use Rattle.dn_kind.specs.Kind.{Meaning}
@@ -13,10 +13,9 @@ use Rattle.dn_book.specs.declared.grant.Grant.{Grant}
 use Rattle.dn_book.specs.Between.{IsCaught}
 use Rattle.dn_book.specs.Book.{slots_of}
 use Rattle.dn_book.specs.Writes.{AreAdded, grant_events}
-use Rattle.dn_vector.specs.declared.fault.RouteFault.{RouteFault}
-use Rattle.dn_vector.specs.declared.fault.RouteFault.TheVariants.{NoPlacement, Device}
-use Rattle.dn_vector.specs.Faults.{route_answer_view, is_route_fault}
-use Rattle.dn_vector.specs.Refusal.{RouteRefusal, no_placement, route_refusal}
+use Rattle.dn_vector.specs.declared.refusal.RouteRefusal.{RouteRefusal}
+use Rattle.dn_vector.specs.declared.refusal.RouteRefusal.TheVariants.{NoPlacement}
+use Rattle.dn_vector.specs.Refusal.{route_refusal}
 use Rattle.dn_vector.specs.Vectors.{is_free_vector, vector_request}
 
 -- the grant of a vector to an agent at a placement
@@ -72,7 +71,7 @@ pub record IsRouteMade (net : List NodeDecl) (book : List Grant) (id agent line 
 
 -- the refusal is the first of the route that holds; that no vector has a placement is the last
 abbrev pub IsRouteRefused : List NodeDecl → List Grant → ℕ → ℕ → ℕ → ℕ → RouteRefusal → Type 0
-IsRouteRefused net book id agent line node no_placement =
+IsRouteRefused net book id agent line node NoPlacement =
     IsUnplacedRoute net book id agent line node
 IsRouteRefused net book id agent line node why = route_refusal net book id agent node ≡ Some why
 
@@ -106,13 +105,3 @@ pub record IsRouteLogged (net : List NodeDecl) (kinds : List Meaning) (book : Li
       (grant_events net kinds book cleared (grant_of_route id agent node vector place)) failed log log'
   pub caught : failed ≡ true →
       IsCaught net kinds words' book (book ++ grant_of_route id agent node vector place ∷ [])
-
--- what is known of a fault that is told before a vector is looked at: it says the first refusal that holds, whatever
--- the line, and comes neither of the search nor of the device
-pub record IsTold (net : List NodeDecl) (book : List Grant) (id agent node : ℕ) (fault : RouteFault)
-    : Type 0 where
-  pub outcome : (line : ℕ) →
-      IsRouteOutcome net book id agent line node (route_answer_view (Err fault)) book
-  pub no_search : ◌≢◌ {A = Result ℕ RouteFault} (Err fault) (Err NoPlacement)
-  pub no_failure : ◌≢◌ {A = Result ℕ RouteFault} (Err fault) (Err Device)
-  pub no_device : is_route_fault {A = ℕ} (Err fault) ≡ false

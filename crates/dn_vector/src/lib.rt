@@ -5,7 +5,6 @@
 //! that has an admissible placement.
 #![tactic(auto)]
 
-pub mod fault;
 pub mod refusal;
 pub mod route;
 pub mod search;

@@ -1,17 +1,15 @@
 //! Routing a line of an agent to an interrupt vector.
 
-ghost use Rattle.std.specs.Prelude.{◌≡◌, ◌≢◌, true, false, is_err, OnOk};
 ghost use Rattle.dn_kind.specs.Terms.{kinds_of};
 ghost use Rattle.dn_tables.specs.Terms.{words_of};
-ghost use Rattle.dn_book.specs.Terms.{IsChangedBook, IsFaithful, MayChange};
-ghost use Rattle.dn_view.specs.Terms.{IsSystem};
-ghost use Rattle.dn_vector.specs.Terms.{IsRouteLogged, IsRouteOutcome, is_route_fault, route_answer_view};
+ghost use Rattle.dn_grant.specs.Terms.{IsGrantDone, MayGrant};
+ghost use Rattle.dn_vector.specs.Terms.{IsRouteLogged, IsRouteOutcome};
 
-use crate::fault::RouteFault;
-use crate::refusal::refusal;
+use crate::refusal::{RouteRefusal, refusal};
 use crate::search::{Asked, least_vector};
 use dn_base::device::{DeviceOrMemory, Tables};
 use dn_book::book::Book;
+use dn_grant::fault::GrantFault;
 use dn_view::system::System;
 use std::alloc::Global;
 
@@ -37,30 +35,17 @@ pub fn route<D: Tables>(
     line: u64,
     node: u16,
     device: &mut D,
-) -> Result<u64, RouteFault>
-    requires system { IsSystem meaning system }
-    requires ready { MayChange meaning system.on book.old
-        (D.units device.old) (D.words device.old) }
-    ensures turn { IsRouteOutcome system.entry.on.net.now book.old.grants id agent line node
-        (route_answer_view result) book.new.grants }
-    ensures unchanged { is_err result ≡ true → result ≢ Err RouteFault.Device →
-        (book.new ≡ book.old) × (device.new ≡ device.old) }
-    ensures changed { IsChangedBook system.entry.on.net.now
-        (kinds_of meaning system.entry.on.kinds.now) false result (is_route_fault result) book.new
-        (D.units device.new) (D.words device.new) (D.faults device.old) (D.faults device.new) }
-    ensures faithful { OnOk result (IsFaithful system.entry.on.net.now book.old.grants
-        → IsFaithful system.entry.on.net.now book.new.grants) }
-    ensures routed { OnOk result (IsRouteLogged system.entry.on.net.now
-        (kinds_of meaning system.entry.on.kinds.now) book.old.grants
-        book.old.cleared id agent line node false (D.log device.old) (D.log device.new)
-        (words_of book.new.set)) }
-    ensures stopped { result ≡ Err RouteFault.Device → IsRouteLogged system.entry.on.net.now
-        (kinds_of meaning system.entry.on.kinds.now) book.old.grants
-        book.old.cleared id agent line node true (D.log device.old) (D.log device.new)
-        (words_of book.new.set) }
+) -> Result<u64, GrantFault<RouteRefusal>>
+    requires { MayGrant meaning system book.old (D.units device.old) (D.words device.old) }
+    ensures { IsGrantDone meaning system.entry.on
+        (IsRouteOutcome system.entry.on.net.now book.old.grants id agent line node)
+        (λ failed log log'. IsRouteLogged system.entry.on.net.now
+        (kinds_of meaning system.entry.on.kinds.now) book.old.grants book.old.cleared id agent
+        line node failed log log' (words_of book.new.set)) result book.old book.new
+        D.units D.words D.faults D.log device.old device.new }
 {
     if let Some(why) = refusal(book, system.on.net, id, agent, node) {
-        return Err(why);
+        return Err(GrantFault::Refused(why));
     }
     let asked = Asked {
         book,
@@ -71,14 +56,14 @@ pub fn route<D: Tables>(
     };
     let found = match least_vector(alloc, asked) {
         Ok(Some(found)) => found,
-        Ok(None) => return Err(RouteFault::NoPlacement),
-        Err(_) => return Err(RouteFault::OutOfMemory),
+        Ok(None) => return Err(GrantFault::Refused(RouteRefusal::NoPlacement)),
+        Err(_) => return Err(GrantFault::OutOfMemory),
     };
     let vector = found.vector;
     let grant = found.grant(id, agent, node);
     match book.commit(alloc, system.on, grant, device) {
         Ok(()) => Ok(vector),
-        Err(DeviceOrMemory::Device) => Err(RouteFault::Device),
-        Err(DeviceOrMemory::OutOfMemory) => Err(RouteFault::OutOfMemory),
+        Err(DeviceOrMemory::Device) => Err(GrantFault::Device),
+        Err(DeviceOrMemory::OutOfMemory) => Err(GrantFault::OutOfMemory),
     }
 }

@@ -13,9 +13,6 @@ use Rattle.dn_book.specs.declared.book.RevokeFault.TheVariants.{Device as revoke
 use Rattle.dn_grant.specs.Faults.{is_grant_fault}
 use Rattle.dn_grant.specs.declared.fault.GrantFault.{GrantFault}
 use Rattle.dn_grant.specs.declared.fault.GrantFault.TheVariants.{Device as grant_device}
-use Rattle.dn_vector.specs.Faults.{is_route_fault}
-use Rattle.dn_vector.specs.declared.fault.RouteFault.{RouteFault}
-use Rattle.dn_vector.specs.declared.fault.RouteFault.TheVariants.{Device as route_device}
 use Rattle.dn_view.specs.Systems.{IsSystem}
 use Rattle.test_tables.specs.declared.desk.Desk.{Desk}
 use Rattle.test_tables.specs.Desk.{IsDesk}
@@ -37,11 +34,8 @@ kept_after E device is_fault net ks b b' D (Err e) is k ok same unfailed = go (i
     go true f = λ t. let bad : true ≡ false = sym t ∙ unfailed ∙ ap not f in cc
     go false f = as_before net ks b b' (same refl (λ q. let bad : false ≡ true = sym f ∙ ap is_fault q ∙ is in cc)).0 k
 
-pub granted_keeps : (net : List NodeDecl) (ks : List Meaning) (b b' : BookState) (D : Type 0) (r : Result ℕ GrantFault) → Keeps net ks b → OnOk r (IsKept net ks b'.grants b'.set) → (is_err r ≡ true → r ≢ Err grant_device → (b' ≡ b) × D) → b'.unfailed ≡ not (is_grant_fault r) → Keeps net ks b'
-granted_keeps net ks b b' D r = kept_after GrantFault grant_device is_grant_fault net ks b b' D r refl
-
-pub routed_keeps : (net : List NodeDecl) (ks : List Meaning) (b b' : BookState) (D : Type 0) (r : Result ℕ RouteFault) → Keeps net ks b → OnOk r (IsKept net ks b'.grants b'.set) → (is_err r ≡ true → r ≢ Err route_device → (b' ≡ b) × D) → b'.unfailed ≡ not (is_route_fault r) → Keeps net ks b'
-routed_keeps net ks b b' D r = kept_after RouteFault route_device is_route_fault net ks b b' D r refl
+pub granted_keeps : {R : Type 0} (net : List NodeDecl) (ks : List Meaning) (b b' : BookState) (D : Type 0) (r : Result ℕ (GrantFault R)) → Keeps net ks b → OnOk r (IsKept net ks b'.grants b'.set) → (is_err r ≡ true → r ≢ Err grant_device → (b' ≡ b) × D) → b'.unfailed ≡ not (is_grant_fault r) → Keeps net ks b'
+granted_keeps {R} net ks b b' D r = kept_after (GrantFault R) grant_device is_grant_fault net ks b b' D r refl
 
 pub revoked_keeps : (net : List NodeDecl) (ks : List Meaning) (b b' : BookState) (D : Type 0) (r : Result (Unit {0}) RevokeFault) → Keeps net ks b → OnOk r (IsKept net ks b'.grants b'.set) → (r ≡ Err no_grant → (b' ≡ b) × D) → b'.unfailed ≡ not (is_revoke_fault r) → Keeps net ks b'
 revoked_keeps net ks b b' D (Ok v) k ok same unfailed = λ t. ok

@@ -9,11 +9,12 @@ use bitflags::Flags;
 use dn_base::memory_tables::MemTables;
 use dn_book::book::{Book, RevokeFault};
 use dn_flat::flats::Flats;
-use dn_gather::fault::GatherFault;
 use dn_gather::gather::gather;
 use dn_gather::piece::Piece;
+use dn_gather::refusal::GatherRefusal;
 use dn_grant::fault::GrantFault;
 use dn_grant::grant::grant;
+use dn_grant::refusal::GrantRefusal;
 use dn_kind::rights::{Access, Rights};
 use dn_net::names::Names;
 use dn_net::net::Net;
@@ -22,7 +23,7 @@ use dn_place::first::first;
 use dn_placement::request::Request;
 use dn_placement::roles::is_agent;
 use dn_tables::placement::Placement;
-use dn_vector::fault::RouteFault;
+use dn_vector::refusal::RouteRefusal;
 use dn_vector::route::route;
 use dn_view::exact::exact;
 use dn_view::resolve::resolve;
@@ -52,7 +53,7 @@ impl<'a> Desk<'a> {
         alloc: Global,
         id: u32,
         request: &Request,
-    ) -> Option<Result<u64, GrantFault>>
+    ) -> Option<Result<u64, GrantFault<GrantRefusal>>>
         requires { IsDesk meaning self.old }
         ensures { IsDesk meaning self.new }
     {
@@ -71,7 +72,7 @@ impl<'a> Desk<'a> {
         agent: u16,
         pieces: &[Piece],
         rights: Rights,
-    ) -> Option<Result<u64, GatherFault>>
+    ) -> Option<Result<u64, GrantFault<GatherRefusal>>>
         requires { IsDesk meaning self.old }
         ensures { IsDesk meaning self.new }
     {
@@ -100,7 +101,7 @@ impl<'a> Desk<'a> {
         id: u32,
         line: Name,
         node: u16,
-    ) -> Option<Result<u64, RouteFault>>
+    ) -> Option<Result<u64, GrantFault<RouteRefusal>>>
         requires { IsDesk meaning self.old }
         ensures { IsDesk meaning self.new }
     {

@@ -9,8 +9,8 @@ use dn_grant::fault::GrantFault;
 use dn_kind::rights::Rights;
 use dn_net::node::Name;
 use dn_placement::request::Request;
-use dn_vector::fault::RouteFault;
 use std::alloc::Global;
+use std::fmt::Display;
 use std::process::Abort;
 use test_plans::Plan;
 
@@ -48,7 +48,7 @@ pub fn made(alloc: Global, desk: &mut Desk<'_>, command: Command) -> Option<Outc
         }
         Command::Route(id, line, node) => {
             let given = desk.route(alloc, id, line, node)?;
-            Some(routed(given))
+            Some(granted(given))
         }
         Command::Revoke(id) => {
             let given = desk.revoke(id)?;
@@ -57,20 +57,11 @@ pub fn made(alloc: Global, desk: &mut Desk<'_>, command: Command) -> Option<Outc
     }
 }
 
-/// What came of a grant.
-fn granted(given: Result<u64, GrantFault>) -> Outcome {
+/// What came of a grant or a route.
+fn granted<R: Copy + Display>(given: Result<u64, GrantFault<R>>) -> Outcome {
     match given {
-        Ok(_v) => Outcome::Done,
+        Ok(_given) => Outcome::Done,
         Err(GrantFault::Device) => Outcome::Failed,
-        Err(_) => Outcome::Refused,
-    }
-}
-
-/// What came of a route.
-fn routed(given: Result<u64, RouteFault>) -> Outcome {
-    match given {
-        Ok(_vector) => Outcome::Done,
-        Err(RouteFault::Device) => Outcome::Failed,
         Err(_) => Outcome::Refused,
     }
 }

@@ -8,8 +8,9 @@ ghost use Rattle.test_tables.specs.Terms.{IsDesk};
 use crate::calls::{board_of, desk_of, system_of};
 use crate::desk::Desk;
 use dn_base::device::TableEvent;
-use dn_gather::fault::GatherFault;
 use dn_gather::piece::Piece;
+use dn_gather::refusal::GatherRefusal;
+use dn_grant::fault::GrantFault;
 use dn_kind::kinds::Kinds;
 use dn_kind::rights::{Access, Rights};
 use dn_net::node::Name;
@@ -52,7 +53,7 @@ fn gathered(
     desk: &mut Desk<'_>,
     agent: u16,
     pieces: &[Piece],
-) -> Result<u64, GatherFault>
+) -> Result<u64, GrantFault<GatherRefusal>>
     requires { IsDesk meaning desk.old }
     ensures { IsDesk meaning desk.new }
 {
@@ -103,7 +104,10 @@ fn stand_side_by_side(rt: &impl Abort, alloc: Global, system: System<'_>)
     fill(rt, alloc, &mut desk);
     revoke(rt, &mut desk, 3);
     revoke(rt, &mut desk, 5);
-    assert!(rt; gathered(rt, alloc, &mut desk, DMA, &two) == Err(GatherFault::NoPlacement));
+    assert!(rt;
+        gathered(rt, alloc, &mut desk, DMA, &two)
+            == Err(GrantFault::Refused(GatherRefusal::NoPlacement))
+    );
     revoke(rt, &mut desk, 6);
     assert!(rt; gathered(rt, alloc, &mut desk, DMA, &two) == Ok(0x5000));
     let wanted = [TableEvent::Fence, write(5, 0x8002001), write(6, 0x8003001)];
@@ -122,13 +126,13 @@ fn compare_second(
     desk: &mut Desk<'_>,
     agent: u16,
     second: Piece,
-    wanted: GatherFault,
+    wanted: GatherRefusal,
 )
     requires { IsDesk meaning desk.old }
     ensures { IsDesk meaning desk.new }
 {
     let pieces = [piece(1, 0x4000, 0x1000), second];
-    assert!(rt; gathered(rt, alloc, desk, agent, &pieces) == Err(wanted));
+    assert!(rt; gathered(rt, alloc, desk, agent, &pieces) == Err(GrantFault::Refused(wanted)));
 }
 
 /// A page of the memory is refused with second pieces, for each by the first refusal over both.
@@ -136,7 +140,7 @@ fn refuse_seconds(rt: &impl Abort, alloc: Global, desk: &mut Desk<'_>)
     requires { IsDesk meaning desk.old }
 {
     let first = 0x40000000;
-    let unaccepted = GatherFault::NotAccepted { piece: 1, first };
+    let unaccepted = GatherRefusal::NotAccepted { piece: 1, first };
     let none = Piece {
         node: 6,
         ..piece(2, 0x0, 0x1000)
@@ -145,12 +149,12 @@ fn refuse_seconds(rt: &impl Abort, alloc: Global, desk: &mut Desk<'_>)
         (
             DRAM,
             piece(1, 0x9000, 0x1000),
-            GatherFault::IdUsed { piece: 1 },
+            GatherRefusal::IdUsed { piece: 1 },
         ),
-        (DRAM, none, GatherFault::NoAgent),
-        (DMA, none, GatherFault::NoTarget { piece: 1 }),
+        (DRAM, none, GatherRefusal::NoAgent),
+        (DMA, none, GatherRefusal::NoTarget { piece: 1 }),
         (DMA, piece(2, 0x3ffff000, 0x2000), unaccepted),
-        (DMA, piece(2, 0x9000, 0x800), GatherFault::NoPlacement),
+        (DMA, piece(2, 0x9000, 0x800), GatherRefusal::NoPlacement),
     ] {
         let (agent, second, wanted) = row;
         compare_second(rt, alloc, desk, agent, second, wanted);
@@ -175,7 +179,7 @@ fn stop(rt: &impl Abort, alloc: Global, system: System<'_>, call: u32, is_first_
     let two = [piece(1, 0x4000, 0x1000), piece(2, 0x9000, 0x2000)];
     assert!(rt; gathered(rt, alloc, &mut desk, DMA, &two[..1]) == Ok(0x0));
     revoke(rt, &mut desk, 1);
-    assert!(rt; gathered(rt, alloc, &mut desk, DMA, &two) == Err(GatherFault::Device));
+    assert!(rt; gathered(rt, alloc, &mut desk, DMA, &two) == Err(GrantFault::Device));
     assert!(rt; !desk.book.is_unfailed());
     assert!(rt; desk.device.log().len() == call as usize);
     assert!(rt; desk.book.has_id(1) == is_first_live);

@@ -2,30 +2,40 @@
 
 use dn_base::device::DeviceOrMemory;
 use dn_book::book::RevokeFault;
-use dn_gather::fault::GatherFault;
+use dn_gather::refusal::GatherRefusal;
 use dn_grant::fault::GrantFault;
-use dn_vector::fault::RouteFault;
+use dn_grant::refusal::GrantRefusal;
+use dn_vector::refusal::RouteRefusal;
 use std::test::Fail;
 
 #[test]
 fn names_each_refusal_of_a_grant(rt: HostRuntime) -> Result<(), Fail> {
-    use GrantFault::{BookFull, Device, IdUsed, NoAgent, NoPlacement, NoTarget, OutOfMemory};
-    let alloc = rt.alloc();
-    let first = GrantFault::NotAccepted { first: 0x1000 };
-    let tested = format!(in alloc; "{IdUsed} {NoAgent} {NoTarget} {first} {BookFull}")?;
+    use GrantRefusal::{BookFull, IdUsed, NoAgent, NoPlacement, NoTarget};
+    let first = GrantRefusal::NotAccepted { first: 0x1000 };
+    let tested = format!(in rt.alloc(); "{IdUsed} {NoAgent} {NoTarget} {first} {BookFull}")?;
     assert!(rt; tested.as_str() == "IdUsed NoAgent NoTarget NotAccepted 0x1000 BookFull");
-    let searched = format!(in alloc; "{NoPlacement} {Device} {OutOfMemory}")?;
-    assert!(rt; searched.as_str() == "NoPlacement Device OutOfMemory");
+    let searched = format!(in rt.alloc(); "{NoPlacement}")?;
+    assert!(rt; searched.as_str() == "NoPlacement");
+    Ok(())
+}
+
+#[test]
+fn names_each_fault_of_a_grant(rt: HostRuntime) -> Result<(), Fail> {
+    let refused = GrantFault::Refused(GrantRefusal::IdUsed);
+    let (failed, short) = (
+        GrantFault::<GrantRefusal>::Device,
+        GrantFault::<GrantRefusal>::OutOfMemory,
+    );
+    let printed = format!(in rt.alloc(); "{refused} {failed} {short}")?;
+    assert!(rt; printed.as_str() == "IdUsed Device OutOfMemory");
     Ok(())
 }
 
 #[test]
 fn names_each_refusal_of_a_route(rt: HostRuntime) -> Result<(), Fail> {
-    use RouteFault::{BookFull, Device, IdUsed, NoAgent, NoPlacement, NoTarget, OutOfMemory};
-    let tested = format!(in rt.alloc(); "{IdUsed} {NoAgent} {NoTarget} {BookFull}")?;
-    assert!(rt; tested.as_str() == "IdUsed NoAgent NoTarget BookFull");
-    let searched = format!(in rt.alloc(); "{NoPlacement} {Device} {OutOfMemory}")?;
-    assert!(rt; searched.as_str() == "NoPlacement Device OutOfMemory");
+    use RouteRefusal::{BookFull, IdUsed, NoAgent, NoPlacement, NoTarget};
+    let printed = format!(in rt.alloc(); "{IdUsed} {NoAgent} {NoTarget} {BookFull} {NoPlacement}")?;
+    assert!(rt; printed.as_str() == "IdUsed NoAgent NoTarget BookFull NoPlacement");
     Ok(())
 }
 
@@ -40,14 +50,13 @@ fn names_each_fault_of_a_book(rt: HostRuntime) -> Result<(), Fail> {
 
 #[test]
 fn names_each_refusal_of_pieces(rt: HostRuntime) -> Result<(), Fail> {
-    use GatherFault::{BookFull, IdUsed, NoAgent, NoPlacement, NoTarget, NotAccepted};
+    use GatherRefusal::{BookFull, IdUsed, NoAgent, NoPlacement, NoTarget, NotAccepted};
     let (used, none) = (IdUsed { piece: 1 }, NoTarget { piece: 2 });
     let (piece, first) = (7, 0x1000);
     let past = NotAccepted { piece, first };
     let printed = format!(in rt.alloc(); "{used} {NoAgent} {none} {past} {BookFull}")?;
     assert!(rt; printed.as_str() == "IdUsed 1 NoAgent NoTarget 2 NotAccepted 7 0x1000 BookFull");
-    let (failed, short) = (GatherFault::Device, GatherFault::OutOfMemory);
-    let last = format!(in rt.alloc(); "{NoPlacement} {failed} {short}")?;
-    assert!(rt; last.as_str() == "NoPlacement Device OutOfMemory");
+    let last = format!(in rt.alloc(); "{NoPlacement}")?;
+    assert!(rt; last.as_str() == "NoPlacement");
     Ok(())
 }

@@ -1,10 +1,11 @@
-use Rattle.std.proofs.Common.{rules, ◌∙◌, ap, refl, Err}
+use Rattle.std.proofs.Common.{rules, ◌∙◌, ap, sym, subst, inr, List, ℕ}
 use Rattle.dn_kind.specs.Kinded.{kinds_of}
+use Rattle.dn_grant.specs.Grant.{IsGrantRefused}
 use Rattle.dn_tool.specs.Changed.{granted_text}
 use Rattle.dn_tool.specs.State.{IsChanged, state_view}
-use Rattle.dn_tool.specs.Turn.{IsGrantTurn}
-use Rattle.dn_tool.proofs.Changes.{grant_told, state_granted}
-use Rattle.dn_tool.proofs.Stopped.{done_said, done_unsaid, grant_cut, grant_unmade}
+use Rattle.dn_tool.specs.Turn.{IsGrantTurn, reply_turn, state_with_id}
+use Rattle.dn_tool.proofs.Changes.{state_granted}
+use Rattle.dn_tool.proofs.Stopped.{done_said, done_unsaid, grant_cut, halted_done, refusal_done}
 use Rattle.dn_tool.proofs.change.grant_change.Given.{Over}
 use Rattle.dn_tool.proofs.change.grant_change.Goals.{After-renew}
 use Rattle.dn_tool.proofs.change.grant_change.Goals as goal
@@ -23,13 +24,16 @@ returns-in_err-granted_reply-in-Ok g c = done_unsaid _ _ _ c.from_residual-in_er
 pub returns-in_ok-granted_reply-in-Ok : goal.returns-in_ok-granted_reply-in-Ok
 returns-in_ok-granted_reply-in-Ok g c = done_said _ _ _ (granted_text c.args.id.now c.in-Ok.v) _ _ c.renew.new.state _ _ _ _ _ _ c.in_ok-granted_reply-in-Ok.ensures (made g (goal.at.returns-in_ok-granted_reply-in-Ok g c).After-renew) (search rules) c.in-Ok.ensures.changed.counted
 
-pub returns-in-Err-Device : goal.returns-in-Err-Device
-returns-in-Err-Device g c = grant_cut _ c.args.machine c.args.state.now _ c.args.id.now c.args.request.now c.in_ok-number.number c.grant.new.book.set _ _ _ _ _ _ c.grant.ensures.changed.fits c.grant.ensures.changed.on_device c.in_ok-number.ensures.number (c.grant.ensures.stopped (c.in-Err-Device.is ∙ ap Err c.in-Err-Device.field-0-is)) (search rules)
-
-pub grant_refused-requires : goal.grant_refused-requires
-grant_refused-requires g c = grant_told c.in-Err.why (search rules) (search rules)
+pub returns-in_err-why-in-Err : goal.returns-in_err-why-in-Err
+returns-in_err-why-in-Err g c =
+    halted_done c.in-Err.fault c.in_err-why-in-Err.field-0.0 c.from_residual-in_err-why-in-Err.result c.in-Err.ensures (sym c.refusal_or_halt.ensures ∙ c.in_err-why-in-Err.was) (search rules)
+    (grant_cut (kinds_of (λ k. (goal.UnitKind-dyn g k).meaning k.1) c.args.machine.on.kinds.now) c.args.machine.on.net.now (state_view c.args.state.now) (state_view c.args.state.now) c.args.id.now c.args.request.now c.in_ok-number.number c.grant.new.book.set _ _ _ _ c.grant.ensures.changed.fits c.grant.ensures.changed.on_device c.in_ok-number.ensures.number)
 
 pub returns-in_ok-grant_refused-in-Err : goal.returns-in_ok-grant_refused-in-Err
 returns-in_ok-grant_refused-in-Err g c =
-    grant_unmade _ c.args.machine c.args.state.now c.grant.new.book c.number.new.self c.keep_flats.new.flats c.args.id.now _ c.args.request.now c.in_ok-number.number c.in-Err.why g.D.Tables.log g.D.Tables.faults c.args.device.now c.grant.new.device _ _
-    c.requires.ready.machine c.requires.ready.state (c.in-Err.ensures.unchanged refl) c.in_ok-number.ensures.ids c.in_ok-keep_flats.ensures.flat c.in-Err.ensures.changed.on_device (search rules) (search rules) c.in_ok-number.ensures.number c.in-Err.ensures.turn c.in_ok-grant_refused-in-Err.ensures
+    refusal_done c.in-Err.fault c.in_ok-why-in-Err.why c.number.new.self _ c.keep_flats.new.flats _ c.requires.ready.machine c.requires.ready.state c.in-Err.ensures (sym c.refusal_or_halt.ensures ∙ c.in_ok-why-in-Err.was) c.in_ok-number.ensures.ids c.in_ok-keep_flats.ensures.flat
+    (λ o. inr (record {
+      why = c.in_ok-why-in-Err.why;
+      refused = subst (λ i. IsGrantRefused c.args.machine.on.net.now c.args.state.now.book.grants i c.args.request.now c.in_ok-why-in-Err.why) c.in_ok-number.ensures.number o.0;
+      is_turn = ap (λ (t : List ℕ). reply_turn t (state_with_id (state_view c.args.state.now) c.args.id.now)) c.in_ok-grant_refused-in-Err.ensures;
+    }))

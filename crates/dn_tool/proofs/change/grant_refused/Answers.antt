@@ -1,5 +1,5 @@
 use Rattle.std.proofs.Common.{rules, ◌≡◌}
-use Rattle.dn_grant.specs.declared.fault.GrantFault.TheVariants as why
+use Rattle.dn_grant.specs.declared.refusal.GrantRefusal.TheVariants as why
 use Rattle.dn_tool.proofs.change.grant_refused.Goals as goal
 
 pub returns-in-NoPlacement : goal.returns-in-NoPlacement

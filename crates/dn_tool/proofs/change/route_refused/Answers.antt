@@ -1,5 +1,5 @@
 use Rattle.std.proofs.Common.{rules, ◌≡◌}
-use Rattle.dn_vector.specs.declared.fault.RouteFault.TheVariants as why
+use Rattle.dn_vector.specs.declared.refusal.RouteRefusal.TheVariants as why
 use Rattle.dn_tool.proofs.change.route_refused.Goals as goal
 
 pub returns-in-NoPlacement : goal.returns-in-NoPlacement

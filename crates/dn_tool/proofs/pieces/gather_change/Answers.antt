@@ -1,14 +1,14 @@
-use Rattle.std.proofs.Common.{rules, ◌≡◌, ◌∙◌, ap, subst, refl, false, length, List, Err}
+use Rattle.std.proofs.Common.{rules, ◌≡◌, ◌∙◌, ap, sym, subst, inr, false, length, List, ℕ}
 use Rattle.dn_kind.specs.Kinded.{kinds_of}
 use Rattle.dn_tables.specs.Set.{words_of}
-use Rattle.dn_gather.specs.Gather.{IsGatherLogged, IsGatherMade}
+use Rattle.dn_gather.specs.Gather.{IsGatherLogged, IsGatherMade, IsGatherRefused}
 use Rattle.dn_gather.specs.declared.piece.Piece.{Piece}
 use Rattle.dn_tool.specs.Asked.{numbered}
 use Rattle.dn_tool.specs.Changed.{gathered_text}
 use Rattle.dn_tool.specs.State.{IsChanged, state_view}
-use Rattle.dn_tool.specs.Turn.{IsGatherTurn}
-use Rattle.dn_tool.proofs.Changes.{gather_told, numbered_few, state_gathered}
-use Rattle.dn_tool.proofs.Stopped.{done_said, done_unsaid, gather_cut, gather_unmade}
+use Rattle.dn_tool.specs.Turn.{IsGatherTurn, reply_turn, state_with_ids}
+use Rattle.dn_tool.proofs.Changes.{numbered_few, state_gathered}
+use Rattle.dn_tool.proofs.Stopped.{done_said, done_unsaid, gather_cut, halted_done, refusal_done}
 use Rattle.dn_tool.proofs.pieces.gather_change.Given.{Over}
 use Rattle.dn_tool.proofs.pieces.gather_change.Goals.{After-renew}
 use Rattle.dn_tool.proofs.pieces.gather_change.Goals as goal
@@ -40,13 +40,16 @@ returns-in_err-gathered_reply-in-Ok g c = done_unsaid _ _ _ c.from_residual-in_e
 pub returns-in-Ok : goal.returns-in-Ok
 returns-in-Ok g c = done_said _ _ _ (gathered_text c.in-Ok.v (length c.args.pieces.now)) _ _ c.renew.new.state _ _ _ _ _ _ c.in_ok-gathered_reply-in-Ok.ensures (made g (goal.at.returns-in-Ok g c).After-renew) (search rules) c.in-Ok.ensures.changed.counted
 
-pub returns-in-Err-Device : goal.returns-in-Err-Device
-returns-in-Err-Device g c = gather_cut _ c.args.machine c.args.state.now _ c.args.agent c.args.rights c.args.pieces.now c.deref.result.now c.gather.new.book.set c.gather.new.book.grants _ _ _ _ _ _ c.gather.ensures.changed.fits c.gather.ensures.changed.on_device (c.deref.ensures.value ∙ c.in_ok-asked.ensures.pieces) (c.gather.ensures.stopped (c.in-Err-Device.is ∙ ap Err c.in-Err-Device.field-0-is)) (search rules)
-
-pub gather_refused-requires : goal.gather_refused-requires
-gather_refused-requires g c = gather_told c.in-Err.why (search rules) (search rules)
+pub returns-in_err-why-in-Err : goal.returns-in_err-why-in-Err
+returns-in_err-why-in-Err g c =
+    halted_done c.in-Err.fault c.in_err-why-in-Err.field-0.0 c.from_residual-in_err-why-in-Err.result c.in-Err.ensures (sym c.refusal_or_halt.ensures ∙ c.in_err-why-in-Err.was) (search rules)
+    (gather_cut (kinds_of (λ k. (goal.UnitKind-dyn g k).meaning k.1) c.args.machine.on.kinds.now) c.args.machine.on.net.now (state_view c.args.state.now) (state_view c.args.state.now) c.args.agent c.args.rights c.args.pieces.now c.deref.result.now c.gather.new.book.set c.gather.new.book.grants _ _ _ _ c.gather.ensures.changed.fits c.gather.ensures.changed.on_device (c.deref.ensures.value ∙ c.in_ok-asked.ensures.pieces))
 
 pub returns : goal.returns
 returns g c =
-    gather_unmade _ c.args.machine c.args.state.now c.gather.new.book c.number_pieces.new.ids c.keep_flats.new.flats _ c.args.agent c.args.rights c.args.pieces.now c.deref.result.now c.in-Err.why g.D.Tables.log g.D.Tables.faults c.args.device.now c.gather.new.device _ _
-    c.requires.ready.machine c.requires.ready.state (c.in-Err.ensures.unchanged refl) c.in_ok-asked.ensures.ids c.in_ok-keep_flats.ensures.flat c.in-Err.ensures.changed.on_device (search rules) (search rules) (c.deref.ensures.value ∙ c.in_ok-asked.ensures.pieces) c.in-Err.ensures.turn c.in_ok-gather_refused-in-Err.ensures
+    refusal_done c.in-Err.fault c.in_ok-why-in-Err.why c.number_pieces.new.ids _ c.keep_flats.new.flats _ c.requires.ready.machine c.requires.ready.state c.in-Err.ensures (sym c.refusal_or_halt.ensures ∙ c.in_ok-why-in-Err.was) c.in_ok-asked.ensures.ids c.in_ok-keep_flats.ensures.flat
+    (λ o. inr (record {
+      why = c.in_ok-why-in-Err.why;
+      refused = subst (λ (ps : List Piece). IsGatherRefused c.args.machine.on.net.now c.args.state.now.book.grants c.args.agent c.args.rights ps c.in_ok-why-in-Err.why) (c.deref.ensures.value ∙ c.in_ok-asked.ensures.pieces) o.0;
+      is_turn = ap (λ (t : List ℕ). reply_turn t (state_with_ids (state_view c.args.state.now) c.args.pieces.now)) c.in_ok-gather_refused-in-Err.ensures;
+    }))

@@ -1,5 +1,5 @@
 use Rattle.std.proofs.Common.{rules, ◌≡◌}
-use Rattle.dn_gather.specs.declared.fault.GatherFault.TheVariants as why
+use Rattle.dn_gather.specs.declared.refusal.GatherRefusal.TheVariants as why
 use Rattle.dn_tool.proofs.pieces.gather_refused.Goals as goal
 
 pub returns-in-NoPlacement : goal.returns-in-NoPlacement

@@ -1,8 +1,8 @@
-use Rattle.test_tables.proofs.Keeping.{desk_after, routed_keeps}
+use Rattle.test_tables.proofs.Keeping.{desk_after, granted_keeps}
 use Rattle.test_tables.proofs.desk.Desk.route.Goals as goal
 
 pub returns : goal.returns
 returns g c =
     desk_after c.requires.system
-    (routed_keeps _ _ _ _ _ c.route.result c.requires.kept c.route.ensures.changed.kept c.route.ensures.unchanged c.route.ensures.changed.unfailed)
+    (granted_keeps _ _ _ _ _ c.route.result c.requires.kept c.route.ensures.changed.kept c.route.ensures.unchanged c.route.ensures.changed.unfailed)
     c.route.ensures.changed.fits c.route.ensures.changed.on_device
