@@ -1,3 +1,4 @@
 pub mod Allowed
+pub mod Founds
 pub mod Leasts
 pub mod Taken

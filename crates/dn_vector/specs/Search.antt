@@ -1,5 +1,5 @@
 -- What a search for a vector goes by, and the least of some vectors that has an admissible placement at a line.
-use Rattle.std.specs.Prelude.{◌≡◌, ℕ, ◌<◌, ◌≤◌, true, false, List, Some, slice_get, IsTrue}
+use Rattle.std.specs.Prelude.{◌≡◌, ℕ, ◌<◌, ◌≤◌, true, false, List, Option, Some, None, slice_get, IsTrue}
 use Rattle.dn_interval.specs.declared.span.Span.{Span}
 use Rattle.dn_interval.specs.Spans.{has}
 use Rattle.dn_net.specs.declared.node.Block.{Block}
@@ -14,6 +14,8 @@ use Rattle.dn_book.specs.declared.grant.Grant.{Grant}
 use Rattle.dn_book.specs.Book.{slots_of}
 use Rattle.dn_book.specs.Tables.{IsKept}
 use Rattle.dn_view.specs.Systems.{IsSystem}
+use Rattle.dn_place.specs.declared.reach.ReachMarks.{ReachMarks}
+use Rattle.dn_place.specs.Reaches.{IsHopReach}
 use Rattle.dn_vector.specs.declared.search.Asked.{Asked}
 use Rattle.dn_vector.specs.Route.{HasNoPlace}
 use Rattle.dn_vector.specs.Vectors.{is_taken_vector, vector_request}
@@ -25,6 +27,23 @@ pub record IsRouteAsked {K : Type 0} {V : K → Type 0} (means : (k : K) × V k 
       asked.book.now.grants asked.book.now.set
   pub agent : IsTrue (is_agent_at (slice_get asked.system.on.net.now asked.agent))
   pub target : IsTrue (is_vectors_at (slice_get asked.system.on.net.now asked.node))
+
+-- the set has just the vectors that live grants have
+abbrev pub AreTaken : List Grant → ℕ → List Span → Type 0
+AreTaken book node set = (a : ℕ) → a ≤ top → has set a ≡ is_taken_vector book node a
+
+-- what a search found is such, or it found nothing, and then this holds
+abbrev pub IsFoundOr : {F : Type 0} → (F → Type 0) → Type 0 → Option F → Type 0
+IsFoundOr Is absent (Some found) = Is found
+IsFoundOr Is absent None = absent
+
+-- what a search among some vectors goes by: what is asked for, the marks for the line, and the vectors that are taken
+pub record IsSought {K : Type 0} {V : K → Type 0} (means : (k : K) × V k → Meaning) (a : Asked K V)
+    (marks : ReachMarks) (set : List Span) : Type 0 where
+  pub asked : IsRouteAsked means a
+  pub reach : IsHopReach a.system.on.net.now a.agent marks
+  pub line : marks.at ≡ Some a.line
+  pub taken : AreTaken a.book.now.grants a.node set
 
 -- no live grant has the vector, and this is its first admissible placement at the line
 pub record IsVectorPlaced (net : List NodeDecl) (book : List Grant) (agent line node vector : ℕ) (p : Place)
@@ -50,7 +69,3 @@ pub record IsLeastOfBlocks (net : List NodeDecl) (book : List Grant) (agent line
   pub placed : IsVectorPlaced net book agent line node vector p
   pub least : (lesser : ℕ) → lesser < vector → in_some_block lesser blocks ≡ true →
       is_taken_vector book node lesser ≡ false → HasNoPlace net book agent line node lesser
-
--- the set has just the vectors that live grants have
-abbrev pub AreTaken : List Grant → ℕ → List Span → Type 0
-AreTaken book node set = (a : ℕ) → a ≤ top → has set a ≡ is_taken_vector book node a

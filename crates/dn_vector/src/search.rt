@@ -1,11 +1,10 @@
 //! The least vector that has an admissible placement at a line.
 
-ghost use Rattle.std.specs.Prelude.{◌≡◌, ◌≤◌, ℕ, true, false, Some, None, All, IfOk, IfSome, IsTrue};
+ghost use Rattle.std.specs.Prelude.{◌≡◌, ◌≤◌, ℕ, true, false, All, IfOk, IsTrue};
 ghost use Rattle.std.specs.List.Sorted.{IsNonDecreasingBy};
 ghost use Rattle.dn_interval.specs.declared.span.TheConstants.{TOP};
 ghost use Rattle.dn_net.specs.Terms.{block_in_range, in_some_block};
-ghost use Rattle.dn_place.specs.Terms.{IsHopReach};
-ghost use Rattle.dn_vector.specs.Terms.{AreTaken, HasNoPlace, IsLeastBetween, IsLeastOfBlocks, IsLeastVector, IsRouteAsked, IsVectorPlaced, NoVector, grant_of_route, is_taken_vector, vector_request};
+ghost use Rattle.dn_vector.specs.Terms.{HasNoPlace, IsFoundOr, IsLeastBetween, IsLeastOfBlocks, IsLeastVector, IsRouteAsked, IsSought, IsVectorPlaced, NoVector, grant_of_route, is_taken_vector, vector_request};
 
 use crate::OutOfMemory;
 use crate::vectors::taken_vectors;
@@ -58,11 +57,11 @@ impl FoundRoute {
 /// first of these. `None` exactly where none has one. `Err` is want of memory.
 pub fn least_vector(alloc: Global, asked: Asked) -> Result<Option<FoundRoute>, OutOfMemory>
     requires asked { IsRouteAsked meaning asked }
-    ensures found { IfOk result (λ found.
-        IfSome found (λ f. IsLeastVector asked.entry.system.on.net.now asked.entry.book.now.grants
-        asked.entry.agent asked.entry.line asked.entry.node f.vector f.placement)) }
-    ensures none { IfOk result (λ found. found ≡ None → NoVector asked.entry.system.on.net.now
-        asked.entry.book.now.grants asked.entry.agent asked.entry.line asked.entry.node) }
+    ensures { IfOk result (IsFoundOr
+        (λ f. IsLeastVector asked.entry.system.on.net.now asked.entry.book.now.grants
+        asked.entry.agent asked.entry.line asked.entry.node f.vector f.placement)
+        (NoVector asked.entry.system.on.net.now asked.entry.book.now.grants asked.entry.agent
+        asked.entry.line asked.entry.node)) }
 {
     if is_shut(asked.book, asked.system, asked.agent, asked.line) {
         return Ok(None);
@@ -85,20 +84,16 @@ fn least_of_blocks(
     taken: &SpanSet,
     blocks: &[Block],
 ) -> Result<Option<FoundRoute>, OutOfMemory>
-    requires asked { IsRouteAsked meaning asked }
-    requires reach { IsHopReach asked.system.on.net.now asked.agent reach.now }
-    requires line { reach.now.at ≡ Some asked.line }
-    requires taken { AreTaken asked.book.now.grants asked.node taken.now }
+    requires sought { IsSought meaning asked reach.now taken.now }
     requires order { IsNonDecreasingBy (λ b. b.lo) blocks.now }
     requires in_range { All (λ b. IsTrue (block_in_range b)) blocks.now }
-    ensures found { IfOk result (λ found. IfSome found (λ f.
-        IsLeastOfBlocks asked.entry.system.on.net.now asked.entry.book.now.grants
-        asked.entry.agent asked.entry.line asked.entry.node blocks.now f.vector f.placement)) }
-    ensures none { IfOk result (λ found. found ≡ None → (vector : ℕ)
-        → in_some_block vector blocks.now ≡ true
+    ensures { IfOk result (IsFoundOr
+        (λ f. IsLeastOfBlocks asked.entry.system.on.net.now asked.entry.book.now.grants
+        asked.entry.agent asked.entry.line asked.entry.node blocks.now f.vector f.placement)
+        ((vector : ℕ) → in_some_block vector blocks.now ≡ true
         → is_taken_vector asked.entry.book.now.grants asked.entry.node vector ≡ false
         → HasNoPlace asked.entry.system.on.net.now asked.entry.book.now.grants
-        asked.entry.agent asked.entry.line asked.entry.node vector) }
+        asked.entry.agent asked.entry.line asked.entry.node vector)) }
 {
     let mut next = 0;
     for block in blocks {
@@ -130,19 +125,15 @@ fn least_between(
     first: u64,
     last: u64,
 ) -> Result<Option<FoundRoute>, OutOfMemory>
-    requires asked { IsRouteAsked meaning asked }
-    requires reach { IsHopReach asked.system.on.net.now asked.agent reach.now }
-    requires line { reach.now.at ≡ Some asked.line }
-    requires taken { AreTaken asked.book.now.grants asked.node taken.now }
+    requires sought { IsSought meaning asked reach.now taken.now }
     requires few { last ≤ TOP }
-    ensures found { IfOk result (λ found. IfSome found (λ f.
-        IsLeastBetween asked.entry.system.on.net.now asked.entry.book.now.grants
-        asked.entry.agent asked.entry.line asked.entry.node first last f.vector f.placement)) }
-    ensures none { IfOk result (λ found. found ≡ None → (vector : ℕ)
-        → first ≤ vector → vector ≤ last
+    ensures { IfOk result (IsFoundOr
+        (λ f. IsLeastBetween asked.entry.system.on.net.now asked.entry.book.now.grants
+        asked.entry.agent asked.entry.line asked.entry.node first last f.vector f.placement)
+        ((vector : ℕ) → first ≤ vector → vector ≤ last
         → is_taken_vector asked.entry.book.now.grants asked.entry.node vector ≡ false
         → HasNoPlace asked.entry.system.on.net.now asked.entry.book.now.grants
-        asked.entry.agent asked.entry.line asked.entry.node vector) }
+        asked.entry.agent asked.entry.line asked.entry.node vector)) }
 {
     for vector in first..last + 1 {
         let placement = placement_of(alloc, asked, reach, taken, vector)?;
@@ -161,18 +152,14 @@ fn placement_of(
     taken: &SpanSet,
     vector: u64,
 ) -> Result<Option<Placement>, OutOfMemory>
-    requires asked { IsRouteAsked meaning asked }
-    requires reach { IsHopReach asked.system.on.net.now asked.agent reach.now }
-    requires line { reach.now.at ≡ Some asked.line }
-    requires taken { AreTaken asked.book.now.grants asked.node taken.now }
+    requires sought { IsSought meaning asked reach.now taken.now }
     requires few { vector ≤ TOP }
-    ensures found { IfOk result (λ found. IfSome found (λ p.
-        IsVectorPlaced asked.entry.system.on.net.now asked.entry.book.now.grants
-        asked.entry.agent asked.entry.line asked.entry.node vector p)) }
-    ensures none { IfOk result (λ found. found ≡ None
-        → is_taken_vector asked.entry.book.now.grants asked.entry.node vector ≡ false
+    ensures { IfOk result (IsFoundOr
+        (IsVectorPlaced asked.entry.system.on.net.now asked.entry.book.now.grants
+        asked.entry.agent asked.entry.line asked.entry.node vector)
+        (is_taken_vector asked.entry.book.now.grants asked.entry.node vector ≡ false
         → HasNoPlace asked.entry.system.on.net.now asked.entry.book.now.grants
-        asked.entry.agent asked.entry.line asked.entry.node vector) }
+        asked.entry.agent asked.entry.line asked.entry.node vector)) }
 {
     if taken.contains(vector) {
         return Ok(None);

@@ -12,7 +12,7 @@ use Rattle.dn_vector.proofs.route.route.Goals as goal
 placed : (g : Over) (c : In-Ok-Some g) → IsPlacedRoute c.args.system.on.net.now c.args.book.now.grants c.args.id c.args.agent c.args.line c.args.node c.in-Ok-Some.found.vector c.in-Ok-Some.found.placement
 placed g c = record {
   allowed = c.refusal.ensures.none c.in_default.is;
-  placed = (rw c.in-Ok-Some.field-0-is at c.in-Ok-Some.ensures.found);
+  placed = (rw c.in-Ok-Some.field-0-is at c.in-Ok-Some.ensures);
 }
 
 pub least_vector-requires : goal.least_vector-requires
@@ -28,7 +28,7 @@ commit-requires-clause-placed g c =
 pub returns-in-Ok-None : goal.returns-in-Ok-None
 returns-in-Ok-None g c = refused_done NoPlacement c.requires.change (
   unplaced c.args.system.on.net.now c.args.book.now.grants c.args.id c.args.agent c.args.line c.args.node c.requires.sees.kinded.legal.legal c.requires.change.kept.sound
-      (c.refusal.ensures.none c.in_default.is) (c.in-Ok-None.ensures.none c.in-Ok-None.field-0-is),
+      (c.refusal.ensures.none c.in_default.is) (rw c.in-Ok-None.field-0-is at c.in-Ok-None.ensures),
   refl,
 )
 

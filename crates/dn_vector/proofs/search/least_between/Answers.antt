@@ -9,17 +9,17 @@ pub loop-vector-preserved : goal.loop-vector-preserved
 loop-vector-preserved g c =
     λ a from to free. elim (cases_lt a c.loop-vector.vector) [
       | inl before ↦ c.loop-vector.invariant a from before free
-      | inr last ↦ subst (λ v. is_taken_vector c.args.asked.book.now.grants c.args.asked.node v ≡ false → HasNoPlace c.args.asked.system.on.net.now c.args.asked.book.now.grants c.args.asked.agent c.args.asked.line c.args.asked.node v) (omega arith) (c.in_ok-placement.ensures.none c.in_default.is) free
+      | inr last ↦ subst (λ v. is_taken_vector c.args.asked.book.now.grants c.args.asked.node v ≡ false → HasNoPlace c.args.asked.system.on.net.now c.args.asked.book.now.grants c.args.asked.agent c.args.asked.line c.args.asked.node v) (omega arith) (rw c.in_default.is at c.in_ok-placement.ensures) free
     ]
 
-pub returns-in-Some-clause-found : goal.returns-in-Some-clause-found
-returns-in-Some-clause-found g c = record {
+pub returns-in-Some : goal.returns-in-Some
+returns-in-Some g c = record {
   from = c.loop-vector.auto.vector;
   to = omega arith;
-  placed = rw c.in-Some.is at c.in_ok-placement.ensures.found;
+  placed = rw c.in-Some.is at c.in_ok-placement.ensures;
   least = c.loop-vector.invariant;
 }
 
-pub returns-clause-none : goal.returns-clause-none
-returns-clause-none g c =
-    λ none a from to free. c.loop-vector.invariant a from (omega arith) free
+pub returns : goal.returns
+returns g c =
+    λ a from to free. c.loop-vector.invariant a from (omega arith) free

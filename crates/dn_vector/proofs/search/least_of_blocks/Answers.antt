@@ -27,34 +27,30 @@ loop-block-init g c = none_tried c.args.asked.system.on.net.now c.args.asked.boo
 pub least_between-requires-clause-few : goal.least_between-requires-clause-few
 least_between-requires-clause-few g c = last_low (get_or c.args.blocks.now c.loop-block.block-index none) (c.requires.in_range c.loop-block.block-index none c.loop-block-test.true)
 
-pub returns-in-Some-clause-found : goal.returns-in-Some-clause-found
-returns-in-Some-clause-found g c =
+pub returns-in-Some : goal.returns-in-Some
+returns-in-Some g c =
     let net = c.args.asked.system.on.net.now in
     let book = c.args.asked.book.now.grants in
-    let bs = c.args.blocks.now in
-    let i = c.loop-block.block-index in
-    let b : Block = get_or bs i none in
-    least_in net book c.args.asked.agent c.args.asked.line c.args.asked.node bs b (drop (i + 1) bs) c.loop-block.next c.later-first.result _ _
-    (at net book c.args.asked.agent c.args.asked.line c.args.asked.node bs i c.loop-block.next c.loop-block-test.true c.loop-block.invariant)
-    c.later-first.ensures.least c.later-first.ensures.other (last_low b (c.requires.in_range i none c.loop-block-test.true))
-    (rw c.in-Some.is at c.in_ok-found.ensures.found)
+    let b : Block = get_or c.args.blocks.now c.loop-block.block-index none in
+    least_in net book c.args.asked.agent c.args.asked.line c.args.asked.node c.args.blocks.now b (drop (c.loop-block.block-index + 1) c.args.blocks.now) c.loop-block.next c.later-first.result _ _
+    (at net book c.args.asked.agent c.args.asked.line c.args.asked.node c.args.blocks.now c.loop-block.block-index c.loop-block.next c.loop-block-test.true c.loop-block.invariant)
+    c.later-first.ensures.least c.later-first.ensures.other (last_low b (c.requires.in_range c.loop-block.block-index none c.loop-block-test.true))
+    (rw c.in-Some.is at c.in_ok-found.ensures)
 
 pub loop-block-preserved : goal.loop-block-preserved
 loop-block-preserved g c =
     let net = c.args.asked.system.on.net.now in
     let book = c.args.asked.book.now.grants in
-    let bs = c.args.blocks.now in
-    let i = c.loop-block.block-index in
-    let b : Block = get_or bs i none in
-    tried_more net book c.args.asked.agent c.args.asked.line c.args.asked.node bs b (drop (i + 1) bs) c.loop-block.next c.later-first.result c.later-next.result
-    (at net book c.args.asked.agent c.args.asked.line c.args.asked.node bs i c.loop-block.next c.loop-block-test.true c.loop-block.invariant)
+    let b : Block = get_or c.args.blocks.now c.loop-block.block-index none in
+    tried_more net book c.args.asked.agent c.args.asked.line c.args.asked.node c.args.blocks.now b (drop (c.loop-block.block-index + 1) c.args.blocks.now) c.loop-block.next c.later-first.result c.later-next.result
+    (at net book c.args.asked.agent c.args.asked.line c.args.asked.node c.args.blocks.now c.loop-block.block-index c.loop-block.next c.loop-block-test.true c.loop-block.invariant)
     c.later-first.ensures.least c.later-next.ensures.one c.later-next.ensures.other c.later-next.ensures.least
-    (c.in_ok-found.ensures.none c.in_default.is)
+    (rw c.in_default.is at c.in_ok-found.ensures)
 
-pub returns-clause-none : goal.returns-clause-none
-returns-clause-none g c =
+pub returns : goal.returns
+returns g c =
     let net = c.args.asked.system.on.net.now in
     let book = c.args.asked.book.now.grants in
     let bs = c.args.blocks.now in
-    λ is a e free. none_left net book c.args.asked.agent c.args.asked.line c.args.asked.node bs c.loop-block.next
+    λ a e free. none_left net book c.args.asked.agent c.args.asked.line c.args.asked.node bs c.loop-block.next
     (subst (λ rest. IsTried net book c.args.asked.agent c.args.asked.line c.args.asked.node bs rest c.loop-block.next) (drop_all c.loop-block.block-index bs c.loop-block-test.false) c.loop-block.invariant) a e free

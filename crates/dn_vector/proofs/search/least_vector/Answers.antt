@@ -1,35 +1,37 @@
 -- The blocks have what the node accepts.
-use Rattle.std.proofs.Common.{◌≡◌, refl, subst, ℕ, List, None, IfSome, false, true}
-use Rattle.std.proofs.lemmas.Result.{IfOk-weaker}
+use Rattle.std.proofs.Common.{rules, refl, subst, List}
 use Rattle.dn_base.proofs.Lists.{item_there}
-use Rattle.dn_base.proofs.Told.{if_some_then}
-use Rattle.dn_net.specs.Decode.{in_some_block}
 use Rattle.dn_walk.proofs.Nodes.{node_in_range}
 use Rattle.dn_book.specs.declared.grant.Grant.{Grant}
 use Rattle.dn_book.specs.Book.{slots_of}
 use Rattle.dn_book.proofs.Begun.{book_is_proper}
-use Rattle.dn_vector.specs.Route.{HasNoPlace, IsLeastVector, NoVector}
 use Rattle.dn_vector.specs.Search.{AreTaken}
-use Rattle.dn_vector.specs.Vectors.{is_taken_vector, vector_request}
+use Rattle.dn_vector.specs.Vectors.{vector_request}
 use Rattle.dn_vector.proofs.Allowed.{vectors_there}
+use Rattle.dn_vector.proofs.Founds.{found_on}
 use Rattle.dn_vector.proofs.Leasts.{least_free, none_free}
 use Rattle.dn_vector.proofs.search.least_vector.Goals as goal
 
-pub returns-then-is_shut-clause-none : goal.returns-then-is_shut-clause-none
-returns-then-is_shut-clause-none g c =
-    λ none vector free. c.is_shut.ensures c.if-is_shut.true (vector_request c.args.asked.agent c.args.asked.node vector) refl
+pub returns-then-is_shut : goal.returns-then-is_shut
+returns-then-is_shut g c =
+    λ vector free. c.is_shut.ensures c.if-is_shut.true (vector_request c.args.asked.agent c.args.asked.node vector) refl
 
-pub returns-then-is_crowded-clause-none : goal.returns-then-is_crowded-clause-none
-returns-then-is_crowded-clause-none g c =
+pub returns-then-is_crowded : goal.returns-then-is_crowded
+returns-then-is_crowded g c =
     let net = c.args.asked.system.on.net.now in
     let book = c.args.asked.book.now.grants in
-    λ none vector free. c.is_crowded.ensures c.if-is_crowded.true (slots_of net book) (vector_request c.args.asked.agent c.args.asked.node vector) (book_is_proper net book c.requires.asked.system.kinded.legal.legal c.requires.asked.kept.sound) refl refl
+    λ vector free. c.is_crowded.ensures c.if-is_crowded.true (slots_of net book) (vector_request c.args.asked.agent c.args.asked.node vector) (book_is_proper net book c.requires.asked.system.kinded.legal.legal c.requires.asked.kept.sound) refl refl
 
 pub accept_rows-blocks-requires : goal.accept_rows-blocks-requires
 accept_rows-blocks-requires g c = vectors_there c.args.asked.system.on.net.now c.args.asked.node c.requires.asked.target
 
-pub least_of_blocks-requires-clause-taken : goal.least_of_blocks-requires-clause-taken
-least_of_blocks-requires-clause-taken g c = subst (λ (gs : List Grant). AreTaken gs c.args.asked.node c.in_ok-taken.taken) c.grants.ensures c.in_ok-taken.ensures
+pub least_of_blocks-requires-clause-sought : goal.least_of_blocks-requires-clause-sought
+least_of_blocks-requires-clause-sought g c = record {
+  asked = c.requires.asked;
+  reach = search rules;
+  line = search rules;
+  taken = subst (λ (gs : List Grant). AreTaken gs c.args.asked.node c.in_ok-taken.taken) c.grants.ensures c.in_ok-taken.ensures;
+}
 
 pub least_of_blocks-requires-clause-in_range : goal.least_of_blocks-requires-clause-in_range
 least_of_blocks-requires-clause-in_range g c =
@@ -37,23 +39,12 @@ least_of_blocks-requires-clause-in_range g c =
     let d = item_there net c.args.asked.node (vectors_there net c.args.asked.node c.requires.asked.target) in
     c.accept_rows-blocks.ensures.in_range d.0 d.1 (node_in_range net c.requires.asked.system.kinded.legal.legal.nodes.each c.args.asked.node d.0 d.1).0
 
-pub returns-clause-found : goal.returns-clause-found
-returns-clause-found g c =
+pub returns : goal.returns
+returns g c =
     let net = c.args.asked.system.on.net.now in
     let book = c.args.asked.book.now.grants in
     let blocks = c.accept_rows-blocks.result.now in
     let d = item_there net c.args.asked.node (vectors_there net c.args.asked.node c.requires.asked.target) in
-    IfOk-weaker c.least_of_blocks.result _ (λ found. IfSome found (λ f. IsLeastVector net book c.args.asked.agent c.args.asked.line c.args.asked.node f.vector f.placement))
-    (λ found h. if_some_then found _ (λ f. IsLeastVector net book c.args.asked.agent c.args.asked.line c.args.asked.node f.vector f.placement)
-    (λ f is. least_free net book c.args.asked.agent c.args.asked.line c.args.asked.node d.0 blocks d.1 (c.accept_rows-blocks.ensures.same d.0 d.1) f.vector f.placement is) h)
-    c.least_of_blocks.ensures.found
-
-pub returns-clause-none : goal.returns-clause-none
-returns-clause-none g c =
-    let net = c.args.asked.system.on.net.now in
-    let book = c.args.asked.book.now.grants in
-    let blocks = c.accept_rows-blocks.result.now in
-    let d = item_there net c.args.asked.node (vectors_there net c.args.asked.node c.requires.asked.target) in
-    IfOk-weaker c.least_of_blocks.result (λ found. found ≡ None → (vector : ℕ) → in_some_block vector blocks ≡ true → is_taken_vector book c.args.asked.node vector ≡ false → HasNoPlace net book c.args.asked.agent c.args.asked.line c.args.asked.node vector) (λ found. found ≡ None → NoVector net book c.args.asked.agent c.args.asked.line c.args.asked.node)
-    (λ found h none. none_free net book c.args.asked.agent c.args.asked.line c.args.asked.node d.0 blocks d.1 (c.accept_rows-blocks.ensures.same d.0 d.1) (h none))
-    c.least_of_blocks.ensures.none
+    found_on c.least_of_blocks.result c.least_of_blocks.ensures
+    (λ f is. least_free net book c.args.asked.agent c.args.asked.line c.args.asked.node d.0 blocks d.1 (c.accept_rows-blocks.ensures.same d.0 d.1) f.vector f.placement is)
+    (λ none. none_free net book c.args.asked.agent c.args.asked.line c.args.asked.node d.0 blocks d.1 (c.accept_rows-blocks.ensures.same d.0 d.1) none)
