@@ -34,7 +34,7 @@ pub enum LookupFault {
     OutOfMemory,
 }
 
-/// The names to which an agent's address comes for an access, under the records of an image of the
+/// The names to which an agent's name comes for an access, under the records of an image of the
 /// net, whoever made it. It reads the header, the heads and the slots on the way alone.
 ///
 /// # Errors
@@ -45,27 +45,24 @@ pub fn lookup(
     alloc: Global,
     on: KindedNet,
     image: &[u8],
-    agent: u16,
-    addr: u64,
     access: Access,
+    name: Name,
 ) -> Result<Names, LookupFault>
     requires on { IsShaped meaning on }
     requires rules { KeepsNodeRules on.net.now }
     ensures exact { Answers (λ names. names) lookup_fault_view result
-        (lookup_of on.entry.net.now (kinds_of meaning on.entry.kinds.now) image.now access
-        (record { node = agent; addr = addr })) }
+        (lookup_of on.entry.net.now (kinds_of meaning on.entry.kinds.now) image.now access name) }
     // Each name is in a node that is there.
     ensures there { IfOk result (λ names. IsTrue (are_there (length on.entry.net.now) names)) }
     ensures memory { result ≢ Err (LookupFault.Image ImageFault.OutOfMemory) }
 {
-    if !is_agent(on.net, agent) {
+    if !is_agent(on.net, name.node) {
         return Err(LookupFault::NoAgent);
     }
     let version = match check(on, image) {
         Ok(version) => version,
         Err(fault) => return Err(LookupFault::Image(fault)),
     };
-    let name = Name { node: agent, addr };
     match lookup_whole(alloc, on, image, version, access, name) {
         Ok(names) => Ok(names),
         Err(_) => Err(LookupFault::OutOfMemory),

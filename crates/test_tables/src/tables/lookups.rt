@@ -76,7 +76,7 @@ fn compare(
 )
     requires { IsKinded meaning on }
 {
-    let names = lookup(alloc, on, image, from.node, from.addr, access);
+    let names = lookup(alloc, on, image, access, from);
     let names = names.expect(rt, "names");
     assert!(rt; names.list() == wanted.as_slice(), "{from:?} {access:?}");
 }
@@ -180,12 +180,14 @@ fn ask_without(rt: &impl Abort, alloc: Global, on: KindedNet)
     // The bus is no agent, and there is no node 6. That is said whatever the bytes are.
     for (node, length) in [(2, 144), (2, 0), (6, 144), (6, 3)] {
         assert!(rt; length <= 144);
-        let given = lookup(alloc, on, &image[..length], node, 0, Access::Read);
+        let name = Name { node, addr: 0 };
+        let given = lookup(alloc, on, &image[..length], Access::Read, name);
         assert!(rt; given.err() == Some(LookupFault::NoAgent), "{node}");
     }
     for length in [143] {
         assert!(rt; length <= 144);
-        let given = lookup(alloc, on, &image[..length], 4, 0, Access::Read);
+        let name = Name { node: 4, addr: 0 };
+        let given = lookup(alloc, on, &image[..length], Access::Read, name);
         let short = ImageFault::Short { at: 143 };
         assert!(rt; given.err() == Some(LookupFault::Image(short)));
     }

@@ -8,6 +8,7 @@ use dn_image::read::read;
 use dn_kind::kinded::KindedNet;
 use dn_kind::rights::Access;
 use dn_lookup::lookup::{LookupFault, lookup};
+use dn_net::node::Name;
 use std::alloc::Global;
 use std::process::Abort;
 use std::test::Fail;
@@ -23,7 +24,7 @@ fn compare(rt: &impl Abort, alloc: Global, on: KindedNet, bytes: &[u8], wanted: 
     assert!(rt; check(on, bytes) == wanted);
     let version = read(alloc, on, bytes).map(|image| image.version());
     assert!(rt; version == wanted);
-    let fault = lookup(alloc, on, bytes, 3, 0, Access::Read).err();
+    let fault = lookup(alloc, on, bytes, Access::Read, Name { node: 3, addr: 0 }).err();
     assert!(rt; fault == wanted.err().map(LookupFault::Image));
 }
 
