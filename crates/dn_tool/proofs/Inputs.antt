@@ -6,7 +6,8 @@ use Rattle.dn_parse.proofs.Judge.{text_too_long}
 use Rattle.dn_kind.specs.Kind.{Meaning}
 use Rattle.dn_module.specs.Expand.{Expansion}
 use Rattle.dn_tool.specs.Compiled.{compilation, reading_compilation, with_refusal}
-use Rattle.dn_tool.specs.Refused.{Refused, of_text, refusal_of}
+use Rattle.dn_tool.specs.declared.refusal.Refusal.{Refusal}
+use Rattle.dn_tool.specs.Refused.{of_text, refusal_of}
 use Rattle.dn_words.specs.declared.words.Task.{Task}
 use Rattle.dn_words.specs.declared.words.Task.TheVariants.{Run, Check, Audit, Demo}
 use Rattle.dn_words.specs.Words.{task_of}
@@ -92,17 +93,17 @@ read_is_not_shown w kinds text e = by (task_of w) e
     by None f = refl
     by (Some Run) f = run_by (with_refusal (compilation kinds text))
       where
-        run_by : (r : Result Expansion Refused) → is_shown (compiled_answer Run kinds None r) ≡ false
+        run_by : (r : Result Expansion Refusal) → is_shown (compiled_answer Run kinds None r) ≡ false
         run_by (Ok o) = refl
         run_by (Err r) = refl
     by (Some Check) f = check_by (with_refusal (compilation kinds text))
       where
-        check_by : (r : Result Expansion Refused) → is_shown (compiled_answer Check kinds None r) ≡ false
+        check_by : (r : Result Expansion Refusal) → is_shown (compiled_answer Check kinds None r) ≡ false
         check_by (Ok o) = refl
         check_by (Err r) = refl
     by (Some Audit) f = audit_by (is_too_long Audit text) (with_refusal (compilation kinds (parts_of Audit text).text))
       where
-        audit_by : (b : Bool) (r : Result Expansion Refused) → is_shown (cond b (said 4 too_long_line) (compiled_answer Audit kinds (parts_of Audit text).image r)) ≡ false
+        audit_by : (b : Bool) (r : Result Expansion Refusal) → is_shown (cond b (said 4 too_long_line) (compiled_answer Audit kinds (parts_of Audit text).image r)) ≡ false
         audit_by true r = refl
         audit_by false (Ok o) = refl
         audit_by false (Err r) = refl
@@ -114,7 +115,7 @@ legal_short kinds text o e = short (grind arith)
   where
     short : (length text < input_limit) ⊎ (4194304 < length text) → length text < input_limit
     short (inl l) = l
-    short (inr l) = let f : ◌≡◌ {A = Result Expansion Refused} (Err (refusal_of (of_text too_long))) (Ok o) = sym (ap with_refusal (long_refused kinds text l)) ∙ e in absurd (cc)
+    short (inr l) = let f : ◌≡◌ {A = Result Expansion Refusal} (Err (refusal_of (of_text too_long))) (Ok o) = sym (ap with_refusal (long_refused kinds text l)) ∙ e in absurd (cc)
 
 -- bytes that are more than the task takes are refused by that alone
 pub refused_long : (task : Task) (kinds : List Meaning) (bytes : List ℕ) → is_too_long task bytes ≡ true → said 4 too_long_line ≡ bytes_answer task kinds bytes

@@ -18,7 +18,7 @@ use Rattle.dn_tool.specs.Demo.{IsShown}
 use Rattle.dn_tool.specs.Halt.{is_free_status}
 use Rattle.dn_tool.specs.Input.{Parts, is_too_long, parts_of}
 use Rattle.dn_tool.specs.Played.{IsPlayed}
-use Rattle.dn_tool.specs.Refused.{Refused}
+use Rattle.dn_tool.specs.declared.refusal.Refusal.{Refusal}
 
 -- a status and the output; or a net, whose commands are answered one after the other, or gone through
 -- for a demonstration with so many agents
@@ -79,7 +79,7 @@ task_answer Audit kinds image net commands =
 task_answer (Demo agents) kinds image net commands = commands_answer (Some agents) net commands
 
 -- the answer to what a text comes to: the line of its refusal, or what the task makes of it
-abbrev pub compiled_answer : Task → List Meaning → Option (List ℕ) → Result Expansion Refused → Answer
+abbrev pub compiled_answer : Task → List Meaning → Option (List ℕ) → Result Expansion Refusal → Answer
 compiled_answer task kinds image (Err r) = said 4 (r.text ++ codes "\n")
 compiled_answer task kinds image (Ok o) = task_answer task kinds image o.net o.commands
 

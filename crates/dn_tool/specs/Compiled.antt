@@ -9,9 +9,10 @@ use Rattle.dn_kind.specs.Units.{shape_fault}
 use Rattle.dn_module.specs.Faults.{ExpansionFault}
 use Rattle.dn_module.specs.Expand.{Expansion, expansion_of}
 use Rattle.dn_tool.specs.declared.compile.CompileFault.{CompileFault}
-use Rattle.dn_tool.specs.declared.compile.CompileFault.TheVariants.{Refused as RefusedBy, OutOfMemory}
+use Rattle.dn_tool.specs.declared.compile.CompileFault.TheVariants.{Refused, OutOfMemory}
 use Rattle.dn_tool.specs.Platform.{PlatformState}
-use Rattle.dn_tool.specs.Refused.{BrokenRule, Refused, of_expansion, of_nodes, of_text, of_units, of_walks, refusal_of}
+use Rattle.dn_tool.specs.declared.refusal.Refusal.{Refusal}
+use Rattle.dn_tool.specs.Refused.{BrokenRule, of_expansion, of_nodes, of_text, of_units, of_walks, refusal_of}
 
 -- a net and commands, or a broken rule
 abbrev pub Compilation : Type 0
@@ -61,7 +62,7 @@ abbrev pub IsLegal : List Meaning → List ℕ → Type 0
 IsLegal kinds text = fault kinds text ≡ None
 
 -- a broken rule as its refusal: the rule and its line
-abbrev pub with_refusal : Compilation → Result Expansion Refused
+abbrev pub with_refusal : Compilation → Result Expansion Refusal
 with_refusal (Err broken) = Err (refusal_of broken)
 with_refusal (Ok o) = Ok o
 
@@ -70,6 +71,6 @@ abbrev pub platform_view : PlatformState → Expansion
 platform_view p = record { net = p.net; commands = p.commands }
 
 -- the fault of `compile` as the refusal that it is; want of memory is none
-abbrev pub compile_fault_view : CompileFault → Option Refused
-compile_fault_view (RefusedBy r) = Some r
+abbrev pub compile_fault_view : CompileFault → Option Refusal
+compile_fault_view (Refused r) = Some r
 compile_fault_view OutOfMemory = None

@@ -11,13 +11,9 @@ use Rattle.dn_kind.specs.Levels.{are_there}
 use Rattle.dn_module.specs.Faults.{ExpansionFault, is_duplicate, is_unknown, has_other_arguments, has_no_value, passes_limit}
 use Rattle.dn_print.specs.Names.{name_text}
 use Rattle.dn_print.specs.Statement.{node_name, joined_texts}
+use Rattle.dn_tool.specs.declared.refusal.Refusal.{Refusal}
 use Rattle.dn_tool.specs.declared.refusal.Rule.{Rule}
 use Rattle.dn_tool.specs.declared.refusal.Rule.TheVariants.{Length, Token, Statement, Block, Nesting, Duplicate, Unknown, Arguments, Value, TooMany, Range, Overlap, Repeat, VectorSpace, UnitShape, Wide, Loop, Deep, Fork, Chain}
-
--- the rule that is broken, and the line
-pub record Refused : Type 0 where
-  pub rule : Rule
-  pub text : List ℕ
 
 -- the name of a rule
 abbrev pub rule_name : Rule → List ℕ
@@ -43,23 +39,23 @@ rule_name Fork = codes "Fork"
 rule_name Chain = codes "Chain"
 
 -- a rule that is broken by the text as a whole
-abbrev pub by_text : Rule → Refused
+abbrev pub by_text : Rule → Refusal
 by_text rule = record { rule = rule; text = codes "refused: " ++ rule_name rule }
 
 -- a rule that is broken at a line
-abbrev pub by_line : Rule → ℕ → Refused
+abbrev pub by_line : Rule → ℕ → Refusal
 by_line rule line = record { rule = rule; text = codes "refused: line " ++ (decimal line ++ (codes " " ++ rule_name rule)) }
 
 -- a limit that is passed at a line
-abbrev pub by_limit : ℕ → ℕ → Refused
+abbrev pub by_limit : ℕ → ℕ → Refusal
 by_limit line limit = record { rule = TooMany; text = codes "refused: line " ++ (decimal line ++ (codes " TooMany " ++ decimal limit)) }
 
 -- a rule that is broken by what is shown after it: nodes, names or a limit
-abbrev pub by_shown : Rule → List ℕ → Refused
+abbrev pub by_shown : Rule → List ℕ → Refusal
 by_shown rule text = record { rule = rule; text = codes "refused: " ++ (rule_name rule ++ (codes " " ++ text)) }
 
 -- the refusal of a text that spells no tree
-abbrev pub text_refusal : TextFault → Refused
+abbrev pub text_refusal : TextFault → Refusal
 text_refusal too_long = by_text Length
 text_refusal (bad_token line) = by_line Token line
 text_refusal (statement_fault line) = by_line Statement line
@@ -67,7 +63,7 @@ text_refusal (block_fault line) = by_line Block line
 text_refusal (nesting_fault line) = by_line Nesting line
 
 -- the refusal of a tree that expands to no net
-abbrev pub expand_refusal : ExpansionFault → Refused
+abbrev pub expand_refusal : ExpansionFault → Refusal
 expand_refusal (is_duplicate line) = by_line Duplicate line
 expand_refusal (is_unknown line) = by_line Unknown line
 expand_refusal (has_other_arguments line) = by_line Arguments line
@@ -75,14 +71,14 @@ expand_refusal (has_no_value line) = by_line Value line
 expand_refusal (passes_limit line limit) = by_limit line limit
 
 -- the refusal of a net by a node rule, by the names of its nodes
-abbrev pub node_refusal : List NodeDecl → BrokenNode → Refused
+abbrev pub node_refusal : List NodeDecl → BrokenNode → Refusal
 node_refusal net (out_of_range node) = by_shown Range (node_name net node)
 node_refusal net (overlapping node addr) = by_shown Overlap (name_text net (record { node = node; addr = addr }))
 node_refusal net (repeating node) = by_shown Repeat (node_name net node)
 node_refusal net (past_space node) = by_shown VectorSpace (node_name net node)
 
 -- the refusal of a net by the rule on the shape of units, by the name of the unit
-abbrev pub unit_refusal : List NodeDecl → ℕ → Refused
+abbrev pub unit_refusal : List NodeDecl → ℕ → Refusal
 unit_refusal net node = by_shown UnitShape (node_name net node)
 
 -- the names of a chain, from its first to its last
@@ -98,7 +94,7 @@ abbrev pub units_text : List NodeDecl → List ℕ → List ℕ
 units_text net units = joined_texts (codes " ") (node_name net) units
 
 -- the refusal of a net by a rule on walks
-abbrev pub walk_refusal : List NodeDecl → Broken → Refused
+abbrev pub walk_refusal : List NodeDecl → Broken → Refusal
 walk_refusal net is_wide = by_shown Wide (codes "1048576")
 walk_refusal net (has_loop cycle) = by_shown Loop (chain_text net cycle)
 walk_refusal net (is_deep path) = by_shown Deep (chain_text net path)
@@ -114,7 +110,7 @@ pub data BrokenRule : Type 0 where
   of_walks : List NodeDecl → Broken → BrokenRule
 
 -- the refusal of a text by the rule that it breaks
-abbrev pub refusal_of : BrokenRule → Refused
+abbrev pub refusal_of : BrokenRule → Refusal
 refusal_of (of_text fault) = text_refusal fault
 refusal_of (of_expansion fault) = expand_refusal fault
 refusal_of (of_nodes net fault) = node_refusal net fault

@@ -5,7 +5,8 @@ ghost use Rattle.std.specs.List.{list_all};
 ghost use Rattle.dn_net.specs.Terms.{is_closed};
 ghost use Rattle.dn_kind.specs.Terms.{AreKinds, has_kind, kinds_of, shape_fault};
 ghost use Rattle.dn_module.specs.Terms.{Expansion, names_within, outcome_view};
-ghost use Rattle.dn_tool.specs.Terms.{IsLegal, IsPlatform, Refused, compilation, compile_fault_view, expansion_compilation, fault, platform_view, refusal_of, with_refusal};
+ghost use Rattle.dn_tool.specs.declared.refusal.Refusal.{Refusal};
+ghost use Rattle.dn_tool.specs.Terms.{IsLegal, IsPlatform, compilation, compile_fault_view, expansion_compilation, fault, platform_view, refusal_of, with_refusal};
 ghost use Rattle.dn_base.specs.Terms.{Answers, Checks};
 
 use crate::refusal::Refusal;
@@ -137,7 +138,7 @@ fn platform_of<'a>(
 
 /// The fault that a refusal is.
 fn fault_of(refusal: Result<Refusal, OutOfMemory>) -> CompileFault
-    ensures { (made : Result Expansion Refused) → IfOk refusal (λ r. made ≡ Err r) →
+    ensures { (made : Result Expansion Refusal) → IfOk refusal (λ r. made ≡ Err r) →
         IfSome (compile_fault_view result) (λ r. made ≡ Err r) }
 {
     match refusal {

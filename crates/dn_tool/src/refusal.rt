@@ -22,7 +22,6 @@ use dn_print::joined::write_joined;
 use dn_print::names;
 use dn_walk::fault::WalkFault;
 use std::alloc::Global;
-use std::marker::Model;
 
 /// The rules that a text can break, in the order in which they are tested.
 #[derive(Clone, Copy, Debug, PartialEq, Eq)]
@@ -102,19 +101,13 @@ impl Rule {
 /// A text breaks a rule, or an input has no image of its net.
 pub const REFUSED: u8 = 4;
 
-/// The refusal of a text. Contracts see the rule and the bytes of the line.
+/// The refusal of a text.
 #[derive(Drop)]
 pub struct Refusal {
+    /// The rule that the text breaks.
     rule: Rule,
+    /// The line that says so, without its end.
     text: Text,
-}
-
-impl Model for Refusal {
-    ghost use Rattle.dn_tool.specs.Refused.{Refused};
-
-    ghost Value = { Refused };
-
-    ghost view = { λ r. record { rule = r.rule; text = r.text } };
 }
 
 impl Refusal {
