@@ -1,5 +1,6 @@
 -- What the code keeps of a script: the book with its tables, the ids, and what is made of them once.
-use Rattle.std.specs.Prelude.{◌≡◌, ◌<◌, ◌⊎◌, ℕ, true, List, length, Option, Result, Ok, Err, OnOk}
+use Rattle.std.specs.Prelude.{◌≡◌, ◌<◌, ◌⊎◌, ℕ, true, List, length, Option, Result, Ok, Err, IsTrue, OnOk}
+use Rattle.std.specs.List.{list_all}
 use Rattle.std.specs.Option.{IfSome}
 use Rattle.dn_base.specs.declared.device.TableEvent.{TableEvent}
 use Rattle.dn_base.specs.declared.device.UnitWords.{UnitWords}
@@ -12,6 +13,8 @@ use Rattle.dn_flat.specs.Levels.{AreFlats}
 use Rattle.dn_flat.specs.Stages.{IsFlat}
 use Rattle.dn_tables.specs.Set.{IsOnDevice, words_of}
 use Rattle.dn_image.specs.Image.{image}
+use Rattle.dn_module.specs.declared.command.Command.{Command}
+use Rattle.dn_module.specs.Commands.{names_within}
 use Rattle.dn_book.specs.Book.{IsFaithful}
 use Rattle.dn_book.specs.Tables.{IsKept}
 use Rattle.dn_tool.specs.declared.halt.RunHalt.{RunHalt}
@@ -23,7 +26,7 @@ use Rattle.dn_tool.specs.Halt.{HaltsByDevice, ending_status}
 use Rattle.dn_tool.specs.Machine.{IsMachine}
 use Rattle.dn_tool.specs.Played.{CameIn}
 use Rattle.dn_tool.specs.Stopped.{IsStopped}
-use Rattle.dn_tool.specs.Turn.{State, Turn}
+use Rattle.dn_tool.specs.Turn.{State, Turn, start}
 use Rattle.dn_tool.specs.Unmade.{AreUnmade}
 
 -- the state of the script
@@ -60,6 +63,14 @@ pub record IsReadyOn {K : Type 0} {V : K → Type 0} (means : (k : K) × V k →
   pub machine : IsMachine means m
   pub state : IsState (kinds_of means m.on.kinds.now) m.on.net.now k
   pub on_device : IsOnDevice k.book.set units words
+
+-- a script may be gone through: its commands name nodes that are there, and the state is that before the first of them
+pub record MayBegin {K : Type 0} {V : K → Type 0} (means : (k : K) × V k → Meaning)
+    (m : Machine K V) (k : Kept) (commands : List Command) (units : List UnitSize)
+    (words : Option (List UnitWords)) : Type 0 where
+  pub known : IsTrue (list_all (names_within (length m.on.net.now)) commands)
+  pub ready : IsReadyOn means m k units words
+  pub starts : state_view k ≡ start
 
 -- the state behind a command that changes nothing: no more than what is kept of it may be new
 pub record IsStill {K : Type 0} {V : K → Type 0} (means : (k : K) × V k → Meaning)

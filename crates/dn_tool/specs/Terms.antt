@@ -11,14 +11,14 @@ pub use Rattle.dn_tool.specs.Found.{access_of, access_text, agent_of, asked_text
 pub use Rattle.dn_tool.specs.Halt.{HaltsByDevice, HaltsByEither, HaltsBySink, Writes, ending_status, is_free_status, make_halt, refusal_or_halt}
 pub use Rattle.dn_tool.specs.Ids.{id_number, with_id}
 pub use Rattle.dn_tool.specs.Input.{is_too_long, limit_for, parts_of, parts_view}
-pub use Rattle.dn_tool.specs.Machine.{IsMachine}
+pub use Rattle.dn_tool.specs.Machine.{IsMachine, MayRun}
 pub use Rattle.dn_tool.specs.Platform.{IsPlatform}
 pub use Rattle.dn_tool.specs.Played.{IsPlayed, IsPlayedOn}
 pub use Rattle.dn_tool.specs.Radix.{node_words, pages_heading, pool_text, tree_text, unit_of}
 pub use Rattle.dn_tool.specs.Refused.{AreNodesWithin, IsNodeWithin, by_limit, by_line, by_shown, by_text, chain_text, expand_refusal, fork_text, node_refusal, refusal_of, rule_name, text_refusal, unit_refusal, units_text, walk_refusal}
 pub use Rattle.dn_tool.specs.Reread.{AbsorbIsReadBack, CompiledIsReadBack, SplitIsReadBack}
 pub use Rattle.dn_tool.specs.Reshape.{absorb_text, absorbed_text, limit_text, made_text, no_node_text, reason_text, refusal_text, split_text, unfit_text}
-pub use Rattle.dn_tool.specs.State.{CameThrough, IsChangeDone, IsFirstView, IsReady, IsReadyOn, IsStill, state_view}
+pub use Rattle.dn_tool.specs.State.{CameThrough, IsChangeDone, IsFirstView, IsReady, IsReadyOn, IsStill, MayBegin, state_view}
 pub use Rattle.dn_tool.specs.Stopped.{IsStopped}
 pub use Rattle.dn_tool.specs.Turn.{IsGatherTurn, IsGrantTurn, IsRevokeTurn, IsRouteTurn, IsTurn, TurnIsOne, TurnsAreOne, is_change, is_pieced, reply, start}
 pub use Rattle.dn_tool.specs.Unmade.{AreUnmade, IsPassed, IsUnfit, IsUnfitFor}

@@ -1,14 +1,13 @@
 //! A demonstration that is run: its commands without their replies, and one line that sums up what came of them.
 
 ghost use Rattle.std.specs.Prelude.{◌≡◌, ◌+◌, ◌-◌, ◌^◌, ◌<◌, None, if◌then◌else◌, length, Err, IfOk, IsTrue, OnOk};
-ghost use Rattle.std.specs.List.{list_all};
 ghost use Rattle.dn_net.specs.Terms.{unit_at};
 ghost use Rattle.dn_kind.specs.Terms.{kinds_of, record_held};
 ghost use Rattle.dn_flat.specs.Terms.{AreFlats};
 ghost use Rattle.dn_module.specs.Terms.{names_within};
 ghost use Rattle.dn_tables.specs.Terms.{FitsNet, words_of};
 ghost use Rattle.dn_demo.specs.Terms.{summary_text};
-ghost use Rattle.dn_tool.specs.Terms.{CameThrough, HaltsByDevice, HaltsByEither, HaltsBySink, IsMachine, IsReady, IsReadyOn, IsShownOn, IsStopped, IsTurn, Writes, agent_rows, ending_status, has_granted, has_revoked, held_records, held_slots, is_change, start, state_view, sum_below, summary_with};
+ghost use Rattle.dn_tool.specs.Terms.{CameThrough, HaltsByDevice, HaltsByEither, HaltsBySink, IsMachine, IsReady, IsReadyOn, IsShownOn, IsStopped, IsTurn, MayBegin, Writes, agent_rows, ending_status, has_granted, has_revoked, held_records, held_slots, is_change, state_view, sum_below, summary_with};
 
 use crate::OutOfMemory;
 use crate::change::change;
@@ -49,9 +48,8 @@ pub(crate) fn play_all<K: Sink, D: Tables>(
     sink: &mut K,
     device: &mut D,
 ) -> Result<u8, RunHalt>
-    requires known { IsTrue (list_all (names_within (length machine.on.net.now)) commands.now) }
-    requires ready { IsReadyOn meaning machine state.old (D.units device.old) (D.words device.old) }
-    requires start { state_view state.old ≡ start }
+    requires { MayBegin meaning machine state.old commands.now
+        (D.units device.old) (D.words device.old) }
     ensures shown { IsShownOn (kinds_of meaning machine.entry.on.kinds.now)
         machine.entry.on.net.now agents commands.now (ending_status result) (K.written sink.old)
         (K.written sink.new) (D.log device.old) (D.log device.new) (D.words device.new) }

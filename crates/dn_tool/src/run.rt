@@ -7,7 +7,7 @@ ghost use Rattle.dn_base.specs.Terms.{AtEnd, IsCounted, Taken, TakenAtMost, inpu
 ghost use Rattle.dn_kind.specs.Terms.{AreKinds, kinds_of, shape_fault};
 ghost use Rattle.dn_module.specs.Terms.{names_within};
 ghost use Rattle.dn_words.specs.Terms.{task_of};
-ghost use Rattle.dn_tool.specs.Terms.{HaltsByEither, HaltsBySink, IsAnswered, IsInput, IsMachine, IsSaid, answer, bytes_answer, commands_answer, demo_answer, ending_status, is_script, limit_for, parts_view, reads, task_answer, text_answer, usage};
+ghost use Rattle.dn_tool.specs.Terms.{HaltsByEither, HaltsBySink, IsAnswered, IsInput, IsMachine, IsSaid, MayRun, answer, bytes_answer, commands_answer, demo_answer, ending_status, is_script, limit_for, parts_view, reads, task_answer, text_answer, usage};
 ghost use Rattle.dn_print.specs.Terms.{net_text};
 
 use crate::audit::answer_image;
@@ -156,9 +156,7 @@ fn answer_bytes<K: Sink, D: Tables>(
     sink: &mut K,
     device: &mut D,
 ) -> Result<u8, RunHalt>
-    requires few_kinds { length kinds.now.list.items ≤ 255 }
-    requires kinds { AreKinds meaning kinds.now }
-    requires none { D.units device.old ≡ [] }
+    requires { MayRun meaning kinds.now (D.units device.old) }
     ensures answered { IsAnswered (kinds_of meaning kinds.now) (bytes_answer task
         (kinds_of meaning kinds.now) bytes.now) (ending_status result) (K.written sink.old)
         (K.written sink.new) (D.log device.old) (D.log device.new) (D.words device.new) }
@@ -184,9 +182,7 @@ fn answer_text<K: Sink, D: Tables>(
     sink: &mut K,
     device: &mut D,
 ) -> Result<u8, RunHalt>
-    requires few_kinds { length kinds.now.list.items ≤ 255 }
-    requires kinds { AreKinds meaning kinds.now }
-    requires none { D.units device.old ≡ [] }
+    requires { MayRun meaning kinds.now (D.units device.old) }
     ensures answered { IsAnswered (kinds_of meaning kinds.now) (text_answer task
         (kinds_of meaning kinds.now) (parts_view input.entry)) (ending_status result) (K.written
         sink.old) (K.written sink.new) (D.log device.old) (D.log device.new) (D.words device.new) }

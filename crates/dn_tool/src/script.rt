@@ -1,13 +1,12 @@
 //! A script that is run: its commands are answered in order, over units that were made.
 
 ghost use Rattle.std.specs.Prelude.{◌≡◌, false, length, Err, IfOk, IsTrue, OnOk};
-ghost use Rattle.std.specs.List.{list_all};
 ghost use Rattle.dn_kind.specs.Terms.{kinds_of};
 ghost use Rattle.dn_image.specs.Terms.{image};
 ghost use Rattle.dn_book.specs.Terms.{tables_of};
 ghost use Rattle.dn_print.specs.Terms.{dump_text};
 ghost use Rattle.dn_module.specs.Terms.{names_within};
-ghost use Rattle.dn_tool.specs.Terms.{CameThrough, HaltsByEither, HaltsBySink, IsPlayedOn, IsReady, IsReadyOn, IsStill, IsStopped, IsTurn, Writes, ending_status, is_change, reply, start, state_view};
+ghost use Rattle.dn_tool.specs.Terms.{CameThrough, HaltsByEither, HaltsBySink, IsPlayedOn, IsReady, IsReadyOn, IsStill, IsStopped, IsTurn, MayBegin, Writes, ending_status, is_change, reply, state_view};
 
 use crate::change::change;
 use crate::halt::RunHalt;
@@ -36,9 +35,8 @@ pub(crate) fn answer_all<K: Sink, D: Tables>(
     sink: &mut K,
     device: &mut D,
 ) -> Result<u8, RunHalt>
-    requires known { IsTrue (list_all (names_within (length machine.on.net.now)) commands.now) }
-    requires ready { IsReadyOn meaning machine state.old (D.units device.old) (D.words device.old) }
-    requires start { state_view state.old ≡ start }
+    requires { MayBegin meaning machine state.old commands.now
+        (D.units device.old) (D.words device.old) }
     ensures played { IsPlayedOn (kinds_of meaning machine.entry.on.kinds.now)
         machine.entry.on.net.now commands.now (ending_status result) (K.written sink.old)
         (K.written sink.new) (D.log device.old) (D.log device.new) (D.words device.new) }

@@ -24,7 +24,7 @@ commands-init g c =
       few_revoked = omega arith;
       known = subst (λ (l : List Command). IsTrue (list_all (names_within (length c.args.machine.on.net.now)) l)) (sym all) c.requires.known;
       ready = c.requires.ready;
-      tallied = λ log made. tallied_start _ _ c.args.commands.now _ (state_view c.args.state.now) log _ (machine_lawful _ c.args.machine c.requires.ready.machine) (first_place c.args.commands.now c.cursor-rest.result all) c.requires.start (machine_owed _ c.args.machine c.args.state.now c.requires.ready.machine c.requires.ready.state) made;
+      tallied = λ log made. tallied_start _ _ c.args.commands.now _ (state_view c.args.state.now) log _ (machine_lawful _ c.args.machine c.requires.ready.machine) (first_place c.args.commands.now c.cursor-rest.result all) c.requires.starts (machine_owed _ c.args.machine c.args.state.now c.requires.ready.machine c.requires.ready.state) made;
       device_counted = counted_none _;
     }
 
