@@ -70,28 +70,16 @@ pub(crate) fn radix_reply<K: Sink>(
     ensures halted { HaltsBySink result (K.faults sink.old) (K.faults sink.new) }
 {
     match build(alloc, words, pool) {
-        Ok(bytes) => write_pages(alloc, text, &bytes, sink),
+        Ok(bytes) => {
+            let heading = heading_text(alloc, text, bytes.len() / PAGE)?;
+            write_bytes(alloc, heading.as_str(), &bytes, sink)
+        }
         Err(RadixFault::Pool { need }) => {
             let line = pool_line(alloc, text, need)?;
             write_output(sink, line.as_bytes())
         }
         Err(RadixFault::OutOfMemory) => Err(RunHalt::NoMemory),
     }
-}
-
-/// Writes the pages of a tree below their heading.
-fn write_pages<K: Sink>(
-    alloc: Global,
-    text: &str,
-    bytes: &[u8],
-    sink: &mut K,
-) -> Result<(), RunHalt>
-    ensures written { Writes result (K.written sink.old) (K.written sink.new)
-        (pages_heading text.now (length bytes.now / 4096) ++ lines_text bytes.now) }
-    ensures halted { HaltsBySink result (K.faults sink.old) (K.faults sink.new) }
-{
-    let heading = heading_text(alloc, text, bytes.len() / PAGE)?;
-    write_bytes(alloc, heading.as_str(), bytes, sink)
 }
 
 /// The words of a unit, one after the other. `Err` is want of memory.
