@@ -66,9 +66,6 @@ module _ (kinds : List Meaning) (net : List NodeDecl) (lawful : All IsLawful kin
   pub given_owed : (n : ℕ) (l : Lookup) (names : List Name) → slice_get (world_after net kinds (first_world kinds net) events).lookups n ≡ Some l → l.state ≡ Ended names → IsGivenOwed kinds net turns log events n l names
   given_owed n l names there is = record {
     flown = f;
-    now = f.peak;
-    from = f.from;
-    to = f.to;
     book = peak.high;
     speaks = peak.has_high;
     given = given;

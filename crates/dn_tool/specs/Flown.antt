@@ -34,18 +34,15 @@ books_at book (t ∷ ts) count =
     then books_at t.next.book ts (count - length t.events)
     else if nat_eq count 0 then book ∷ [] else book ∷ t.next.book ∷ []
 
--- A lookup beside a script has flown as lookups do. At one moment of its life a book of which the
--- moment speaks owes its start each of its names. And where all books of which the moments of its life
--- speak owe its start the same names, it has ended with exactly these.
+-- A lookup beside a script has flown as lookups do. A book of which the moment speaks at which its start
+-- resolved to all of its names owes its start each of them. And where all books of which the moments of
+-- its life speak owe its start the same names, it has ended with exactly these.
 pub record IsGivenOwed (kinds : List Meaning) (net : List NodeDecl) (turns : List Turn)
     (log : List TableEvent) (events : List Event) (n : ℕ) (l : Lookup) (names : List Name)
     : Type 0 where
   pub flown : HasFlown net kinds (first_world kinds net) log events n l names
-  pub now : ℕ
-  pub from : moment events flown.before ≤ now
-  pub to : now ≤ moment events flown.after
   pub book : List GrantPart
-  pub speaks : Member book (books_at [] turns now)
+  pub speaks : Member book (books_at [] turns flown.peak)
   pub given : (y : Name) → Member y names →
       Owes net book l.access (first_name l.agent l.start) y
   pub exact : (owed : List Name) → ((count : ℕ) (b : List GrantPart) →
