@@ -1,18 +1,29 @@
 //! What is seen past very many walks, by stages too, and in units; and what all nodes see at once.
 
 ghost use Rattle.dn_net.specs.Terms.{IsLegalNet};
+ghost use Rattle.dn_walk.specs.Terms.{AreWalksOf};
 
-use crate::machine::Machine;
+use crate::nets::made::{Walked, walked_of};
+use dn_flat::flat::{Flat, flatten};
+use dn_flat::flats::flatten_all;
 use dn_flat::stage::Stage;
 use dn_interval::onward::follow;
 use dn_interval::{End, Row, Rows, Seg, Span, TOP};
 use dn_net::net::Net;
-use std::alloc::{AllocError, Global};
+use std::alloc::Global;
 use std::process::Abort;
 
 /// The end of a row that goes on from a node's first address.
 fn first_end(node: u16) -> End {
     End { node, base: 0 }
+}
+
+/// What a node of a net sees.
+fn flat_of(rt: &impl Abort, alloc: Global, given: &Walked, node: u16) -> Flat
+    requires { AreWalksOf given.now.net given.now.walks }
+{
+    assert!(rt; node < given.net.nodes());
+    flatten(alloc, &given.net, &given.walks, node).expect(rt, "rows")
 }
 
 /// Two nodes a level, each of which sends all of its addresses to both of the next: 1,048,500 live walks.
@@ -29,8 +40,8 @@ b[17] is accept [0x0-0xff];
 #[test]
 fn sees_past_many_walks(rt: HostRuntime) {
     let alloc = rt.alloc();
-    let machine = Machine::of_text(alloc, CROWD).expect(&rt, "a machine");
-    let flat = machine.flat(alloc, 0).expect(&rt, "rows");
+    let crowd = walked_of(&rt, alloc, CROWD);
+    let flat = flat_of(&rt, alloc, &crowd, 0);
     // The nodes of the last level are these.
     let ends = [first_end(34), first_end(35)];
     compare_one(&rt, flat.accepts.rows(), 0xff, &ends);
@@ -46,9 +57,9 @@ agent engine is map [0-0xffff to mmu at 0];
 #[test]
 fn sees_what_stands_in_units(rt: HostRuntime) {
     let alloc = rt.alloc();
-    let machine = Machine::of_text(alloc, UNIT).expect(&rt, "a machine");
+    let unit = walked_of(&rt, alloc, UNIT);
     for (node, hi) in [(1, TOP), (2, 0xffff)] {
-        let flat = machine.flat(alloc, node).expect(&rt, "rows");
+        let flat = flat_of(&rt, alloc, &unit, node);
         assert!(rt; flat.accepts.rows().is_empty());
         compare_one(&rt, flat.stops.rows(), hi, &[first_end(1)]);
     }
@@ -57,8 +68,8 @@ fn sees_what_stands_in_units(rt: HostRuntime) {
 #[test]
 fn goes_on_for_sixteen_steps(rt: HostRuntime) {
     let alloc = rt.alloc();
-    let machine = Machine::of_text(alloc, CROWD).expect(&rt, "a machine");
-    compare_stage(&rt, alloc, machine.net());
+    let crowd = walked_of(&rt, alloc, CROWD);
+    compare_stage(&rt, alloc, &crowd.net);
 }
 
 /// Compares where the first node's addresses go in sixteen steps.
@@ -101,7 +112,7 @@ fn are_same(rows: &Rows, others: &Rows) -> bool {
 }
 
 /// What levels give, as normal rows.
-fn joined(alloc: Global, levels: &[Rows]) -> Result<Rows, AllocError> {
+fn joined(rt: &impl Abort, alloc: Global, levels: &[Rows]) -> Rows {
     let mut segs = Vec::new(alloc);
     for level in levels {
         let span = Span { lo: 0, hi: TOP };
@@ -110,9 +121,9 @@ fn joined(alloc: Global, levels: &[Rows]) -> Result<Rows, AllocError> {
             node: 0,
             base: 0,
         };
-        follow(&mut segs, whole, level)?;
+        follow(&mut segs, whole, level).expect(rt, "memory");
     }
-    Rows::normal(alloc, &segs)
+    Rows::normal(alloc, &segs).expect(rt, "memory")
 }
 
 /// Blocks that overlap and touch, two ways to one name, neighbours that go on and neighbours that break.
@@ -132,13 +143,13 @@ fn sees_from_all_nodes_what_each_sees(rt: HostRuntime) {
 
 /// Compares what all nodes of a text see at once with what each of them sees.
 fn compare_all(rt: &impl Abort, alloc: Global, text: &str) {
-    let machine = Machine::of_text(alloc, text).expect(rt, "a machine");
-    let flats = machine.flats(alloc).expect(rt, "flats");
-    for node in 0..machine.net().nodes() {
-        let flat = machine.flat(alloc, node).expect(rt, "rows");
+    let given = walked_of(rt, alloc, text);
+    let flats = flatten_all(alloc, &given.net, &given.walks).expect(rt, "rows");
+    for node in 0..given.net.nodes() {
+        let flat = flat_of(rt, alloc, &given, node);
         let accepts = flats.accepted_rows(alloc, node).expect(rt, "memory");
         assert!(rt; are_same(&accepts, &flat.accepts), "accepts of {node}");
-        let stops = joined(alloc, flats.of(node).stops.as_slice()).expect(rt, "memory");
+        let stops = joined(rt, alloc, flats.of(node).stops.as_slice());
         assert!(rt; are_same(&stops, &flat.stops), "stops of {node}");
     }
 }

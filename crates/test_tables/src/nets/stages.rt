@@ -4,7 +4,7 @@ ghost use Rattle.std.specs.Prelude.{◌<◌, length};
 ghost use Rattle.dn_flat.specs.Terms.{IsStage};
 ghost use Rattle.dn_net.specs.Terms.{IsLegalNet};
 
-use crate::nets::legal;
+use crate::nets::made::legal;
 use dn_flat::stage::Stage;
 use dn_interval::Rows;
 use dn_net::names::Names;
@@ -138,7 +138,7 @@ fn compare_stages(rt: &impl Abort, alloc: Global, net: &Net, addresses: u64)
 
 /// The same over the net of a plan.
 fn compare_plan(rt: &impl Abort, alloc: Global, plan: Plan, addresses: u64) {
-    let net = legal(alloc, plan).expect(rt, "a net");
+    let net = legal(rt, alloc, plan);
     compare_stages(rt, alloc, &net, addresses);
 }
 

@@ -1,18 +1,24 @@
 //! The rules on nodes: the fault of the first node that breaks one.
 
-use crate::fault_of;
-use crate::nets::net_of;
+use crate::nets::made::net_of;
 use dn_net::node::TOP;
 use dn_net::rules::NodeFault;
-use std::test::Fail;
+use std::alloc::Global;
+use std::process::Abort;
 
 /// The fault of node 0, two of whose blocks have an address, which is the least of such.
 fn overlap(addr: u64) -> Option<NodeFault> {
     Some(NodeFault::Overlap { node: 0, addr })
 }
 
+/// Compares the first rule on nodes that the net of a text breaks, if it breaks one.
+fn compare(rt: &impl Abort, alloc: Global, text: &str, wanted: Option<NodeFault>) {
+    let net = net_of(rt, alloc, text);
+    assert!(rt; net.check_nodes(alloc).err() == wanted, "{text}");
+}
+
 #[test]
-fn names_the_first_rule_that_is_broken(rt: HostRuntime) -> Result<(), Fail> {
+fn names_the_first_rule_that_is_broken(rt: HostRuntime) {
     let alloc = rt.alloc();
     let range = Some(NodeFault::Range { node: 0 });
     let space = Some(NodeFault::VectorSpace { node: 0 });
@@ -52,32 +58,29 @@ fn names_the_first_rule_that_is_broken(rt: HostRuntime) -> Result<(), Fail> {
         ),
     ];
     for (text, fault) in rows {
-        let net = net_of(alloc, text)?;
-        assert!(rt; fault_of(alloc, &net) == fault, "{text}");
+        compare(&rt, alloc, text, fault);
     }
-    Ok(())
 }
 
 #[test]
-fn names_no_port_twice(rt: HostRuntime) -> Result<(), Fail> {
+fn names_no_port_twice(rt: HostRuntime) {
     let alloc = rt.alloc();
     let nodes = "a is; b is; c is; unit u kind remap page 12 slots 4 reach 32 to c, a, ";
     let fault = NodeFault::Repeat { node: 3 };
     for (last, wanted) in [("b;", None), ("a;", Some(fault))] {
-        let text = [nodes, last].concat(alloc)?;
-        let net = net_of(alloc, text.as_str())?;
-        assert!(rt; fault_of(alloc, &net) == wanted, "{last}");
+        let text = [nodes, last].concat(alloc).expect(&rt, "memory");
+        compare(&rt, alloc, text.as_str(), wanted);
     }
-    Ok(())
 }
 
 #[test]
-fn names_each_rule(rt: HostRuntime) -> Result<(), Fail> {
+fn names_each_rule(rt: HostRuntime) {
     use NodeFault::{OutOfMemory, Overlap, Range, Repeat, VectorSpace};
     let node = 3;
     let (range, overlap) = (Range { node }, Overlap { node, addr: 1 });
     let (repeat, space) = (Repeat { node }, VectorSpace { node });
-    let text = format!(in rt.alloc(); "{range} {overlap} {repeat} {space} {OutOfMemory}")?;
+    let text = format!(in rt.alloc(); "{range} {overlap} {repeat} {space} {OutOfMemory}").expect(
+        &rt, "memory",
+    );
     assert!(rt; text.as_str() == "Range Overlap Repeat VectorSpace OutOfMemory");
-    Ok(())
 }

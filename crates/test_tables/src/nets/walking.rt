@@ -1,24 +1,22 @@
 //! The live walks of nets, and the rules on walks.
 
-use crate::nets::net_of;
+use crate::nets::made::net_of;
 use dn_base::items::Items;
 use dn_net::node::Name;
 use dn_walk::fault::WalkFault;
 use dn_walk::walks::{WalkRow, WalkTable, walks};
 use std::alloc::{AllocError, Global};
 use std::process::Abort;
-use std::test::Fail;
 
 /// What `walks` answers for the net of a text: the rows, each as `start lo-hi end@base len`, with the addresses
-/// in hexadecimal, or the rule that is broken, with the names and units that it shows. A net whose units have
-/// other shapes than units may have is refused.
-fn walking_text(alloc: Global, text: &str) -> Result<String, Fail> {
-    let net = net_of(alloc, text)?;
-    net.check_nodes(alloc)?;
-    if !net.has_plain_units() {
-        return Err(Fail::from(AllocError));
-    }
-    Ok(answer(alloc, walks(alloc, &net))?)
+/// in hexadecimal, or the rule that is broken, with the names and units that it shows. Its units have plain
+/// shapes.
+fn walking_text(rt: &impl Abort, alloc: Global, text: &str) -> String {
+    let net = net_of(rt, alloc, text);
+    net.check_nodes(alloc)
+        .expect(rt, "a net that keeps the rules on nodes");
+    assert!(rt; net.has_plain_units());
+    answer(alloc, walks(alloc, &net)).expect(rt, "memory")
 }
 
 fn answer(alloc: Global, walks: Result<WalkTable, WalkFault>) -> Result<String, AllocError> {
@@ -68,12 +66,11 @@ fn push_numbers(text: &mut String, units: &[u16]) -> Result<(), AllocError> {
 }
 
 /// Compares what is told of each text with what is wanted.
-fn compare_each<R: Abort + AllocGlobal>(rt: &R, rows: &[(&str, &str)]) -> Result<(), Fail> {
+fn compare_each<R: Abort + AllocGlobal>(rt: &R, rows: &[(&str, &str)]) {
     for (text, wanted) in rows {
-        let told = walking_text(rt.alloc(), text)?;
+        let told = walking_text(rt, rt.alloc(), text);
         assert!(rt; told.as_str() == *wanted, "{text}");
     }
-    Ok(())
 }
 
 /// A bus with a memory and a device, and a core in front of it.
@@ -89,7 +86,7 @@ bus is accept [20-29, 0xfffffffffffff6-0xfffffffffffffe] map [10-19 to memory at
 ";
 
 #[test]
-fn lists_the_walks_or_names_the_loop(rt: HostRuntime) -> Result<(), Fail> {
+fn lists_the_walks_or_names_the_loop(rt: HostRuntime) {
     compare_each(
         &rt,
         &[
@@ -111,11 +108,11 @@ fn lists_the_walks_or_names_the_loop(rt: HostRuntime) -> Result<(), Fail> {
                 "0 0-9 1@64 1;1 69-6e 0@32 1;0 5-9 0@32 2;",
             ),
         ],
-    )
+    );
 }
 
 #[test]
-fn names_the_least_fork_before_a_unit(rt: HostRuntime) -> Result<(), Fail> {
+fn names_the_least_fork_before_a_unit(rt: HostRuntime) {
     compare_each(
         &rt,
         &[
@@ -140,11 +137,11 @@ fn names_the_least_fork_before_a_unit(rt: HostRuntime) -> Result<(), Fail> {
                 "0 0-3 2@0 1;3 0-3 1@0 1;3 0-3 1@8 1;",
             ),
         ],
-    )
+    );
 }
 
 #[test]
-fn names_the_first_row_of_units(rt: HostRuntime) -> Result<(), Fail> {
+fn names_the_first_row_of_units(rt: HostRuntime) {
     compare_each(
         &rt,
         &[
@@ -181,11 +178,11 @@ fn names_the_first_row_of_units(rt: HostRuntime) -> Result<(), Fail> {
                 "Chain 3 2",
             ),
         ],
-    )
+    );
 }
 
 #[test]
-fn ends_chains_at_sixty_four_steps(rt: HostRuntime) -> Result<(), Fail> {
+fn ends_chains_at_sixty_four_steps(rt: HostRuntime) {
     let rows = [
         (
             "for i in 0..63; c[i] is map [0-9 to c[i+1] at 0]; end; c[64] is accept [0-9];",
@@ -209,18 +206,15 @@ fn ends_chains_at_sixty_four_steps(rt: HostRuntime) -> Result<(), Fail> {
         ),
     ];
     for (text, front, end) in rows {
-        let told = walking_text(rt.alloc(), text)?;
+        let told = walking_text(&rt, rt.alloc(), text);
         assert!(rt; told.as_str().starts_with(front), "{text}");
         assert!(rt; told.as_str().ends_with(end), "{text}");
     }
-    Ok(())
 }
 
 #[test]
-fn names_the_rules_that_no_text_here_breaks(rt: HostRuntime) -> Result<(), Fail> {
-    let wide = broken(rt.alloc(), &WalkFault::Wide)?;
-    assert!(rt; wide.as_str() == "Wide");
-    let none = broken(rt.alloc(), &WalkFault::OutOfMemory)?;
-    assert!(rt; none.as_str() == "OutOfMemory");
-    Ok(())
+fn names_the_rules_that_no_text_here_breaks(rt: HostRuntime) {
+    let (wide, memory) = (WalkFault::Wide, WalkFault::OutOfMemory);
+    let words = format!(in rt.alloc(); "{wide} {memory}").expect(&rt, "memory");
+    assert!(rt; words.as_str() == "Wide OutOfMemory");
 }
