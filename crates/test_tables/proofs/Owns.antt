@@ -35,17 +35,7 @@ hop_free net set rq hop u is free = λ v e. subst (λ (w : UnitPart). (slot : �
 
 -- with a free hop for its own a placement is one
 pub owned : (net : List NodeDecl) (ks : List Meaning) (set : List NodeTable) (rq : Request) (p : Place) (own : ℕ) (hop : Hop) → slice_get p.hops own ≡ Some hop → IsFreeHop net (slots_of_set [] set) rq hop → IsPlacement net (slots_of_set ks set) rq p → IsPlacement net (slots_of_set ks set) rq (record { v = p.v; hops = p.hops; own = own })
-owned net ks set rq p own hop at free is = record {
-  some = is.some;
-  fits = is.fits;
-  least = is.least;
-  most = is.most;
-  meets = is.meets;
-  leads = is.leads;
-  own = hop;
-  is_own = at;
-  free = free;
-}
+owned net ks set rq p own hop at free is = search
 
 -- a slot before one of a unit's is one of them
 pub slot_before : (set : List NodeTable) (unit last slot : ℕ) → IsTrue (has_slot set unit last) → slot ≤ last → IsTrue (has_slot set unit slot)

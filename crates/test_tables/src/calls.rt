@@ -1,9 +1,7 @@
 //! Boards and desks of plans.
 
 ghost use Rattle.std.specs.Prelude.{IfOk};
-ghost use Rattle.dn_net.specs.Terms.{IsLegalNet};
 ghost use Rattle.dn_kind.specs.Terms.{AreKinds, kinds_of};
-ghost use Rattle.dn_flat.specs.Terms.{AreFlats};
 ghost use Rattle.dn_view.specs.Terms.{IsSystem};
 ghost use Rattle.test_tables.specs.Terms.{IsBoard, IsDesk};
 
@@ -11,10 +9,9 @@ use crate::desk::{Board, Desk};
 use dn_base::device::DeviceOrMemory;
 use dn_base::memory_tables::MemTables;
 use dn_book::book::Book;
-use dn_flat::flats::{Flats, flatten_all};
+use dn_flat::flats::flatten_all;
 use dn_kind::kinded::KindedNet;
 use dn_kind::kinds::Kinds;
-use dn_net::net::Net;
 use dn_view::system::System;
 use dn_walk::walks::walks;
 use std::alloc::Global;
@@ -26,9 +23,18 @@ pub fn board_of(rt: &impl Abort, alloc: Global, kinds: &Kinds, plan: Plan) -> Bo
     requires { AreKinds meaning kinds.now }
     ensures { IsBoard (kinds_of meaning kinds.now) result }
 {
-    let net = plan.net(alloc, kinds).expect(rt, "a net");
-    let flats = flats_of(alloc, &net).expect(rt, "flats");
-    Board { net, flats }
+    planned(alloc, kinds, plan).expect(rt, "a board")
+}
+
+/// The board of a plan, where its net keeps all rules.
+fn planned(alloc: Global, kinds: &Kinds, plan: Plan) -> Result<Board, Unmade>
+    requires { AreKinds meaning kinds.now }
+    ensures { IfOk result (IsBoard (kinds_of meaning kinds.now)) }
+{
+    let net = plan.net(alloc, kinds)?;
+    let walks = walks(alloc, &net)?;
+    let flats = flatten_all(alloc, &net, &walks)?;
+    Ok(Board { net, flats })
 }
 
 /// The system of a board and its kinds.
@@ -44,15 +50,6 @@ pub fn system_of<'a>(board: &'a Board, kinds: &'a Kinds) -> System<'a>
         },
         flats: &board.flats,
     }
-}
-
-/// What each node of a net sees.
-fn flats_of(alloc: Global, net: &Net) -> Result<Flats, Unmade>
-    requires { IsLegalNet net.now }
-    ensures { IfOk result (AreFlats net.now) }
-{
-    let walks = walks(alloc, net)?;
-    Ok(flatten_all(alloc, net, &walks)?)
 }
 
 /// A book of no grant over a device that has room for so many events and fails at these calls.
