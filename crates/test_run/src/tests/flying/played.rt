@@ -50,28 +50,24 @@ pub(crate) fn run_commands(
 
 /// Lookups before, inside and after a revoke, behind one unit. The log has five events: unit 5 is made, the first
 /// buffer's record is put and cleared, and after a fence the second buffer's is put.
-pub(crate) fn play_one_unit() -> [Act; 20] {
+pub(crate) fn play_one_unit() -> [Act; 16] {
     let waits = FlightFault::NotQuiet { lookup: 2 };
     [
         Act::Logged(0),
         Act::Plays(begin(4, 0x10)),
-        Act::Plays(read(0)),
-        Act::Ended(0, None),
+        Act::Ends(0, None),
         Act::Logged(1),
         Act::Plays(begin(4, 0x10)),
-        Act::Plays(read(1)),
-        Act::Ended(1, Some(name(0, 0x4010))),
+        Act::Ends(1, Some(name(0, 0x4010))),
         Act::Plays(begin(4, 0x10)),
         Act::Logged(2),
         Act::At(2, name(5, 0x10)),
         Act::Refuses(Event::Fence, waits),
-        Act::Plays(read(2)),
-        Act::Ended(2, None),
+        Act::Ends(2, None),
         Act::Logged(3),
         Act::Plays(begin(4, 0x10)),
         Act::Logged(4),
-        Act::Plays(read(3)),
-        Act::Ended(3, Some(name(0, 0x6010))),
+        Act::Ends(3, Some(name(0, 0x6010))),
         Act::Began(4),
     ]
 }
@@ -79,7 +75,7 @@ pub(crate) fn play_one_unit() -> [Act; 20] {
 /// Lookups before, inside and after grants and a revoke, behind two units in a row. The log has nine events: units 5
 /// and 7 are made; of the first buffer the record of unit 7 is put, then that of unit 5, and they are cleared from
 /// unit 5 on; then come a fence and the records of the second buffer.
-pub(crate) fn play_two_units() -> [Act; 36] {
+pub(crate) fn play_two_units() -> [Act; 30] {
     let waits = FlightFault::NotQuiet { lookup: 3 };
     [
         Act::Logged(0),
@@ -87,14 +83,12 @@ pub(crate) fn play_two_units() -> [Act; 36] {
         // Between its two writes a grant is not seen yet.
         Act::Plays(begin(4, 0x10)),
         Act::Logged(2),
-        Act::Plays(read(0)),
-        Act::Ended(0, None),
+        Act::Ends(0, None),
         Act::Plays(begin(4, 0x10)),
         Act::Logged(3),
         Act::Plays(read(1)),
         Act::At(1, name(7, 0x10)),
-        Act::Plays(read(1)),
-        Act::Ended(1, Some(name(0, 0x4010))),
+        Act::Ends(1, Some(name(0, 0x4010))),
         // A lookup past the record that a revoke clears first goes on, until the next one is cleared too.
         Act::Plays(begin(4, 0x10)),
         Act::Plays(begin(4, 0x10)),
@@ -102,14 +96,11 @@ pub(crate) fn play_two_units() -> [Act; 36] {
         Act::Plays(read(3)),
         Act::Logged(4),
         Act::Plays(begin(4, 0x10)),
-        Act::Plays(read(4)),
-        Act::Ended(4, None),
-        Act::Plays(read(2)),
-        Act::Ended(2, Some(name(0, 0x4010))),
+        Act::Ends(4, None),
+        Act::Ends(2, Some(name(0, 0x4010))),
         Act::Logged(5),
         Act::Refuses(Event::Fence, waits),
-        Act::Plays(read(3)),
-        Act::Ended(3, None),
+        Act::Ends(3, None),
         // The second buffer.
         Act::Logged(6),
         Act::Logged(7),
@@ -117,8 +108,7 @@ pub(crate) fn play_two_units() -> [Act; 36] {
         Act::Logged(8),
         Act::Plays(read(5)),
         Act::At(5, name(7, 0x10)),
-        Act::Plays(read(5)),
-        Act::Ended(5, Some(name(0, 0x6010))),
+        Act::Ends(5, Some(name(0, 0x6010))),
         Act::Began(6),
         Act::Plays(Event::Fence),
     ]

@@ -61,6 +61,8 @@ pub enum Act {
     At(usize, Name),
     /// The lookup of this number has ended with this name, or with none.
     Ended(usize, Option<Name>),
+    /// The lookup of this number reads, and has then ended so.
+    Ends(u32, Option<Name>),
     /// The word of this number of a unit is this, or the unit has none of this number.
     Word(u16, u32, Option<u64>),
     /// So many lookups began.
@@ -102,6 +104,10 @@ fn play_act(
         }
         Act::At(lookup, name) => stands_at(rt, world, lookup, name),
         Act::Ended(lookup, name) => ends_with(rt, world, lookup, name),
+        Act::Ends(lookup, name) => {
+            play(rt, alloc, system, world, read(lookup), Ok(()));
+            ends_with(rt, world, lookup as usize, name);
+        }
         Act::Word(unit, word, value) => assert!(rt; world.word(unit, word) == value),
         Act::Began(count) => assert!(rt; world.lookups().len() == count),
     }
