@@ -6,11 +6,12 @@
 //! what needs a source, a sink and a device that a test can direct: a read or a write that fails
 //! ends the run with its status, no call is made again or beside those that are needed, and words of
 //! no form read nothing (`faults`). Each call of the device fails in turn: where the units of a net
-//! are made (`devices`), in grants, routes and revokes (`stops`, with rights of each access `rights`,
-//! and of buffers in pieces `pieces`), and in a demonstration (`demos`). How much an audit reads, and
-//! what it writes before a fault, is in `audits`. `failing` says which calls fail, `boards` has the
-//! nets of the scripts, `outcome` runs the words over a text, `rows` compares what comes of it, and
-//! `words` has the words of the faults of a text.
+//! are made (`devices`), in grants, routes, revokes and buffers in pieces (`stops`, by `turns`, which
+//! goes over the turns of a script, and `leads`, which tells where the words that are left lead), and in
+//! a demonstration (`demos`). How much an audit reads, and what it writes before a fault, is in
+//! `audits`. `failing` says which calls fail, `boards` has the nets of the scripts, `outcome` runs the
+//! words over a text, `rows` compares what comes of it, and `words` has the words of the faults of a
+//! text.
 //!
 //! Lookups in flight are tested by one test, in `flying`, over tables of what is done with a world and
 //! asked of it: worked events (`flights`), each answer of a world that refuses (`worlds`), and the logs
