@@ -1,4 +1,4 @@
-use Rattle.std.proofs.Common.{◌≡◌, ◌∙◌, ◌<◌, ◌==◌, ◌&&◌, Some, IsTrue, true, is_some, get_or, length, rules, arith, ap, subst, sym, take, drop, ◌*◌}
+use Rattle.std.proofs.Common.{◌≡◌, ◌∙◌, ◌<◌, ◌==◌, Some, IsTrue, true, is_some, get_or, length, rules, arith, ap, subst, sym}
 use Rattle.std.specs.List.{list_all}
 use Rattle.std.proofs.lemmas.List.{get_or_default}
 use Rattle.dn_base.proofs.Booleans.{and_from}
