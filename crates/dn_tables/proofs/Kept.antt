@@ -115,6 +115,24 @@ slot_room slot slots width count l e =
     let n : suc slot * width ≡ slot * width + width = suc-mul slot width in
     omega arith
 
+-- what is known of a slot of a table
+pub record IsPlaced (t : NodeTable) (slot : ℕ) : Type 0 where
+  pub least : 1 ≤ t.width
+  pub room : slot * t.width + t.width ≤ length t.words
+  pub used : slot < length t.uses
+
+pub placed_in : (t : NodeTable) (slot : ℕ) → HasSlot t slot → IsPlaced t slot
+placed_in t slot h =
+    let u = unit_of_slot t.unit slot h.there in
+    let s = sized_of t u.0 u.1 h.sized in
+    let l = u.2 in
+    let m = s.uses in
+    record {
+      least = s.least;
+      room = slot_room slot u.0.slots t.width (length t.words) u.2 s.words;
+      used = omega (arith, l, m);
+    }
+
 -- what is known of a slot of a set, and of the table in which it is
 pub record IsSlot (set : List NodeTable) (node slot : ℕ) (t : NodeTable) : Type 0 where
   pub part : UnitPart

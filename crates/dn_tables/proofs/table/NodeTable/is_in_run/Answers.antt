@@ -1,4 +1,4 @@
-use Rattle.std.proofs.Common.{◌≡◌, ◌∙◌, ◌<◌, ◌==◌, Some, IsTrue, true, is_some, get_or, length, rules, arith, ap, subst, sym}
+use Rattle.std.proofs.Common.{◌≡◌, ◌∙◌, ◌==◌, Some, IsTrue, true, is_some, get_or, rules, ap, subst, sym}
 use Rattle.std.specs.List.{list_all}
 use Rattle.std.proofs.lemmas.List.{get_or_default}
 use Rattle.dn_base.proofs.Booleans.{and_from}
@@ -7,33 +7,20 @@ use Rattle.dn_kind.specs.Tables.{slot_words}
 use Rattle.dn_tables.specs.declared.table.SlotUse.{SlotUse}
 use Rattle.dn_tables.specs.Set.{IsInRun, no_use}
 use Rattle.dn_tables.specs.Uses.{IsOwned}
-use Rattle.dn_tables.proofs.Kept.{sized_of, slot_room, unit_of_slot}
+use Rattle.dn_tables.proofs.Kept.{placed_in}
 use Rattle.dn_tables.proofs.table.NodeTable.is_in_run.Goals.{After-get-users}
 use Rattle.dn_tables.proofs.table.NodeTable.is_in_run.Goals as goal
 
 pub get-users-requires : goal.get-users-requires
-get-users-requires c =
-    let u = unit_of_slot c.args.self.now.unit c.args.slot c.requires.there in
-    let s = sized_of c.args.self.now u.0 u.1 c.requires.sized in
-    let l = u.2 in
-    let m = s.uses in
-    omega (arith, l, m)
+get-users-requires c = (placed_in c.args.self.now c.args.slot c.requires).used
 
 -- the use that was read is that of the slot
 read : (c : After-get-users) → c.get-users.result ≡ get_or c.args.self.now.uses c.args.slot no_use
-read c =
-    let u = unit_of_slot c.args.self.now.unit c.args.slot c.requires.there in
-    let s = sized_of c.args.self.now u.0 u.1 c.requires.sized in
-    let l = u.2 in
-    let m = s.uses in
-    let within : c.args.slot < length c.args.self.now.uses = omega (arith, l, m) in
-    c.get-users.ensures.value ∙ get_or_default c.args.self.now.uses c.args.slot c.get-users.result no_use within
+read c = c.get-users.ensures.value ∙ get_or_default c.args.self.now.uses c.args.slot c.get-users.result no_use (placed_in c.args.self.now c.args.slot c.requires).used
 
 pub are_zero-requires-clause-room : goal.are_zero-requires-clause-room
 are_zero-requires-clause-room c =
-    let u = unit_of_slot c.args.self.now.unit c.args.slot c.requires.there in
-    let s = sized_of c.args.self.now u.0 u.1 c.requires.sized in
-    let r = slot_room c.args.slot u.0.slots c.args.self.now.width (length c.args.self.now.words) u.2 s.words in
+    let r = (placed_in c.args.self.now c.args.slot c.requires).room in
     search rules
 
 pub returns-then-owned : goal.returns-then-owned
