@@ -16,6 +16,7 @@ use dn_net::node::Unit;
 use dn_placement::request::Request;
 use dn_view::system::System;
 use std::alloc::Global;
+use std::marker::Brand;
 
 /// An output of a unit: a port, and an address of its node.
 #[derive(Clone, Copy, Debug, PartialEq, Eq)]
@@ -46,7 +47,7 @@ pub fn exits(
         translator.now request.now exits.items) }
 {
     let all = all_exits(alloc, system, translator, request)?;
-    let mut exits = lone_exits(alloc, system, unit, translator, request, &all)?;
+    let mut exits = lone_exits::<Brand>(alloc, system, unit, translator, request, &all)?;
     exits.sort_unstable_by_key(|exit| exit.rank);
     Ok(exits)
 }

@@ -4,7 +4,7 @@ ghost use Rattle.std.specs.Prelude.{◌≡◌, ◌≤◌, false, IfOk, Some, Non
 ghost use Rattle.std.specs.List.{All};
 ghost use Rattle.dn_net.specs.Terms.{unit_at};
 ghost use Rattle.dn_view.specs.Terms.{IsSystem};
-ghost use Rattle.dn_place.specs.Terms.{AreLone, HasBlocks, HasUnitBounds, IsLone, IsRankedExit, IsRequest, IsSearchReady, no_slots};
+ghost use Rattle.dn_place.specs.Terms.{AreLone, HasBlocks, HasUnitBounds, IsLone, IsRankedExit, IsSearchReady, no_slots};
 
 use crate::OutOfMemory;
 use crate::blocks::{block_of, is_alone};
@@ -17,30 +17,11 @@ use dn_net::node::Unit;
 use dn_placement::request::Request;
 use dn_view::system::System;
 use std::alloc::Global;
-use std::marker::{Brand, PhantomData};
+use std::marker::PhantomData;
 
-/// The outputs of a list without some whose blocks show more than a request's buffer.
-pub(crate) fn lone_exits(
-    alloc: Global,
-    system: System,
-    unit: u16,
-    translator: &Unit,
-    request: &Request,
-    exits: &[Exit],
-) -> Result<Vec<Exit>, OutOfMemory>
-    requires system { IsSystem meaning system }
-    requires unit { unit_at system.on.net.now unit ≡ Some translator.now }
-    requires bounds { HasUnitBounds system.on.net.now translator.now }
-    requires request { IsRequest system.on.net.now request.now }
-    requires listed { All (IsRankedExit system.on.net.now translator.now request.now) exits.now }
-    ensures { IfOk result (λ lone. AreLone system.entry.on.net.now
-        translator.now request.now exits.now lone.items) }
-{
-    by_problem::<Brand>(alloc, system, unit, translator, request, exits)
-}
-
-/// The same, where what is looked for is told by the aim. No slot is asked for, and no placement is tested.
-fn by_problem<A: Aim>(
+/// The outputs of a list without some whose blocks show more than a request's buffer; what is looked for is told by the
+/// aim. No slot is asked for, and no placement is tested.
+pub(crate) fn lone_exits<A: Aim>(
     alloc: Global,
     system: System,
     unit: u16,

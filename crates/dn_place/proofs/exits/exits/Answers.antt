@@ -1,9 +1,16 @@
-use Rattle.std.proofs.Common.{rules, List, subst}
+use Rattle.std.proofs.Common.{rules, List, None, subst}
 use Rattle.std.proofs.lemmas.List.Sorted.{IsNonDecreasingBy-from_sort_by_key}
 use Rattle.dn_place.specs.declared.exits.Exit.{Exit}
 use Rattle.dn_place.specs.Exits.{AreLone}
+use Rattle.dn_place.specs.Sought.{no_slots}
 use Rattle.dn_place.proofs.Outputs.{sorted_all, sorted_each}
+use Rattle.dn_place.proofs.Readies.{ready}
 use Rattle.dn_place.proofs.exits.exits.Goals as goal
+
+pub lone_exits-requires-clause-ready : goal.lone_exits-requires-clause-ready
+lone_exits-requires-clause-ready g c =
+    let rq = c.requires.request in
+    ready c.args.system.on.net.now no_slots c.args.request.now None c.requires.system.kinded.legal.legal (λ node slot r e. cc) (λ node slot f. cc) rq.rights rq.agent rq.some rq.buffer
 
 pub returns : goal.returns
 returns g c =
