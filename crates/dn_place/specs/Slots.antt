@@ -9,6 +9,7 @@ use Rattle.dn_kind.specs.declared.unit_kind.Record.{Record}
 use Rattle.dn_kind.specs.Rights.{both_rights}
 use Rattle.dn_tables.specs.declared.placement.Hop.{Hop}
 use Rattle.dn_placement.specs.Slots.{Slots}
+use Rattle.dn_place.specs.declared.slots.Input.{Input}
 use Rattle.dn_place.specs.declared.slot_state.SlotState.{SlotState}
 use Rattle.dn_place.specs.declared.slot_state.SlotState.TheVariants.{Free, Shared, Barred}
 use Rattle.dn_place.specs.Sought.{Sought}
@@ -119,3 +120,21 @@ AreUseless s u place hop to = (x : ℕ) → hop.x ≤ x → x < to →
 abbrev pub IsBarred : List NodeDecl → Slots → End → Type 0
 IsBarred net slots name = (u : UnitPart) → unit_at net name.node ≡ Some u →
     name.base / 2 ^ u.page < u.slots → slot_of slots name.node (name.base / 2 ^ u.page) ≡ Barred
+
+-- a hop may be tried with its input: it ends within the slots of its unit, its output by the unit's reach, and the slots
+-- from its first on are free before one
+pub record MayTry (s : Sought) (u : UnitPart) (hop : Hop) (to : ℕ) : Type 0 where
+  pub within : IsWithin s u hop
+  pub reached : hop.y + s.request.size ≤ 2 ^ u.reach
+  pub free : AreFreeTo s.slots hop.unit (hop.x / 2 ^ u.page) to
+
+-- the next input of a unit that may serve a hop at this place from the agent's end: each before it is useless; where it is
+-- the hop's own, it finds its slots usable; and before which slot those from the hop's first on are known to be free
+pub record IsNextTry (s : Sought) (u : UnitPart) (place : ℕ) (hop : Hop) (next : Input) : Type 0 where
+  pub onward : hop.x ≤ next.x
+  pub agree : next.x % 2 ^ u.page ≡ hop.x % 2 ^ u.page
+  pub few : next.x ≤ 2 ^ 59
+  pub useless : AreUseless s u place hop next.x
+  pub free : AreFreeTo s.slots hop.unit (hop.x / 2 ^ u.page) next.free
+  pub usable : next.x ≡ hop.x → AreUsable s.slots hop.unit (hop.x / 2 ^ u.page)
+      ((hop.x + s.request.size - 1) / 2 ^ u.page) hop.port (hop.y / 2 ^ u.page)

@@ -8,7 +8,7 @@ pub use Rattle.dn_place.specs.Preimages.{ArePreimages, IsPreimage, IsTurned, IsW
 pub use Rattle.dn_place.specs.Reaches.{IsHopReach}
 pub use Rattle.dn_place.specs.Requests.{IsRequest}
 pub use Rattle.dn_place.specs.Rows.{AreToward, GivesNone, GivesStops, InRow, IsClear, is_past, wanted_name}
-pub use Rattle.dn_place.specs.Slots.{AreBarred, AreFree, AreFreeTo, AreShut, AreUsable, AreUseless, HasAgentStop, HasCrowd, IsBarred, IsRun, IsWithin, is_barred_slot, is_free_slot, is_usable_slot, shared_by, slot_of}
+pub use Rattle.dn_place.specs.Slots.{AreBarred, AreFree, AreFreeTo, AreShut, AreUsable, AreUseless, HasAgentStop, HasCrowd, IsBarred, IsNextTry, IsRun, IsWithin, MayTry, is_barred_slot, is_free_slot, is_usable_slot, shared_by, slot_of}
 pub use Rattle.dn_place.specs.Sought.{HaveUnitBounds, HasUnitBounds, IsSearchReady, ReachOneStop, no_slots, slot_count}
 pub use Rattle.dn_place.specs.Stages.{IsDoor, IsOutput, IsSearchStage}
 pub use Rattle.dn_place.specs.Targets.{is_target_at, refused_address}

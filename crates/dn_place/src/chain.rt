@@ -111,27 +111,32 @@ fn by_port<Q: Quest>(quest: &Q, stage: SearchStage, door: Door) -> FoundPlacemen
 {
     let node = door.translator.ports.as_slice()[usize::from(door.port)];
     match lent_rows(quest.levels(node), stage.chosen) {
-        Some(rows) => by_rows(quest, stage, door, rows),
+        Some(rows) => by_rows(quest, stage, door, node, rows),
         None => {
             let rows = made_rows(stage.alloc, quest, node, stage.chosen)?;
-            by_rows(quest, stage, door, rows.rows())
+            by_rows(quest, stage, door, node, rows.rows())
         }
     }
 }
 
-/// The same by these rows: each that gives what the hops want fixes one output.
+/// The same by these rows of the port's node: each that gives what the hops want fixes one output.
 #[cycle(hops)]
-fn by_rows<Q: Quest>(quest: &Q, stage: SearchStage, door: Door, rows: &[Row]) -> FoundPlacement
+fn by_rows<Q: Quest>(
+    quest: &Q,
+    stage: SearchStage,
+    door: Door,
+    node: u16,
+    rows: &[Row],
+) -> FoundPlacement
     requires consistent { Q.is_consistent quest.now }
     requires door { IsDoor (Q.sought quest.now) stage door }
-    requires toward { (node : ℕ) → slice_get door.translator.now.ports door.port ≡ Some node
-        → AreToward (Q.sought quest.now).net (Q.sought quest.now).request
+    requires node { slice_get door.translator.now.ports door.port ≡ Some node }
+    requires toward { AreToward (Q.sought quest.now).net (Q.sought quest.now).request
         (hops_view stage.chosen) node rows.now }
     ensures { IfOk result (λ found. IsFirstOrNone (Q.sought quest.now)
         (to_port stage.entry.count (hops_view stage.entry.chosen)
         door.entry.unit door.entry.port) found) }
 {
-    let node = door.translator.ports.as_slice()[usize::from(door.port)];
     let size = quest.request().size;
     let target = wanted_name(quest.request(), stage.chosen);
     let end = power(door.translator.reach);

@@ -3,7 +3,7 @@
 ghost use Rattle.std.specs.Prelude.{◌≡◌, ℕ, ◌+◌, ◌-◌, ◌*◌, ◌/◌, ◌%◌, ◌^◌, ◌<◌, ◌≤◌, Some, IsTrue};
 ghost use Rattle.dn_interval.specs.declared.span.TheConstants.{TOP};
 ghost use Rattle.dn_net.specs.Terms.{unit_at};
-ghost use Rattle.dn_place.specs.Terms.{AreFreeTo, AreUsable, AreUseless, HasAgentStop, HasCrowd, IsSearchReady, IsWithin};
+ghost use Rattle.dn_place.specs.Terms.{HasAgentStop, HasCrowd, IsNextTry, IsSearchReady, IsWithin, MayTry};
 
 use crate::quest::Quest;
 use crate::slots::{Input, is_free_slot, next_input, power};
@@ -23,20 +23,8 @@ pub(crate) fn next_try<Q: Quest>(
 ) -> Input
     requires consistent { Q.is_consistent quest.now }
     requires ready { IsSearchReady (Q.sought quest.now) }
-    requires within { IsWithin (Q.sought quest.now) translator.now hop }
-    requires reached { hop.y + (Q.sought quest.now).request.size ≤ 2 ^ translator.now.reach }
-    requires free { AreFreeTo (Q.sought quest.now).slots hop.unit
-        (hop.x / 2 ^ translator.now.page) free }
-    ensures onward { hop.x ≤ result.x }
-    ensures agree { result.x % 2 ^ translator.now.page ≡ hop.x % 2 ^ translator.now.page }
-    ensures few { result.x ≤ 2 ^ 59 }
-    ensures useless { AreUseless (Q.sought quest.now) translator.now place hop result.x }
-    ensures free { AreFreeTo (Q.sought quest.now).slots hop.unit
-        (hop.x / 2 ^ translator.now.page) result.free }
-    ensures usable { result.x ≡ hop.x → AreUsable (Q.sought quest.now).slots hop.unit
-        (hop.x / 2 ^ translator.now.page)
-        ((hop.x + (Q.sought quest.now).request.size - 1) / 2 ^ translator.now.page)
-        hop.port (hop.y / 2 ^ translator.now.page) }
+    requires may { MayTry (Q.sought quest.now) translator.now hop free }
+    ensures { IsNextTry (Q.sought quest.now) translator.now place hop result }
 {
     if place == 1 {
         let past = past_crowd(quest, translator, hop);

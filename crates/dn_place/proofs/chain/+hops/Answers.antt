@@ -1,5 +1,6 @@
-use Rattle.std.proofs.Common.{◌≡◌, ℕ, suc, List, ◌∷◌, [], ◌++◌, Option, Some, None, ◌+◌, ◌-◌, ◌*◌, ◌/◌, ◌%◌, ◌^◌, ◌<◌, ◌≤◌, arith, length, refl, subst, sym, ap, ◌∙◌, rules, get_or, slice_get}
+use Rattle.std.proofs.Common.{◌≡◌, ◌↔◌, ℕ, suc, List, ◌∷◌, [], ◌++◌, Option, Some, None, ◌+◌, ◌-◌, ◌*◌, ◌/◌, ◌%◌, ◌^◌, ◌<◌, ◌≤◌, arith, length, refl, subst, sym, ap, ◌∙◌, rules, get_or, slice_get}
 use Rattle.std.proofs.lemmas.Nat.{pow_pos}
+use Rattle.std.proofs.lemmas.Option.{same_Some}
 use Rattle.std.proofs.lemmas.Result.{IfOk-weaker}
 use Rattle.std.proofs.Math.Nat.{mod-mod, mod-le}
 use Rattle.dn_view.proofs.Pages.{power_below}
@@ -9,7 +10,7 @@ use Rattle.dn_tables.specs.declared.placement.Hop.{Hop}
 use Rattle.dn_placement.specs.declared.request.Request.{Request}
 use Rattle.dn_placement.specs.Placement.{Meets}
 use Rattle.dn_place.specs.Hops.{hops_view}
-use Rattle.dn_place.specs.Rows.{AreToward, IsClear, wanted_name}
+use Rattle.dn_place.specs.Rows.{AreToward, InRow, IsClear, wanted_name}
 use Rattle.dn_place.specs.Marks.{AreUnitsFrom, IsEntry}
 use Rattle.dn_place.specs.Candidates.{to_unit, to_port, to_output, key_of_hops, IsChosen, IsFirstOrNone, NoneUnder}
 use Rattle.dn_place.specs.Sought.{Sought}
@@ -18,7 +19,7 @@ use Rattle.dn_place.specs.declared.chain.SearchStage.{SearchStage}
 use Rattle.dn_place.proofs.Agents.{row_asked, row_fits, step, step_found, step_done, step_meets, only_there}
 use Rattle.dn_place.proofs.Levels.{next_one, found_first}
 use Rattle.dn_place.proofs.Meetings.{unclear}
-use Rattle.dn_place.proofs.Nexts.{answered_input, chosen_on, inputs_useless, inputs_begun, inputs_done, inputs_leapt, next_agrees, node_there, not_entered, not_joined, not_met, not_served, only_input, out_of_reach, port_goes, port_node, port_read, port_stretches, ports_done, unentered, unmarked}
+use Rattle.dn_place.proofs.Nexts.{answered_input, chosen_on, inputs_useless, inputs_begun, inputs_done, inputs_leapt, next_agrees, node_there, not_entered, not_joined, not_met, not_served, only_input, out_of_reach, port_goes, port_read, port_stretches, ports_done, unentered, unmarked}
 use Rattle.dn_place.proofs.Pages.{input_bound, page_few}
 use Rattle.dn_place.proofs.Usable.{free_onward, none_free}
 use Rattle.dn_place.proofs.Units.{sifted_begun, sifted_done, sifted_found, sifted_on}
@@ -63,28 +64,25 @@ by_port-made_rows-requires-clause-there g t c = rw (c.as_slice.ensures, c.from.e
 
 pub by_port-by_rows-requires : goal.by_port-by_rows-requires
 by_port-by_rows-requires g t c =
-    let hops = (hops_view c.args.stage.chosen) in
+    let read = port_read c.as_slice.result.now c.args.door.translator.now.ports c.from.result c.args.door.port c.as_slice.ensures c.from.ensures c.requires.door.port in
     let given = c.in-Some.ensures (g.Q.Quest.sought c.args.quest.now).net (g.Q.Quest.sought c.args.quest.now).request (get_or c.as_slice.result.now c.from.result 0) c.levels.ensures in
-    let toward : (n : ℕ) → slice_get c.args.door.translator.now.ports c.args.door.port ≡ Some n → AreToward (g.Q.Quest.sought c.args.quest.now).net (g.Q.Quest.sought c.args.quest.now).request hops n c.in-Some.rows.now = λ n e. subst (λ (m : ℕ). AreToward (g.Q.Quest.sought c.args.quest.now).net (g.Q.Quest.sought c.args.quest.now).request hops m c.in-Some.rows.now) (port_node c.as_slice.result.now c.args.door.translator.now.ports c.from.result c.args.door.port n c.as_slice.ensures c.from.ensures e) given in
     search rules
 
 pub by_port-by_rows-requires-in-None : goal.by_port-by_rows-requires-in-None
 by_port-by_rows-requires-in-None g t c =
     let hops = (hops_view c.args.stage.chosen) in
+    let read = port_read c.as_slice.result.now c.args.door.translator.now.ports c.from.result c.args.door.port c.as_slice.ensures c.from.ensures c.requires.door.port in
     let given : AreToward (g.Q.Quest.sought c.args.quest.now).net (g.Q.Quest.sought c.args.quest.now).request hops (get_or c.as_slice.result.now c.from.result 0) c.rows-in-None.result.now = subst (λ (l : List Row). AreToward (g.Q.Quest.sought c.args.quest.now).net (g.Q.Quest.sought c.args.quest.now).request hops (get_or c.as_slice.result.now c.from.result 0) l) (sym c.rows-in-None.ensures.value) c.in_ok-rows-in-None.ensures in
-    let toward : (n : ℕ) → slice_get c.args.door.translator.now.ports c.args.door.port ≡ Some n → AreToward (g.Q.Quest.sought c.args.quest.now).net (g.Q.Quest.sought c.args.quest.now).request hops n c.rows-in-None.result.now = λ n e. subst (λ (m : ℕ). AreToward (g.Q.Quest.sought c.args.quest.now).net (g.Q.Quest.sought c.args.quest.now).request hops m c.rows-in-None.result.now) (port_node c.as_slice.result.now c.args.door.translator.now.ports c.from.result c.args.door.port n c.as_slice.ensures c.from.ensures e) given in
     search rules
 
 pub by_rows-power-end-requires : goal.by_rows-power-end-requires
 by_rows-power-end-requires g t c = (c.requires.door.stage.ready.bounds c.args.door.unit c.args.door.translator.now c.requires.door.unit).reach
 
 pub by_rows-rows-init : goal.by_rows-rows-init
-by_rows-rows-init g t c =
-    let read = port_read c.as_slice.result.now c.args.door.translator.now.ports c.from.result c.args.door.port c.as_slice.ensures c.from.ensures c.requires.door.port in
-    set_out (g.Q.Quest.sought c.args.quest.now) (to_port c.args.stage.count (hops_view c.args.stage.chosen) c.args.door.unit c.args.door.port) c.args.rows.now (c.requires.toward (get_or c.as_slice.result.now c.from.result 0) read).apart
+by_rows-rows-init g t c = set_out (g.Q.Quest.sought c.args.quest.now) (to_port c.args.stage.count (hops_view c.args.stage.chosen) c.args.door.unit c.args.door.port) c.args.rows.now c.requires.toward.apart
 
 pub by_rows-is_clear-requires-clause-there : goal.by_rows-is_clear-requires-clause-there
-by_rows-is_clear-requires-clause-there g t c = rw (c.as_slice.ensures, c.from.ensures) (node_there (g.Q.Quest.sought c.args.quest.now).net c.args.door.port c.args.door.translator.now (c.requires.door.stage.ready.bounds c.args.door.unit c.args.door.translator.now c.requires.door.unit) c.requires.door.port)
+by_rows-is_clear-requires-clause-there g t c = (c.requires.door.stage.ready.bounds c.args.door.unit c.args.door.translator.now c.requires.door.unit).there c.args.door.port c.args.node c.requires.node
 
 pub by_rows-is_clear-requires-clause-some : goal.by_rows-is_clear-requires-clause-some
 by_rows-is_clear-requires-clause-some g t c = let some = c.requires.door.stage.ready.some in rw c.request-size.ensures some
@@ -94,57 +92,54 @@ by_rows-is_clear-requires-clause-fits g t c = omega (arith, c.power-end.ensures,
 
 pub by_rows-by_output-requires : goal.by_rows-by_output-requires
 by_rows-by_output-requires g t c =
-    let hops = (hops_view c.args.stage.chosen) in
-    let front = to_port c.args.stage.count hops c.args.door.unit c.args.door.port in
-    let node = get_or c.as_slice.result.now c.from.result 0 in
-    let read = port_read c.as_slice.result.now c.args.door.translator.now.ports c.from.result c.args.door.port c.as_slice.ensures c.from.ensures c.requires.door.port in
-    let here = (row_asked (g.Q.Quest.sought c.args.quest.now) hops c.row-item.result c.wanted_name-target.result c.request.result c.request-size.result c.in-Some.y c.wanted_name-target.ensures c.request.ensures c.request-size.ensures).0 c.in-Some.ensures.some in
-    let same : c.request-size.result.size ≡ (g.Q.Quest.sought c.args.quest.now).request.size = ap (λ (r : Request). r.size) c.request-size.ensures in
-    let reached : c.in-Some.y + (g.Q.Quest.sought c.args.quest.now).request.size ≤ 2 ^ c.args.door.translator.now.reach = omega (arith, c.power-end.ensures, c.if-y-size.true, same) in
-    let clear = subst (λ (n : ℕ). IsClear (g.Q.Quest.sought c.args.quest.now).net node hops c.in-Some.y n) same (c.is_clear.ensures.yes c.if-is_clear.true) in
-    let met = step_meets (g.Q.Quest.sought c.args.quest.now) front node hops c.args.rows.now c.rows.row-index c.row-item.result c.in-Some.y (c.requires.toward node read) (row_fits _ _ _ _ here) c.rows-test.true c.row-item.is c.rows.invariant here clear in
-    let meets : (n : ℕ) → slice_get c.args.door.translator.now.ports c.args.door.port ≡ Some n → Meets (g.Q.Quest.sought c.args.quest.now).net (g.Q.Quest.sought c.args.quest.now).request n c.in-Some.y hops = λ n e. subst (λ (m : ℕ). Meets (g.Q.Quest.sought c.args.quest.now).net (g.Q.Quest.sought c.args.quest.now).request m c.in-Some.y hops) (port_node c.as_slice.result.now c.args.door.translator.now.ports c.from.result c.args.door.port n c.as_slice.ensures c.from.ensures e) met in
+    let s = g.Q.Quest.sought c.args.quest.now in
+    let hops = hops_view c.args.stage.chosen in
+    let here = (row_asked s hops c.row-item.result c.wanted_name-target.result c.request.result c.request-size.result c.in-Some.y c.wanted_name-target.ensures c.request.ensures c.request-size.ensures).0 c.in-Some.ensures.some in
+    let same : c.request-size.result.size ≡ s.request.size = ap (λ (r : Request). r.size) c.request-size.ensures in
+    let reached : c.in-Some.y + s.request.size ≤ 2 ^ c.args.door.translator.now.reach = omega (arith, c.power-end.ensures, c.if-y-size.true, same) in
+    let clear = subst (λ (n : ℕ). IsClear s.net c.args.node hops c.in-Some.y n) same (c.is_clear.ensures.yes c.if-is_clear.true) in
+    let met = step_meets s (to_port c.args.stage.count hops c.args.door.unit c.args.door.port) c.args.node hops c.args.rows.now c.rows.row-index c.row-item.result c.in-Some.y c.requires.toward (row_fits _ _ _ _ here) c.rows-test.true c.row-item.is c.rows.invariant here clear in
+    let meets : (n : ℕ) → slice_get c.args.door.translator.now.ports c.args.door.port ≡ Some n → Meets s.net s.request n c.in-Some.y hops = λ n e. subst (λ (m : ℕ). Meets s.net s.request m c.in-Some.y hops) (same_Some c.args.node n (sym c.requires.node ∙ e)) met in
     search rules
 
 pub by_rows-returns-in-Some-2 : goal.by_rows-returns-in-Some-2
 by_rows-returns-in-Some-2 g t c =
-    let hops = (hops_view c.args.stage.chosen) in
-    let front = to_port c.args.stage.count hops c.args.door.unit c.args.door.port in
-    let node = get_or c.as_slice.result.now c.from.result 0 in
-    let read = port_read c.as_slice.result.now c.args.door.translator.now.ports c.from.result c.args.door.port c.as_slice.ensures c.from.ensures c.requires.door.port in
-    step_found (g.Q.Quest.sought c.args.quest.now) front c.args.rows.now c.rows.row-index c.row-item.result (wanted_name (g.Q.Quest.sought c.args.quest.now).request hops) c.in-Some.y c.in-Some-2.placement
-    c.rows-test.true c.row-item.is c.requires.door.stage.ready.some (port_stretches (g.Q.Quest.sought c.args.quest.now) c.args.stage.count hops c.args.door.unit c.args.door.port node c.args.door.translator.now c.args.rows.now c.requires.door.stage.ready (c.requires.toward node read) c.requires.door.more c.requires.door.unit read)
-    c.rows.invariant ((row_asked (g.Q.Quest.sought c.args.quest.now) hops c.row-item.result c.wanted_name-target.result c.request.result c.request-size.result c.in-Some.y c.wanted_name-target.ensures c.request.ensures c.request-size.ensures).0 c.in-Some.ensures.some) (rw c.in-Some-2.is at c.in_ok-placement.ensures)
+    let s = g.Q.Quest.sought c.args.quest.now in
+    let hops = hops_view c.args.stage.chosen in
+    step_found s (to_port c.args.stage.count hops c.args.door.unit c.args.door.port) c.args.rows.now c.rows.row-index c.row-item.result (wanted_name s.request hops) c.in-Some.y c.in-Some-2.placement
+    c.rows-test.true c.row-item.is c.requires.door.stage.ready.some
+    (port_stretches s c.args.stage.count hops c.args.door.unit c.args.door.port c.args.node c.args.door.translator.now c.args.rows.now c.requires.door.stage.ready c.requires.toward c.requires.door.more c.requires.door.unit c.requires.node)
+    c.rows.invariant ((row_asked s hops c.row-item.result c.wanted_name-target.result c.request.result c.request-size.result c.in-Some.y c.wanted_name-target.ensures c.request.ensures c.request-size.ensures).0 c.in-Some.ensures.some) (rw c.in-Some-2.is at c.in_ok-placement.ensures)
 
 pub by_rows-rows-preserved : goal.by_rows-rows-preserved
 by_rows-rows-preserved g t c =
-    let hops = (hops_view c.args.stage.chosen) in
+    let s = g.Q.Quest.sought c.args.quest.now in
+    let hops = hops_view c.args.stage.chosen in
     let front = to_port c.args.stage.count hops c.args.door.unit c.args.door.port in
-    let node = get_or c.as_slice.result.now c.from.result 0 in
-    let read = port_read c.as_slice.result.now c.args.door.translator.now.ports c.from.result c.args.door.port c.as_slice.ensures c.from.ensures c.requires.door.port in
-    let same : c.request-size.result.size ≡ (g.Q.Quest.sought c.args.quest.now).request.size = ap (λ (r : Request). r.size) c.request-size.ensures in
-    step (g.Q.Quest.sought c.args.quest.now) front c.args.rows.now c.rows.row-index c.row-item.result (wanted_name (g.Q.Quest.sought c.args.quest.now).request hops)
-    c.rows-test.true c.row-item.is c.requires.door.stage.ready.some (port_stretches (g.Q.Quest.sought c.args.quest.now) c.args.stage.count hops c.args.door.unit c.args.door.port node c.args.door.translator.now c.args.rows.now c.requires.door.stage.ready (c.requires.toward node read) c.requires.door.more c.requires.door.unit read)
+    let same : c.request-size.result.size ≡ s.request.size = ap (λ (r : Request). r.size) c.request-size.ensures in
+    let asked : (a : ℕ) → InRow c.row-item.result c.wanted_name-target.result c.request-size.result.size a ↔ InRow c.row-item.result (wanted_name s.request hops) s.request.size a = λ a. row_asked s hops c.row-item.result c.wanted_name-target.result c.request.result c.request-size.result a c.wanted_name-target.ensures c.request.ensures c.request-size.ensures in
+    step s front c.args.rows.now c.rows.row-index c.row-item.result (wanted_name s.request hops)
+    c.rows-test.true c.row-item.is c.requires.door.stage.ready.some
+    (port_stretches s c.args.stage.count hops c.args.door.unit c.args.door.port c.args.node c.args.door.translator.now c.args.rows.now c.requires.door.stage.ready c.requires.toward c.requires.door.more c.requires.door.unit c.requires.node)
     c.rows.invariant
     (elim c.match-output.branch [
-      | by_rows-in-Some+then-y-size+then-is_clear+in_ok-placement+in_default-2 w ↦ only_there (g.Q.Quest.sought c.args.quest.now) front c.row-item.result (wanted_name (g.Q.Quest.sought c.args.quest.now).request hops) w.in-Some.y ((row_asked (g.Q.Quest.sought c.args.quest.now) hops c.row-item.result c.wanted_name-target.result c.request.result c.request-size.result w.in-Some.y c.wanted_name-target.ensures c.request.ensures c.request-size.ensures).0 w.in-Some.ensures.some) (rw w.in_default-2.is at w.in_ok-placement.ensures)
-      | by_rows-in-Some+else-y-size w ↦ only_there (g.Q.Quest.sought c.args.quest.now) front c.row-item.result (wanted_name (g.Q.Quest.sought c.args.quest.now).request hops) w.in-Some.y ((row_asked (g.Q.Quest.sought c.args.quest.now) hops c.row-item.result c.wanted_name-target.result c.request.result c.request-size.result w.in-Some.y c.wanted_name-target.ensures c.request.ensures c.request-size.ensures).0 w.in-Some.ensures.some)
+      | by_rows-in-Some+then-y-size+then-is_clear+in_ok-placement+in_default-2 w ↦ only_there s front c.row-item.result (wanted_name s.request hops) w.in-Some.y ((asked w.in-Some.y).0 w.in-Some.ensures.some) (rw w.in_default-2.is at w.in_ok-placement.ensures)
+      | by_rows-in-Some+else-y-size w ↦ only_there s front c.row-item.result (wanted_name s.request hops) w.in-Some.y ((asked w.in-Some.y).0 w.in-Some.ensures.some)
           (elim w.else-y-size.branch [
-            | by_rows-else-y-size-via-then-y-size+else-is_clear v ↦ not_met (g.Q.Quest.sought c.args.quest.now) c.args.stage.count hops c.args.door.unit c.args.door.port node w.in-Some.y c.args.door.translator.now c.requires.door.more c.requires.door.unit read (unclear (g.Q.Quest.sought c.args.quest.now) node w.in-Some.y hops (subst (λ (n : ℕ). IsClear (g.Q.Quest.sought c.args.quest.now).net node hops w.in-Some.y n → ⊥) same (v.is_clear.ensures.no v.if-is_clear.false)))
-            | by_rows-else-y-size-via-else-y-size v ↦ out_of_reach (g.Q.Quest.sought c.args.quest.now) c.args.stage.count hops c.args.door.unit c.args.door.port w.in-Some.y c.args.door.translator.now c.requires.door.more c.requires.door.unit (λ reached. omega (arith, reached, c.power-end.ensures, v.if-y-size.false, same))
+            | by_rows-else-y-size-via-then-y-size+else-is_clear v ↦ not_met s c.args.stage.count hops c.args.door.unit c.args.door.port c.args.node w.in-Some.y c.args.door.translator.now c.requires.door.more c.requires.door.unit c.requires.node (unclear s c.args.node w.in-Some.y hops (subst (λ (n : ℕ). IsClear s.net c.args.node hops w.in-Some.y n → ⊥) same (v.is_clear.ensures.no v.if-is_clear.false)))
+            | by_rows-else-y-size-via-else-y-size v ↦ out_of_reach s c.args.stage.count hops c.args.door.unit c.args.door.port w.in-Some.y c.args.door.translator.now c.requires.door.more c.requires.door.unit (λ reached. omega (arith, reached, c.power-end.ensures, v.if-y-size.false, same))
           ])
-      | by_rows-in_default w ↦ λ j i. absurd (w.in_default.ensures.none j ((row_asked (g.Q.Quest.sought c.args.quest.now) hops c.row-item.result c.wanted_name-target.result c.request.result c.request-size.result j c.wanted_name-target.ensures c.request.ensures c.request-size.ensures).1 i))
+      | by_rows-in_default w ↦ λ j i. absurd (w.in_default.ensures.none j ((asked j).1 i))
     ])
 
 pub by_rows-returns : goal.by_rows-returns
 by_rows-returns g t c =
-    let hops = (hops_view c.args.stage.chosen) in
-    let front = to_port c.args.stage.count hops c.args.door.unit c.args.door.port in
-    let node = get_or c.as_slice.result.now c.from.result 0 in
-    let read = port_read c.as_slice.result.now c.args.door.translator.now.ports c.from.result c.args.door.port c.as_slice.ensures c.from.ensures c.requires.door.port in
-    step_done (g.Q.Quest.sought c.args.quest.now) front c.args.rows.now c.rows.row-index (wanted_name (g.Q.Quest.sought c.args.quest.now).request hops)
-    c.rows-test.false c.requires.door.stage.ready.some (port_stretches (g.Q.Quest.sought c.args.quest.now) c.args.stage.count hops c.args.door.unit c.args.door.port node c.args.door.translator.now c.args.rows.now c.requires.door.stage.ready (c.requires.toward node read) c.requires.door.more c.requires.door.unit read)
-    (port_goes (g.Q.Quest.sought c.args.quest.now) c.args.stage.count hops c.args.door.unit c.args.door.port c.args.door.translator.now c.requires.door.more c.requires.door.unit) c.rows.invariant
+    let s = g.Q.Quest.sought c.args.quest.now in
+    let hops = hops_view c.args.stage.chosen in
+    step_done s (to_port c.args.stage.count hops c.args.door.unit c.args.door.port) c.args.rows.now c.rows.row-index (wanted_name s.request hops)
+    c.rows-test.false c.requires.door.stage.ready.some
+    (port_stretches s c.args.stage.count hops c.args.door.unit c.args.door.port c.args.node c.args.door.translator.now c.args.rows.now c.requires.door.stage.ready c.requires.toward c.requires.door.more c.requires.door.unit c.requires.node)
+    (port_goes s c.args.stage.count hops c.args.door.unit c.args.door.port c.args.door.translator.now c.requires.door.more c.requires.door.unit) c.rows.invariant
 
 -- the inputs other than that of the entry go on with nothing
 others : (s : Sought) (stage : SearchStage) (unit port y : ℕ) (entry : End) → IsSearchStage s stage → length (hops_view stage.chosen) < stage.count → stage.count ≡ length (hops_view stage.chosen) + 1 → stage.reach.now.entry ≡ Some entry → (j : ℕ) → (j ≡ entry.base → ⊥) → NoneUnder s (to_output stage.count (hops_view stage.chosen) unit port y ++ j ∷ [])
@@ -172,13 +167,14 @@ by_entry-returns-then-not-can_meet g t c =
     (others s c.args.stage c.args.door.unit c.args.door.port c.args.y c.args.entry c.requires.output.through.stage c.requires.output.through.more c.requires.last c.requires.entry)
     (not_joined s c.args.stage.count hops c.args.door.unit c.args.door.port c.args.y c.args.entry.base c.args.door.translator.now c.requires.output.through.more c.requires.output.through.unit (λ j. c.can_meet.ensures.no c.if-not-can_meet.true j.agree (omega (arith, j.within, same))))
 
-pub by_entry-next_try-tried-requires-clause-within : goal.by_entry-next_try-tried-requires-clause-within
-by_entry-next_try-tried-requires-clause-within g t c =
+pub by_entry-next_try-tried-requires-clause-may : goal.by_entry-next_try-tried-requires-clause-may
+by_entry-next_try-tried-requires-clause-may g t c =
     let same : c.request.result.size ≡ (g.Q.Quest.sought c.args.quest.now).request.size = ap (λ (r : Request). r.size) c.request.ensures in
-    record { unit = c.requires.output.through.unit; ends = omega (arith, c.can_meet.ensures.within c.if-not-can_meet.false, same) }
-
-pub by_entry-next_try-tried-requires-clause-free : goal.by_entry-next_try-tried-requires-clause-free
-by_entry-next_try-tried-requires-clause-free g t c = none_free (g.Q.Quest.sought c.args.quest.now).slots c.args.door.unit (c.args.entry.base / 2 ^ c.args.door.translator.now.page)
+    record {
+      within = record { unit = c.requires.output.through.unit; ends = omega (arith, c.can_meet.ensures.within c.if-not-can_meet.false, same) };
+      reached = c.requires.output.reached;
+      free = none_free (g.Q.Quest.sought c.args.quest.now).slots c.args.door.unit (c.args.entry.base / 2 ^ c.args.door.translator.now.page);
+    }
 
 pub by_entry-returns-then-next-x : goal.by_entry-returns-then-next-x
 by_entry-returns-then-next-x g t c =
@@ -227,6 +223,16 @@ by_inputs-inputs-init g t c = rw c.power-page.ensures (record {
   free = none_free (g.Q.Quest.sought c.args.quest.now).slots c.args.door.unit (c.args.y % 2 ^ c.args.door.translator.now.page / 2 ^ c.args.door.translator.now.page);
   below = inputs_begun (g.Q.Quest.sought c.args.quest.now) c.args.stage.count (hops_view c.args.stage.chosen) c.args.door.unit c.args.door.port c.args.y c.args.door.translator.now c.requires.output.through.more c.requires.output.through.unit;
 })
+
+pub by_inputs-next_try-tried-requires-clause-may : goal.by_inputs-next_try-tried-requires-clause-may
+by_inputs-next_try-tried-requires-clause-may g t c =
+    let same : c.request-size.result.size ≡ (g.Q.Quest.sought c.args.quest.now).request.size = ap (λ (r : Request). r.size) c.request-size.ensures in
+    let within : c.inputs.x + c.request-size.result.size ≤ c.args.door.translator.now.slots * 2 ^ c.args.door.translator.now.page = subst (λ (n : ℕ). c.inputs.x + c.request-size.result.size ≤ c.args.door.translator.now.slots * n) c.power-page.ensures (subst (λ (n : ℕ). c.inputs.x + c.request-size.result.size ≤ n * c.power-page.result) c.from.ensures c.inputs-test.true) in
+    record {
+      within = record { unit = c.requires.output.through.unit; ends = omega (arith, within, same) };
+      reached = c.requires.output.reached;
+      free = c.inputs.invariant.free;
+    }
 
 pub by_inputs-returns-in-Some : goal.by_inputs-returns-in-Some
 by_inputs-returns-in-Some g t c = found_first (g.Q.Quest.sought c.args.quest.now) (to_output c.args.stage.count (hops_view c.args.stage.chosen) c.args.door.unit c.args.door.port c.args.y) c.inputs.x c.in-Some.placement c.inputs.invariant.below (rw c.in-Some.is at (answered_input (g.Q.Quest.sought c.args.quest.now) c.args.stage.count (hops_view c.args.stage.chosen) c.args.door.unit c.args.door.port c.args.y c.inputs.x c.in_ok-placement.field-0 c.in_ok-placement.ensures))

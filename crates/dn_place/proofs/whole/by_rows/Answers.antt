@@ -1,8 +1,8 @@
-use Rattle.std.proofs.Common.{sym, ◌∙◌, length, subst}
+use Rattle.std.proofs.Common.{◌↔◌, ℕ, sym, ◌∙◌, length, subst}
 use Rattle.std.proofs.lemmas.Bool.{false≢true}
 use Rattle.dn_placement.specs.Order.{IsAt}
 use Rattle.dn_place.specs.Hops.{hops_view}
-use Rattle.dn_place.specs.Rows.{wanted_name}
+use Rattle.dn_place.specs.Rows.{InRow, wanted_name}
 use Rattle.dn_place.specs.Candidates.{key_of_hops}
 use Rattle.dn_place.proofs.Beside.{row_stops}
 use Rattle.dn_place.proofs.Turned.{row_way}
@@ -46,15 +46,17 @@ returns-in-Some-2 g c =
 
 pub rows-preserved : goal.rows-preserved
 rows-preserved g c =
+    let s = g.Q.Quest.sought c.args.quest.now in
     let hops = hops_view c.args.hops in
     let front = key_of_hops (length hops) hops in
-    step (g.Q.Quest.sought c.args.quest.now) front c.args.rows.now c.rows.row-index c.row-item.result (wanted_name (g.Q.Quest.sought c.args.quest.now).request hops)
+    let asked : (a : ℕ) → InRow c.row-item.result c.wanted_name-target.result c.request-size.result.size a ↔ InRow c.row-item.result (wanted_name s.request hops) s.request.size a = λ a. row_asked s hops c.row-item.result c.wanted_name-target.result c.request.result c.request-size.result a c.wanted_name-target.ensures c.request.ensures c.request-size.ensures in
+    step s front c.args.rows.now c.rows.row-index c.row-item.result (wanted_name s.request hops)
     c.rows-test.true c.row-item.is c.requires.ready.some
-    (agent_stretches (g.Q.Quest.sought c.args.quest.now) hops c.args.rows.now c.requires.ready c.requires.toward) c.rows.invariant
+    (agent_stretches s hops c.args.rows.now c.requires.ready c.requires.toward) c.rows.invariant
     (elim c.match-output.branch [
-      | in-Some+then-is_at+in_ok-placement+in_default-2 w ↦ only_there (g.Q.Quest.sought c.args.quest.now) front c.row-item.result (wanted_name (g.Q.Quest.sought c.args.quest.now).request hops) w.in-Some.v ((row_asked (g.Q.Quest.sought c.args.quest.now) hops c.row-item.result c.wanted_name-target.result c.request.result c.request-size.result w.in-Some.v c.wanted_name-target.ensures c.request.ensures c.request-size.ensures).0 w.in-Some.ensures.some) (rw w.in_default-2.is at w.in_ok-placement.ensures)
-      | in-Some+else-is_at w ↦ only_there (g.Q.Quest.sought c.args.quest.now) front c.row-item.result (wanted_name (g.Q.Quest.sought c.args.quest.now).request hops) w.in-Some.v ((row_asked (g.Q.Quest.sought c.args.quest.now) hops c.row-item.result c.wanted_name-target.result c.request.result c.request-size.result w.in-Some.v c.wanted_name-target.ensures c.request.ensures c.request-size.ensures).0 w.in-Some.ensures.some) (not_asked (g.Q.Quest.sought c.args.quest.now) hops w.in-Some.v (λ at. false≢true (sym w.if-is_at.false ∙ w.is_at.ensures.1 (subst (λ o. IsAt o w.in-Some.v) (sym w.at.ensures) at))))
-      | in_default w ↦ λ j i. absurd (w.in_default.ensures.none j ((row_asked (g.Q.Quest.sought c.args.quest.now) hops c.row-item.result c.wanted_name-target.result c.request.result c.request-size.result j c.wanted_name-target.ensures c.request.ensures c.request-size.ensures).1 i))
+      | in-Some+then-is_at+in_ok-placement+in_default-2 w ↦ only_there s front c.row-item.result (wanted_name s.request hops) w.in-Some.v ((asked w.in-Some.v).0 w.in-Some.ensures.some) (rw w.in_default-2.is at w.in_ok-placement.ensures)
+      | in-Some+else-is_at w ↦ only_there s front c.row-item.result (wanted_name s.request hops) w.in-Some.v ((asked w.in-Some.v).0 w.in-Some.ensures.some) (not_asked s hops w.in-Some.v (λ at. false≢true (sym w.if-is_at.false ∙ w.is_at.ensures.1 (subst (λ o. IsAt o w.in-Some.v) (sym w.at.ensures) at))))
+      | in_default w ↦ λ j i. absurd (w.in_default.ensures.none j ((asked j).1 i))
     ])
 
 pub returns : goal.returns
