@@ -1,7 +1,7 @@
 //! Numbers by their spellings.
 
-ghost use Rattle.std.specs.Prelude.{◌≡◌, ◌<◌, length, None, Some, IfSome, MatchOption};
-ghost use Rattle.dn_token.specs.Terms.{after_run, base_of, begins_hexadecimal, digits_number, number_of, number_within, value_of, word_run};
+ghost use Rattle.std.specs.Prelude.{◌≡◌, ◌<◌, List, ℕ, length, None, Some, IfSome, MatchOption};
+ghost use Rattle.dn_token.specs.Terms.{after_run, base_of, begins_hexadecimal, digits_number, number_of, number_within, spelled_from, value_of, with_digit, word_run};
 
 use crate::class::{class_of, is_word_byte};
 
@@ -64,15 +64,27 @@ fn spelled_front(radix: Radix, text: &[u8]) -> Option<(u64, &[u8])>
     let mut number: u64 = 0;
     let mut length = 0;
     while length < text.len() && is_word_byte(text[length]) {
-        let digit = u64::from(class_of(text[length]));
-        if base_of(radix) <= digit {
-            return None;
-        }
-        number = number.checked_mul(base_of(radix))?.checked_add(digit)?;
+        number = with_digit(radix, number, text[length])?;
         length += 1;
     }
     if length == 0 {
         return None;
     }
     Some((number, &text[length..]))
+}
+
+/// The number so far with one digit more. None where the byte is no digit, or the number is past 2^64 - 1: no
+/// digits after it make a number of it that fits.
+#[inline(always)]
+fn with_digit(radix: Radix, number: u64, byte: u8) -> Option<u64>
+    ensures { MatchOption result
+        ((text : List ℕ) → number_within (spelled_from (base_of radix) (value_of radix)
+        (with_digit (base_of radix) number (value_of radix byte)) text) ≡ None)
+        (λ next. with_digit (base_of radix) number (value_of radix byte) ≡ Some next) }
+{
+    let digit = u64::from(class_of(byte));
+    if base_of(radix) <= digit {
+        return None;
+    }
+    number.checked_mul(base_of(radix))?.checked_add(digit)
 }
