@@ -69,21 +69,6 @@ impl EntryList {
     {
         self.order.as_slice()
     }
-
-    /// The map entry that has the address.
-    pub(crate) fn at(&self, addr: u64) -> Option<&Entry>
-        requires in_range { IsTrue (list_all entry_in_range self.now) }
-        requires apart { (a : ℕ) → count_by (λ e. within a e.block) self.now ≤ 1 }
-        ensures none { IfNone result ((over : Option ℕ) → by_entries addr over self.now
-            ≡ by_over addr over) }
-        ensures covers { IfSome result (λ e. IsTrue (within addr e.now.block)) }
-        ensures found { IfSome result (λ e. (over : Option ℕ) → by_entries addr over self.now
-            ≡ Some (record { dests = e.now.dests; offset = addr - e.now.block.lo })) }
-        ensures each { IfSome result (λ e. (P : Entry → Bool) → IsTrue (list_all P self.now)
-            → IsTrue (P e.now)) }
-    {
-        entry_at(self.entries.as_slice(), &self.order, addr)
-    }
 }
 
 fn places(alloc: Global, entries: &[Entry]) -> Result<Vec<Place>, AllocError>
@@ -99,11 +84,9 @@ fn places(alloc: Global, entries: &[Entry]) -> Result<Vec<Place>, AllocError>
     Ok(order)
 }
 
-/// The entry that has the address: only the one whose block begins last, of those that begin at or
+/// The map entry that has the address: only the one whose block begins last, of those that begin at or
 /// before the address, can.
-fn entry_at<'a>(entries: &'a [Entry], order: &[Place], addr: u64) -> Option<&'a Entry>
-    requires every { IsPermutation (places_from 0 entries.now) order.now }
-    requires sorted { IsNonDecreasingBy (λ p. p.block.lo) order.now }
+pub(crate) fn entry_at(entries: &EntryList, addr: u64) -> Option<&Entry>
     requires in_range { IsTrue (list_all entry_in_range entries.now) }
     requires apart { (a : ℕ) → count_by (λ e. within a e.block) entries.now ≤ 1 }
     ensures none { IfNone result ((over : Option ℕ) → by_entries addr over entries.now
@@ -114,10 +97,10 @@ fn entry_at<'a>(entries: &'a [Entry], order: &[Place], addr: u64) -> Option<&'a 
     ensures each { IfSome result (λ e. (P : Entry → Bool) → IsTrue (list_all P entries.now)
         → IsTrue (P e.now)) }
 {
-    let Some(place) = last_before(order, addr) else {
+    let Some(place) = last_before(entries.order(), addr) else {
         return None;
     };
-    let Some(entry) = entries.get(place.entry) else {
+    let Some(entry) = entries.as_slice().get(place.entry) else {
         return None;
     };
     if !entry.block.has(addr) {

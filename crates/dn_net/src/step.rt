@@ -4,7 +4,7 @@ ghost use Rattle.std.specs.Prelude.{◌≡◌, ◌≢◌, ◌↔◌, ℕ, Option
 ghost use Rattle.std.specs.List.{All, list_all, count_by};
 ghost use Rattle.dn_net.specs.Terms.{KeepsRules, by_entries, by_over, decode, entry_in_range, is_accepted, is_closed, is_stop, leads_in_range, leads_within, over_dests, sent_names, step_view, steps, top, within};
 
-use crate::entries::EntryList;
+use crate::entries::{EntryList, entry_at};
 use crate::net::Net;
 use crate::node::{Dest, Name, TOP};
 
@@ -65,7 +65,7 @@ fn lead<'a>(entries: &'a EntryList, over: &'a [Dest], addr: u64) -> Step<'a>
         → IsTrue (list_all (λ d. nat_lt d.node count) over.now)
         → IsTrue (leads_within count result) }
 {
-    match entries.at(addr) {
+    match entry_at(entries, addr) {
         Some(entry) => Step::To(entry.dests.as_slice(), addr - entry.block.lo),
         None => over_step(over, addr),
     }
