@@ -13,10 +13,11 @@ pub after_one : {Y E : Type 0} (made : List Y) (y : Y) (o : Result (List Y) E) �
 after_one made y (Err e) = refl
 after_one made y (Ok ys) = ap (λ l. Ok l) (sym (append_assoc made (y ∷ []) ys))
 
--- one more item made
-pub made_next : {X Y E : Type 0} (f : X → Result Y E) (xs : List X) (i : ℕ) (x : X) (y : Y) (made : List Y) → i < length xs → x ≡ get_or xs i x → f x ≡ Ok y → each f xs ≡ followed made (each f (drop i xs)) → each f xs ≡ followed (made ++ y ∷ []) (each f (drop (i + 1) xs))
-made_next f xs i x y made h at is so_far =
+-- one more item made, with which the list is longer
+pub made_next : {X Y E : Type 0} (f : X → Result Y E) (xs : List X) (i : ℕ) (x : X) (y : Y) (made longer : List Y) → i < length xs → x ≡ get_or xs i x → f x ≡ Ok y → longer ≡ made ++ y ∷ [] → each f xs ≡ followed made (each f (drop i xs)) → each f xs ≡ followed longer (each f (drop (i + 1) xs))
+made_next f xs i x y made longer h at is e so_far =
     so_far
     ∙ ap (λ l. followed made (each f l)) (drop_at xs i x h at)
     ∙ ap (λ o. followed made (o >>= (λ y. each f (drop (i + 1) xs) >>= (λ ys. Ok (y ∷ ys))))) is
     ∙ after_one made y (each f (drop (i + 1) xs))
+    ∙ ap (λ l. followed l (each f (drop (i + 1) xs))) (sym e)

@@ -1,12 +1,11 @@
-use Rattle.std.proofs.Common.{arith, ◌≡◌, ◌∙◌, ap, sym, subst, List, [], ◌∷◌, ◌++◌, map, ◌+◌, take, drop, get_or, Bool, true, ◌&&◌}
+use Rattle.std.proofs.Common.{arith, ◌≡◌, ◌∙◌, ap, sym, subst, List, [], ◌∷◌, ◌++◌, map, ◌+◌, take, get_or, Bool, true, ◌&&◌}
 use Rattle.std.proofs.lemmas.List.{map_more, take_all}
 use Rattle.std.proofs.lemmas.List.Folds.{list_all_more}
 use Rattle.std.specs.List.{list_all}
 use Rattle.dn_net.specs.declared.node.NodeDecl.{NodeDecl}
 use Rattle.dn_module.specs.declared.draft.Draft.{Draft}
-use Rattle.dn_module.specs.Values.{each}
 use Rattle.dn_module.specs.Drafts.{node_in, node_of, refers_to_known}
-use Rattle.dn_module.proofs.Each.{followed, made_next}
+use Rattle.dn_module.proofs.Each.{made_next}
 use Rattle.dn_module.proofs.Known.{new_name, formed_at}
 use Rattle.dn_module.proofs.Closed.{closed}
 use Rattle.dn_module.proofs.link.linked_net.Goals as goal
@@ -28,7 +27,7 @@ loop-draft-preserved c =
     let at = c.draft-item.is in
     let longer : c.add.new.self ≡ before ++ decl ∷ [] = c.in_ok-add.ensures.ok.1 in
     record {
-      made = made_next (node_of known) ds i d decl before c.loop-draft-test.true at c.in_ok-decl.ensures.made c.loop-draft.invariant.made ∙ ap (λ (n : List NodeDecl). followed n (each (node_of known) (drop (i + 1) ds))) (sym longer);
+      made = made_next (node_of known) ds i d decl before c.add.new.self c.loop-draft-test.true at c.in_ok-decl.ensures.made longer c.loop-draft.invariant.made;
       so_far = longer ∙ ap (λ (n : List NodeDecl). n ++ decl ∷ []) c.loop-draft.invariant.so_far ∙ ap (λ (n : NodeDecl). map (node_in known) (take i ds) ++ n ∷ []) (c.in_ok-decl.ensures.node ∙ ap (node_in known) at) ∙ sym (map_more (node_in known) ds i d c.loop-draft-test.true);
       known = list_all_more (refers_to_known known) ds i d c.loop-draft-test.true ∙ ap (λ (b : Bool). b && refers_to_known known (get_or ds i d)) c.loop-draft.invariant.known ∙ ap (refers_to_known known) (sym at) ∙ c.in_ok-decl.ensures.known;
     }

@@ -8,23 +8,21 @@ use Rattle.dn_module.proofs.Each.{after_one, followed}
 use Rattle.dn_module.proofs.orders.pieces.Goals as goal
 
 -- one more piece is made, of which the list is seen
-made_seen : {W X Y E : Type 0} (f : X → Result Y E) (g : W → X) (xs : List W) (i : ℕ) (x : W) (y : Y) (made : List Y) → i < length xs → x ≡ get_or xs i x → f (g x) ≡ Ok y → each f (map g xs) ≡ followed made (each f (map g (drop i xs))) → each f (map g xs) ≡ followed (made ++ y ∷ []) (each f (map g (drop (i + 1) xs)))
-made_seen f g xs i x y made h at is so_far =
+made_seen : {W X Y E : Type 0} (f : X → Result Y E) (g : W → X) (xs : List W) (i : ℕ) (x : W) (y : Y) (made longer : List Y) → i < length xs → x ≡ get_or xs i x → f (g x) ≡ Ok y → longer ≡ made ++ y ∷ [] → each f (map g xs) ≡ followed made (each f (map g (drop i xs))) → each f (map g xs) ≡ followed longer (each f (map g (drop (i + 1) xs)))
+made_seen f g xs i x y made longer h at is e so_far =
     let rest = each f (map g (drop (i + 1) xs)) in
     so_far
     ∙ ap (λ l. followed made (each f (map g l))) (drop_at xs i x h at)
     ∙ ap (λ o. followed made (o >>= (λ y. rest >>= (λ ys. Ok (y ∷ ys))))) is
     ∙ after_one made y rest
+    ∙ ap (λ l. followed l rest) (sym e)
 
 pub loop-expr-preserved : goal.loop-expr-preserved
 loop-expr-preserved c =
-    let known = c.args.names.now in
     let asked = c.args.asked.now in
     let i = c.loop-expr.expr-index in
-    let before = c.loop-expr.made in
-    let piece = c.in_ok-piece.piece in
-    let longer : c.push.new.self ≡ before ++ piece ∷ [] = search rules in
+    let longer : c.push.new.self ≡ c.loop-expr.made ++ c.in_ok-piece.piece ∷ [] = search rules in
     record {
-      made = made_seen (piece_of known) piece_view asked i c.expr-item.result piece before c.loop-expr-test.true c.expr-item.is c.in_ok-piece.ensures.made c.loop-expr.invariant.made ∙ ap (λ (ps : List PieceTarget). followed ps (each (piece_of known) (map piece_view (drop (i + 1) asked)))) (sym longer);
-      known = subst (λ (ps : List PieceTarget). IsTrue (pieces_within (length known) ps)) (sym longer) (list_all-last (λ (p : PieceTarget). node_within (length known) p.node.node) before piece c.loop-expr.invariant.known c.in_ok-piece.ensures.known);
+      made = made_seen (piece_of c.args.names.now) piece_view asked i c.expr-item.result c.in_ok-piece.piece c.loop-expr.made c.push.new.self c.loop-expr-test.true c.expr-item.is c.in_ok-piece.ensures.made longer c.loop-expr.invariant.made;
+      known = subst (λ (ps : List PieceTarget). IsTrue (pieces_within (length c.args.names.now) ps)) (sym longer) (list_all-last (λ (p : PieceTarget). node_within (length c.args.names.now) p.node.node) c.loop-expr.made c.in_ok-piece.piece c.loop-expr.invariant.known c.in_ok-piece.ensures.known);
     }
