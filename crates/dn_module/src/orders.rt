@@ -180,15 +180,13 @@ fn grant(alloc: Global, names: &NameTable, asked: &GrantExpr) -> Result<Command,
     let node = target(alloc, names, &asked.node)?;
     let base = number(alloc, &asked.base)?;
     let size = number(alloc, &asked.size)?;
-    let id = Text::of(alloc, asked.id)?;
-    let mode = asked.mode;
     Ok(Command::Grant {
-        id,
+        id: Text::of(alloc, asked.id)?,
         agent,
         node,
         base,
         size,
-        mode,
+        mode: asked.mode,
     })
 }
 
@@ -201,9 +199,8 @@ fn route(alloc: Global, names: &NameTable, asked: &RouteExpr) -> Result<Command,
     let agent = target(alloc, names, &asked.agent)?;
     let line = number(alloc, &asked.line)?;
     let node = target(alloc, names, &asked.node)?;
-    let id = Text::of(alloc, asked.id)?;
     Ok(Command::Route {
-        id,
+        id: Text::of(alloc, asked.id)?,
         agent,
         line,
         node,
@@ -219,9 +216,8 @@ fn piece(alloc: Global, names: &NameTable, asked: &PieceExpr) -> Result<PieceTar
     let node = target(alloc, names, &asked.node)?;
     let base = number(alloc, &asked.base)?;
     let size = number(alloc, &asked.size)?;
-    let id = Text::of(alloc, asked.id)?;
     Ok(PieceTarget {
-        id,
+        id: Text::of(alloc, asked.id)?,
         node,
         base,
         size,
