@@ -441,25 +441,21 @@ record CommandWord (w : List ℕ) (f : Form) (reader : Reader Order) : Type 0 wh
   pub feeding : (k : List Form) (vs : List Value) → feed (statement_form ∷ k) vs (word w) ≡ on (either f (plain_by (does (put_word w))) ∷ k) vs
   pub reading : (ts : List Token) → Does f 0 0 ts [] ordered (reader ts)
 
+-- a name begins with a word that is not reserved
+name_begins : (l : Lexeme) → among (starts name_form) l ≡ is_free l
+unfolding name_form part_form
+name_begins (word w) = refl
+name_begins (keyword j) = refl
+name_begins (number x) = refl
+name_begins (sign s) = refl
+
 radix_word : CommandWord (codes "radix") after_radix radix_at
 unfolding statement_form plain_form agent_form vectors_form unit_form module_form use_form loop_form command_form radix_form gather_form name_form part_form more_parts index expr term factor minus_expr more_terms more_factors
-radix_word = record { begins = begins; fitting = refl; needed = refl; feeding = λ k vs. refl; reading = radix_does }
-  where
-    begins : (l : Lexeme) → among (starts after_radix) l ≡ is_free l
-    begins (word w) = refl
-    begins (keyword j) = refl
-    begins (number x) = refl
-    begins (sign s) = refl
+radix_word = record { begins = name_begins; fitting = refl; needed = refl; feeding = λ k vs. refl; reading = radix_does }
 
 gather_word : CommandWord (codes "gather") after_gather gather_at
 unfolding statement_form plain_form agent_form vectors_form unit_form module_form use_form loop_form command_form radix_form gather_form piece_form more_pieces maybe_access access_form name_form part_form more_parts index expr term factor minus_expr more_terms more_factors
-gather_word = record { begins = begins; fitting = refl; needed = refl; feeding = λ k vs. refl; reading = gather_does }
-  where
-    begins : (l : Lexeme) → among (starts after_gather) l ≡ is_free l
-    begins (word w) = refl
-    begins (keyword j) = refl
-    begins (number x) = refl
-    begins (sign s) = refl
+gather_word = record { begins = name_begins; fitting = refl; needed = refl; feeding = λ k vs. refl; reading = gather_does }
 
 abbrev plain_node : List Token → Read Statement
 plain_node ts = as_declared (node_at plain_role ts)
