@@ -110,11 +110,6 @@ abbrev pub parts_at : List NodeDecl → Option NodeDecl → List ℕ
 parts_at net None = []
 parts_at net (Some n) = parts_text net n
 
--- what stands after a node's name, where there is the node
-abbrev pub body_at : List Meaning → List NodeDecl → Option NodeDecl → List ℕ
-body_at kinds net None = []
-body_at kinds net (Some n) = body_text kinds net n n.unit
-
 -- a node's statement, where there is the node
 abbrev pub statement_text_at : List Meaning → List NodeDecl → Option NodeDecl → List ℕ
 statement_text_at kinds net None = []

@@ -7,7 +7,7 @@ ghost use Rattle.std.specs.List.{list_all};
 ghost use Rattle.std.specs.String.{string_bytes};
 ghost use Rattle.dn_net.specs.Terms.{is_closed};
 ghost use Rattle.dn_kind.specs.Terms.{AreKinds, has_kind, kinds_of};
-ghost use Rattle.dn_print.specs.Terms.{body_at, net_text, parts_at, role_text, statement_text_at};
+ghost use Rattle.dn_print.specs.Terms.{net_text, parts_at, role_text, statement_text_at};
 
 use crate::{OutOfMemory, parts};
 use dn_kind::kinded::KindedNet;
@@ -62,8 +62,17 @@ fn write_statement(out: &mut String, on: KindedNet, node: u16) -> Result<(), Out
 {
     out.push_str(role_word(on.net.role(node)))?;
     out.push_str(on.net.text(node))?;
-    write_body(out, on, node)?;
-    out.push_str(";\n")
+    match on.net.unit(node) {
+        Some(unit) => {
+            let kind = on.kinds.kind(usize::from(unit.kind));
+            parts::write_unit(out, on.net, kind.name(), unit)?;
+            out.push_str(";\n")
+        }
+        None => {
+            write_parts(out, on.net, node)?;
+            out.push_str(";\n")
+        }
+    }
 }
 
 /// The word before a node's name, and the space after it.
@@ -75,25 +84,6 @@ fn role_word(role: Role) -> &'static str
         Role::Agent => "agent ",
         Role::Vectors => "vectors ",
         Role::Unit => "unit ",
-    }
-}
-
-/// Appends what stands after a node's name.
-fn write_body(out: &mut String, on: KindedNet, node: u16) -> Result<(), OutOfMemory>
-    requires there { node < length on.net.now }
-    requires closed { IsTrue (is_closed on.net.now) }
-    requires kinds { AreKinds meaning on.kinds.now }
-    requires known { IsTrue
-        (list_all (λ n. has_kind (length on.kinds.now.list.items) n.unit) on.net.now) }
-    ensures { OnOk result (string_bytes out.new ≡ string_bytes out.old ++ body_at
-        (kinds_of meaning on.entry.kinds.now) on.entry.net.now (slice_get on.entry.net.now node)) }
-{
-    match on.net.unit(node) {
-        Some(unit) => {
-            let kind = on.kinds.kind(usize::from(unit.kind));
-            parts::write_unit(out, on.net, kind.name(), unit)
-        }
-        None => write_parts(out, on.net, node),
     }
 }
 
