@@ -34,14 +34,16 @@ use Rattle.dn_audit.proofs.Seers.{seen_there, seers_rise, several_rise, sharer_i
 
 -- THE VIEWS
 
-resolves_end : (net : List NodeDecl) (h : Held) (agent a : ℕ) (y : End) → Member y (ends_under net h agent a) ↔ ResolvesFromUnder net h agent a y
-resolves_end net h agent a y =
+-- an end is listed at an address exactly where the address comes to it
+pub resolved_end : (net : List NodeDecl) (h : Held) (agent a : ℕ) (y : End) → Member y (ends_under net h agent a) ↔ ResolvesFromUnder net h agent a y
+resolved_end net h agent a y =
     let x : Name = record { node = agent; addr = a } in
     let listed = end_in (resolved_names_under net h x) (name_of_end y) in
     let law = end_names_are_ends (steps_under net h) (is_accepted net) step_limit_under x (name_of_end y) in
     ((λ m. law.0 (listed.0 m)), (λ r. listed.1 (law.1 r)))
 
-ends_under_ascend : (net : List NodeDecl) (h : Held) (agent a : ℕ) → Ascending (ends_under net h agent a)
+-- the ends of an address ascend
+pub ends_under_ascend : (net : List NodeDecl) (h : Held) (agent a : ℕ) → Ascending (ends_under net h agent a)
 ends_under_ascend net h agent a =
     let x : Name = record { node = agent; addr = a } in
     ends_ascend (resolved_names_under net h x) (end_names_ascend (steps_under net h) (is_accepted net) step_limit_under x)
@@ -51,7 +53,7 @@ pub rows_listed : (net : List NodeDecl) (h : Held) (agent : ℕ) (rows : List Ro
 rows_listed net h agent rows normal =
     normal_are_listed (ends_under net h agent) (ends_under_ascend net h agent) rows (record {
       apart = normal.apart;
-      exact = λ a y l. ((λ m. (normal.exact a y l).0 ((resolves_end net h agent a y).0 m)), (λ g. (resolves_end net h agent a y).1 ((normal.exact a y l).1 g)));
+      exact = λ a y l. ((λ m. (normal.exact a y l).0 ((resolved_end net h agent a y).0 m)), (λ g. (resolved_end net h agent a y).1 ((normal.exact a y l).1 g)));
     })
 
 same_told : {X : Type 0} {x y : X} {xs ys : List X} → x ≡ y → xs ≡ ys → x ∷ xs ≡ y ∷ ys
