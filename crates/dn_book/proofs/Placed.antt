@@ -1,15 +1,17 @@
 -- Grants at places of their own, found by id: what each call on them keeps.
-use Rattle.std.proofs.Common.{◌≡◌, ◌≢◌, ℕ, zero, suc, ◌-◌, ◌<◌, ◌≤◌, max, ◌⊎◌, inl, inr, Bool, true, false, cond, if◌then◌else◌, ◌||◌, ◌==◌, not, nat_eq, List, [], ◌∷◌, ◌++◌, filter, find, length, slice_get, Option, Some, None, is_some, refl, sym, ap, ◌∙◌, subst, arith}
-use Rattle.std.specs.List.{cons_option}
-use Rattle.std.specs.Map.{lookup}
+use Rattle.std.proofs.Common.{◌≡◌, ◌≢◌, ℕ, zero, suc, ◌-◌, ◌<◌, ◌≤◌, max, ◌⊎◌, inl, inr, Bool, true, false, cond, if◌then◌else◌, ◌||◌, ◌==◌, not, nat_eq, List, [], ◌∷◌, ◌++◌, find, length, slice_get, Option, Some, None, is_some, refl, sym, ap, ◌∙◌, subst, arith}
+use Rattle.std.specs.List.{AllByRecursion, IsDistinct, cons_option, remove}
+use Rattle.std.specs.Map.{keys_of, lookup}
 use Rattle.std.proofs.Math.Nat.{max-eq_left, max-eq_right}
 use Rattle.std.proofs.lemmas.Bool.{cases_eq, cases_lt, eqb-true, eq-eqb, ne_eqb}
 use Rattle.std.proofs.lemmas.Map.Entries.{lookup-filter-keys}
+use Rattle.std.proofs.lemmas.Map.Keys.{IsDistinct-cons, IsDistinct-from_apart, IsDistinct-head, IsDistinct-tail}
+use Rattle.std.proofs.lemmas.Map.Made.{IsDistinct-keys_filter}
 use Rattle.std.proofs.lemmas.Option.{same_Some}
 use Rattle.slab.specs.Slab.{ContainsKey, Slab, Updates, get}
 use Rattle.dn_book.specs.declared.grant.Grant.{Grant}
 use Rattle.dn_book.specs.Book.{has_id, without_id}
-use Rattle.dn_book.specs.Placed.{AreHeld, ArePlaced, IsOfId, grants_at}
+use Rattle.dn_book.specs.Placed.{AreHeld, ArePlaced, IsOfId, grants_at, without_place}
 
 -- what is left of the room once there was room for one
 pub one_less : (n : ℕ) → max n 1 - 1 ≡ n - 1
@@ -144,16 +146,34 @@ found_last (x ∷ es) id p q n = go (λ e. found_last es id p q e) (nat_eq q x.0
     go rest true k false f e = ap (λ t. cond t (Some p) (Some x.1)) (sym (ap (λ n. nat_eq id n) (eqb-true q x.0 k) ∙ f))
     go rest false k false f e = rest e
 
+-- ids stay apart where one that none has comes last
+apart_last : (k id p : ℕ) (es : List (ℕ × ℕ)) → nat_eq k id ≡ false → AllByRecursion (λ y. nat_eq k y ≡ false) (keys_of es) → AllByRecursion (λ y. nat_eq k y ≡ false) (keys_of (es ++ (id, p) ∷ []))
+apart_last k id p [] f a = (f, tt)
+apart_last k id p (x ∷ es) f a = (a.0, apart_last k id p es f a.1)
+
+distinct_last : (es : List (ℕ × ℕ)) (id p : ℕ) → IsDistinct nat_eq (keys_of es) → lookup (nat_eq id) es ≡ None → IsDistinct nat_eq (keys_of (es ++ (id, p) ∷ []))
+distinct_last [] id p d n = IsDistinct-cons nat_eq id [] tt (IsDistinct-from_apart nat_eq [] (λ i j k l m. absurd (omega (arith, m))))
+distinct_last (x ∷ es) id p d n = go (λ e. distinct_last es id p (IsDistinct-tail nat_eq x.0 (keys_of es) d) e) (nat_eq id x.0) refl n
+  where
+    go : (lookup (nat_eq id) es ≡ None → IsDistinct nat_eq (keys_of (es ++ (id, p) ∷ []))) → (b : Bool) → nat_eq id x.0 ≡ b → cond b (Some x.1) (lookup (nat_eq id) es) ≡ None → IsDistinct nat_eq (keys_of ((x ∷ es) ++ (id, p) ∷ []))
+    go rest true k e = let no : Some x.1 ≡ None = e in cc
+    go rest false k e = IsDistinct-cons nat_eq x.0 (keys_of (es ++ (id, p) ∷ [])) (apart_last x.0 id p es (turned x.0 id ∙ k) (IsDistinct-head nat_eq x.0 (keys_of es) d)) (rest e)
+
+-- what is not there is none
+missing : (o : Option ℕ) → is_some o ≡ false → o ≡ None
+missing None e = refl
+missing (Some x) e = cc
+
 -- the grants are kept with one more
 pub placed_last : (old new : Slab Grant) (es is is' : List (ℕ × ℕ)) (p : ℕ) (g : Grant) → ArePlaced old es is → has_id g.id (grants_at old es) ≡ false → Updates old new p (Some g) → get old p ≡ None → ((q : ℕ) → lookup (nat_eq q) is' ≡ cond (nat_eq g.id q) (Some p) (lookup (nat_eq q) is)) → ArePlaced new (es ++ (g.id, p) ∷ []) is'
 placed_last old new es is is' p g a none u v put = record {
   held = held_last new es p g u.changed (held_still old new p (Some g) es u v a.held);
-  found = λ q. put q ∙ ap (λ o. cond (nat_eq g.id q) (Some p) o) (a.found q) ∙ sym (found_last es g.id p q (missing (lookup (nat_eq g.id) es) (has_at old es g.id a.held ∙ none)));
+  apart = distinct_last es g.id p a.apart fresh;
+  found = λ q. put q ∙ ap (λ o. cond (nat_eq g.id q) (Some p) o) (a.found q) ∙ sym (found_last es g.id p q fresh);
 }
   where
-    missing : (o : Option ℕ) → is_some o ≡ false → o ≡ None
-    missing None e = refl
-    missing (Some x) e = cc
+    fresh : lookup (nat_eq g.id) es ≡ None
+    fresh = missing (lookup (nat_eq g.id) es) (has_at old es g.id a.held ∙ none)
 
 pub grants_more : (old new : Slab Grant) (es : List (ℕ × ℕ)) (p : ℕ) (g : Grant) → AreHeld old es → Updates old new p (Some g) → get old p ≡ None → grants_at new (es ++ (g.id, p) ∷ []) ≡ grants_at old es ++ g ∷ []
 grants_more old new es p g h u v =
@@ -162,9 +182,29 @@ grants_more old new es p g h u v =
 
 -- ONE GRANT LESS
 
--- the places without that of an id
-abbrev pub without_place : ℕ → List (ℕ × ℕ) → List (ℕ × ℕ)
-without_place id es = filter (λ e. not (e.0 == id)) es
+-- where no entry has the id, each stays
+all_stay : (id : ℕ) (es : List (ℕ × ℕ)) → AllByRecursion (λ k. nat_eq id k ≡ false) (keys_of es) → without_place id es ≡ es
+all_stay id [] a = refl
+all_stay id (e ∷ es) a =
+    ap (λ b. if not b then e ∷ without_place id es else without_place id es) (turned e.0 id ∙ a.0)
+    ∙ ap (λ (l : List (ℕ × ℕ)). e ∷ l) (all_stay id es a.1)
+
+-- where ids differ, an entry has another id than a later one
+other_id : (id : ℕ) (k : ℕ) (es : List (ℕ × ℕ)) (at : ℕ) (e : ℕ × ℕ) → AllByRecursion (λ y. nat_eq k y ≡ false) (keys_of es) → slice_get es at ≡ Some e → e.0 ≡ id → (k == id) ≡ false
+other_id id k [] at e a s t = let no : None ≡ Some e = s in cc
+other_id id k (x ∷ es) zero e a s t = ap (λ n. k == n) (sym (ap (λ (p : ℕ × ℕ). p.0) (same_Some x e s) ∙ t)) ∙ a.0
+other_id id k (x ∷ es) (suc at) e a s t = other_id id k es at e a.1 s t
+
+-- where ids differ, the entry of an id is the only one that goes
+pub one_out : (id : ℕ) (es : List (ℕ × ℕ)) (at : ℕ) (e : ℕ × ℕ) → IsDistinct nat_eq (keys_of es) → slice_get es at ≡ Some e → e.0 ≡ id → remove es at ≡ without_place id es
+one_out id [] at e d s t = let no : None ≡ Some e = s in cc
+one_out id (x ∷ es) zero e d s t =
+    let is : x.0 ≡ id = ap (λ (p : ℕ × ℕ). p.0) (same_Some x e s) ∙ t in
+    sym (ap (λ b. if not b then x ∷ without_place id es else without_place id es) (eq-eqb x.0 id is)
+    ∙ all_stay id es (subst (λ n. AllByRecursion (λ y. nat_eq n y ≡ false) (keys_of es)) is (IsDistinct-head nat_eq x.0 (keys_of es) d)))
+one_out id (x ∷ es) (suc at) e d s t =
+    ap (λ (l : List (ℕ × ℕ)). x ∷ l) (one_out id es at e (IsDistinct-tail nat_eq x.0 (keys_of es) d) s t)
+    ∙ sym (ap (λ b. if not b then x ∷ without_place id es else without_place id es) (other_id id x.0 es at e (IsDistinct-head nat_eq x.0 (keys_of es) d) s t))
 
 -- another id has another place
 other_place : (kept : Slab Grant) (id own q p : ℕ) → IsOfId own (get kept q) → IsOfId id (get kept p) → (own == id) ≡ false → q ≢ p
@@ -211,6 +251,7 @@ found_less es id q =
 pub placed_less : (old new : Slab Grant) (es is is' : List (ℕ × ℕ)) (id p : ℕ) → ArePlaced old es is → lookup (nat_eq id) is ≡ Some p → Updates old new p None → ((q : ℕ) → lookup (nat_eq q) is' ≡ cond (nat_eq id q) None (lookup (nat_eq q) is)) → ArePlaced new (without_place id es) is'
 placed_less old new es is is' id p a at u taken = record {
   held = held_less old new es id p a.held (held_of old es id p a.held (sym (a.found id) ∙ at)) u;
+  apart = IsDistinct-keys_filter nat_eq (λ e. not (e.0 == id)) es a.apart;
   found = λ q. taken q ∙ ap (λ o. cond (nat_eq id q) None o) (a.found q) ∙ sym (found_less es id q);
 }
 

@@ -1,8 +1,8 @@
 -- How the live grants are kept: each at a place of its own, and the ids with their places in the order
 -- of granting.
-use Rattle.std.specs.Prelude.{◌≡◌, ℕ, nat_eq, List, Option, Some, None, filter_map}
-use Rattle.std.specs.List.{AllByRecursion}
-use Rattle.std.specs.Map.{lookup}
+use Rattle.std.specs.Prelude.{◌≡◌, ℕ, ◌==◌, not, nat_eq, List, Option, Some, None, filter, filter_map}
+use Rattle.std.specs.List.{AllByRecursion, IsDistinct}
+use Rattle.std.specs.Map.{keys_of, lookup}
 use Rattle.slab.specs.Slab.{Slab, get}
 use Rattle.dn_book.specs.declared.grant.Grant.{Grant}
 
@@ -19,7 +19,12 @@ IsOfId id (Some g) = g.id ≡ id
 abbrev pub AreHeld : Slab Grant → List (ℕ × ℕ) → Type 0
 AreHeld kept order = AllByRecursion (λ e. IsOfId e.0 (get kept e.1)) order
 
--- At the place of each id a grant of it is kept, and the map leads from the id to that place.
+-- the entries without that of an id
+abbrev pub without_place : ℕ → List (ℕ × ℕ) → List (ℕ × ℕ)
+without_place id order = filter (λ e. not (e.0 == id)) order
+
+-- At the place of each id a grant of it is kept, each id is there once, and the map leads from the id to that place.
 pub record ArePlaced (kept : Slab Grant) (order places : List (ℕ × ℕ)) : Type 0 where
   pub held : AreHeld kept order
+  pub apart : IsDistinct nat_eq (keys_of order)
   pub found : (id : ℕ) → lookup (nat_eq id) places ≡ lookup (nat_eq id) order

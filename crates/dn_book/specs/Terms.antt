@@ -8,6 +8,7 @@ pub use Rattle.dn_book.specs.Faults.{is_revoke_fault}
 pub use Rattle.dn_book.specs.Going.{AreGoing, Goes}
 pub use Rattle.dn_book.specs.Kept.{BookIsProper, KeptSlotsAreTheBooks}
 pub use Rattle.dn_book.specs.Laws.{EmptyBookIsFaithful, GrantKeepsBook, IsGrantFor, OwedNamesAreOwed, OwedNamesAreResolved, RevokeClearsSome, RevokeKeepsBook, TablesHoldRecords}
+pub use Rattle.dn_book.specs.Placed.{without_place}
 pub use Rattle.dn_book.specs.Puts.{MayPut, MayPutGrant, MayPutHop}
 pub use Rattle.dn_book.specs.Sets.{AreChanged, AreCleared, AreFit, AreHopsChanged, AreOpen, ArePut, EachSlot, MayUse, TakesSlots, after_puts, hop_owner, is_used_by, one_use_less, one_use_more, put_at, put_log}
 pub use Rattle.dn_book.specs.Tables.{IsKept, tables_of}

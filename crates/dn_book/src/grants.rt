@@ -1,7 +1,9 @@
 //! The live grants in the order of granting, each found by its id.
 
-ghost use Rattle.std.specs.Prelude.{◌≡◌, ◌-◌, ◌<◌, ◌≤◌, ◌==◌, [], ◌∷◌, ◌++◌, false, find, length, option_copied, max, slice_get, IsOk, OnOk, OnErr};
-ghost use Rattle.dn_book.specs.Terms.{has_id, without_id};
+ghost use Rattle.std.specs.Prelude.{◌≡◌, ◌-◌, ◌<◌, ◌≤◌, ◌==◌, [], ◌∷◌, ◌++◌, false, find, length, nat_eq, option_copied, max, slice_get, vec_capacity, vec_len, IfNone, IfSome, IsOk, OnOk, OnErr};
+ghost use Rattle.std.specs.List.{IsDistinct, remove};
+ghost use Rattle.std.specs.Map.{keys_of};
+ghost use Rattle.dn_book.specs.Terms.{has_id, without_id, without_place};
 ghost use Rattle.dn_book.specs.declared.grant.Grant.{Grant as GrantPart};
 
 use crate::grant::Grant;
@@ -148,7 +150,34 @@ impl Grants {
     {
         if let Some(place) = self.places.remove(&id) {
             drop(self.kept.remove(place));
-            self.order.retain(|entry| entry.0 != id);
+            take_out(&mut self.order, id);
         }
     }
+}
+
+/// Takes the entry of an id out, where there is one.
+fn take_out(order: &mut Vec<(u32, usize)>, id: u32)
+    requires apart { IsDistinct nat_eq (keys_of order.old.items) }
+    ensures left { order.new.items ≡ without_place id order.old.items }
+    ensures most { vec_len order.new ≤ vec_len order.old }
+    ensures capacity { vec_capacity order.new ≡ vec_capacity order.old }
+{
+    if let Some(at) = entry_of(order, id) {
+        let _entry = order.remove(at);
+    }
+}
+
+/// Where the entry of an id is, if there is one: ids differ, so it is the only one.
+fn entry_of(order: &[(u32, usize)], id: u32) -> Option<usize>
+    requires apart { IsDistinct nat_eq (keys_of order.now) }
+    ensures there { IfSome result (λ at. at < length order.now) }
+    ensures out { IfSome result (λ at. remove order.now at ≡ without_place id order.now) }
+    ensures none { IfNone result (order.now ≡ without_place id order.now) }
+{
+    for (at, entry) in order.iter().enumerate() {
+        if entry.0 == id {
+            return Some(at);
+        }
+    }
+    None
 }
