@@ -8,7 +8,7 @@ use Rattle.dn_base.proofs.Members.{any_member, member_any, member_none}
 use Rattle.dn_net.specs.declared.node.NodeDecl.{NodeDecl}
 use Rattle.dn_net.specs.Decode.{is_agent_at, unit_at, unit_of}
 use Rattle.dn_flat.specs.declared.levels.Levels.{Levels}
-use Rattle.dn_flat.specs.Levels.{AreListed, AreSeers, IsListed, is_among, leads_to_units, sees, units_in}
+use Rattle.dn_flat.specs.Levels.{AreListed, AreSeers, IsListed, is_among, leads_to_units, is_listed_for, units_in}
 use Rattle.dn_flat.proofs.Among.{last_among, still_among}
 
 -- what is told of each node that is there is told of every number
@@ -23,35 +23,35 @@ module _ (leads : List Bool) where
   -- the list of the agents that see names of a unit that leads on, with one more
   pub kept_onward : (by_unit : List (List ℕ)) (onward : List ℕ) (agent n : ℕ) (units : List ℕ) → IsListed leads by_unit onward n units → IsListed leads by_unit (onward ++ agent ∷ []) n units
   kept_onward by_unit onward agent n units is = record {
-    each = λ u l e. elim (or_cases (is_among n onward) (sees by_unit u n) (is.each u l e)) [
-      | inl h ↦ or_left (is_among n (onward ++ agent ∷ [])) (sees by_unit u n) (still_among onward agent n h)
-      | inr h ↦ or_right (is_among n (onward ++ agent ∷ [])) (sees by_unit u n) h
+    each = λ u l e. elim (or_cases (is_among n onward) (is_listed_for by_unit u n) (is.each u l e)) [
+      | inl h ↦ or_left (is_among n (onward ++ agent ∷ [])) (is_listed_for by_unit u n) (still_among onward agent n h)
+      | inr h ↦ or_right (is_among n (onward ++ agent ∷ [])) (is_listed_for by_unit u n) h
     ];
     leading = λ u e f. still_among onward agent n (is.leading u e f);
   }
 
   pub in_onward : (by_unit : List (List ℕ)) (onward : List ℕ) (agent : ℕ) (units : List ℕ) → IsListed leads by_unit (onward ++ agent ∷ []) agent units
   in_onward by_unit onward agent units = record {
-    each = λ u l e. or_left (is_among agent (onward ++ agent ∷ [])) (sees by_unit u agent) (last_among onward agent);
+    each = λ u l e. or_left (is_among agent (onward ++ agent ∷ [])) (is_listed_for by_unit u agent) (last_among onward agent);
     leading = λ u e f. last_among onward agent;
   }
 
   -- the lists of some units, with one agent more
   abbrev pub Grown : List (List ℕ) → List (List ℕ) → ℕ → List ℕ → Type 0
-  Grown old new agent units = (u n : ℕ) → u < length old → sees new u n ≡ (sees old u n || list_any (λ unit. nat_eq unit u && nat_eq agent n) units)
+  Grown old new agent units = (u n : ℕ) → u < length old → is_listed_for new u n ≡ (is_listed_for old u n || list_any (λ unit. nat_eq unit u && nat_eq agent n) units)
 
   kept_grown : (old new : List (List ℕ)) (onward : List ℕ) (agent : ℕ) (units : List ℕ) → length new ≡ length old → Grown old new agent units → (n : ℕ) (us : List ℕ) → IsListed leads old onward n us → IsListed leads new onward n us
   kept_grown old new onward agent units same grown n us is = record {
-    each = λ u l e. elim (or_cases (is_among n onward) (sees old u n) (is.each u (subst (λ k. u < k) same l) e)) [
-      | inl h ↦ or_left (is_among n onward) (sees new u n) h
-      | inr h ↦ or_right (is_among n onward) (sees new u n) (grown u n (subst (λ k. u < k) same l) ∙ or_left (sees old u n) (list_any (λ unit. nat_eq unit u && nat_eq agent n) units) h)
+    each = λ u l e. elim (or_cases (is_among n onward) (is_listed_for old u n) (is.each u (subst (λ k. u < k) same l) e)) [
+      | inl h ↦ or_left (is_among n onward) (is_listed_for new u n) h
+      | inr h ↦ or_right (is_among n onward) (is_listed_for new u n) (grown u n (subst (λ k. u < k) same l) ∙ or_left (is_listed_for old u n) (list_any (λ unit. nat_eq unit u && nat_eq agent n) units) h)
     ];
     leading = is.leading;
   }
 
   in_grown : (old new : List (List ℕ)) (onward : List ℕ) (agent : ℕ) (units : List ℕ) → length new ≡ length old → Grown old new agent units → list_any (λ u. slice_index_or leads u false) units ≡ false → IsListed leads new onward agent units
   in_grown old new onward agent units same grown none = record {
-    each = λ u l e. or_right (is_among agent onward) (sees new u agent) (grown u agent (subst (λ k. u < k) same l) ∙ or_right (sees old u agent) (list_any (λ unit. nat_eq unit u && nat_eq agent agent) units) (here u e));
+    each = λ u l e. or_right (is_among agent onward) (is_listed_for new u agent) (grown u agent (subst (λ k. u < k) same l) ∙ or_right (is_listed_for old u agent) (list_any (λ unit. nat_eq unit u && nat_eq agent agent) units) (here u e));
     leading = λ u e f. (let m = any_member (λ other. nat_eq other u) units e in absurd (false≢true (sym (member_none (λ k. slice_index_or leads k false) units m.0 none m.1) ∙ ap (λ k. slice_index_or leads k false) (eqb-true m.0 u m.2) ∙ f)));
   }
     where

@@ -77,15 +77,15 @@ leads_to_units nodes None = false
 leads_to_units nodes (Some u) = list_any (has_stops nodes) u.ports
 
 -- the agent is in the list of the unit
-abbrev pub sees : List (List ℕ) → ℕ → ℕ → Bool
-sees by_unit unit agent = is_among agent (slice_index_or by_unit unit [])
+abbrev pub is_listed_for : List (List ℕ) → ℕ → ℕ → Bool
+is_listed_for by_unit unit agent = is_among agent (slice_index_or by_unit unit [])
 
--- The agent, which sees names of these units, is in one of the lists for each of them that has one; and where a unit
--- leads on, it is in the list of the agents that see names of such a unit.
+-- An agent that sees names of some units is, for each of these that is there, in its list or in the last one; and it is
+-- in the last one where one of them leads on.
 pub record IsListed (leads : List Bool) (by_unit : List (List ℕ)) (onward : List ℕ) (agent : ℕ)
     (units : List ℕ) : Type 0 where
   pub each : (unit : ℕ) → unit < length by_unit → is_among unit units ≡ true →
-      (is_among agent onward || sees by_unit unit agent) ≡ true
+      (is_among agent onward || is_listed_for by_unit unit agent) ≡ true
   pub leading : (unit : ℕ) → is_among unit units ≡ true → slice_index_or leads unit false ≡ true →
       is_among agent onward ≡ true
 
@@ -96,13 +96,14 @@ pub record AreListed (net : List NodeDecl) (nodes : List Levels) (node : ℕ) (l
   pub each : (agent : ℕ) → agent < node → IsTrue (is_agent_at (slice_get net agent)) →
       IsListed leads by_unit onward agent (units_in (slice_get nodes agent))
 
--- it is told of each node whether it is a unit that leads to units, and each agent is in the lists
+-- it is told of each node whether it is a unit that leads to units, and each agent is in the lists for the units whose
+-- names it sees
 pub record AreSeers (net : List NodeDecl) (nodes : List Levels) (seers : Seers) : Type 0 where
   pub leads : (n : ℕ) → slice_index_or seers.leads n false ≡ leads_to_units nodes (unit_at net n)
   pub listed : AreListed net nodes (length net) seers.leads seers.by_unit seers.onward
 
 -- what nodes reach, what they come to in one step, names in units that two addresses of agents reach,
--- or one, and which agents see names of which units
+-- or one, and lists that have the agents that see names of units
 pub record FlatsView : Type 0 where
   pub nodes : List Levels
   pub stage : StageRows
@@ -111,7 +112,7 @@ pub record FlatsView : Type 0 where
   pub seers : Seers
 
 -- it is what the nodes of the net reach, and what they come to, and two addresses of agents reach the names,
--- or one does, and the agents are those that see names of the units
+-- or one does, and each agent that sees names of units is in the lists
 pub record AreFlats (net : List NodeDecl) (flats : FlatsView) : Type 0 where
   pub every : length flats.nodes ≡ length net
   pub each : (node : ℕ) (levels : Levels) → slice_get flats.nodes node ≡ Some levels → IsLevels net node levels

@@ -3,7 +3,7 @@
 ghost use Rattle.std.specs.Prelude.{◌≡◌, ℕ, ◌+◌, ◌<◌, ◌&&◌, ◌||◌, [], false, nat_eq, nat_lt, List, length, slice_index_or, IfOk, OnOk, IsTrue};
 ghost use Rattle.std.specs.List.{list_all, list_any};
 ghost use Rattle.dn_net.specs.Terms.{IsLegalNet, unit_at};
-ghost use Rattle.dn_flat.specs.Terms.{AreListed, AreSeers, IsListed, has_stops, leads_to_units, sees};
+ghost use Rattle.dn_flat.specs.Terms.{AreListed, AreSeers, IsListed, has_stops, leads_to_units, is_listed_for};
 
 use crate::crowds::is_agent;
 use crate::shared::Shared;
@@ -190,7 +190,7 @@ fn list_for_units(
 ) -> Result<(), OutOfMemory>
     ensures size { OnOk result (length by_unit.new.items ≡ length by_unit.old.items) }
     ensures listed { OnOk result ((u n : ℕ) → u < length by_unit.old.items
-        → sees by_unit.new.items u n ≡ (sees by_unit.old.items u n
+        → is_listed_for by_unit.new.items u n ≡ (is_listed_for by_unit.old.items u n
         || list_any (λ unit. nat_eq unit u && nat_eq agent n) units.now)) }
 {
     for unit in units {
@@ -203,8 +203,8 @@ fn list_for_units(
 fn list_for_unit(by_unit: &mut Vec<Items<u16>>, unit: u16, agent: u16) -> Result<(), OutOfMemory>
     ensures size { OnOk result (length by_unit.new.items ≡ length by_unit.old.items) }
     ensures listed { OnOk result ((u n : ℕ) → u < length by_unit.old.items
-        → sees by_unit.new.items u n
-        ≡ (sees by_unit.old.items u n || (nat_eq unit u && nat_eq agent n))) }
+        → is_listed_for by_unit.new.items u n
+        ≡ (is_listed_for by_unit.old.items u n || (nat_eq unit u && nat_eq agent n))) }
 {
     if usize::from(unit) >= by_unit.len() {
         return Ok(());

@@ -21,12 +21,13 @@ use Rattle.dn_grant.specs.Faults.{grant_answer, is_grant_fault}
 pub record MayGrant {K : Type 0} {V : K → Type 0} (means : (k : K) × V k → Meaning) (system : System K V)
     (book : BookState) (units : List UnitSize) (words : Option (List UnitWords)) : Type 0 where
   -- the net is legal with its kinds, and what is told of its nodes is what they see
-  pub sees : IsSystem means system
+  pub is_system : IsSystem means system
   -- no call of the device failed so far, and the tables, which it has, keep the grants of the book
   pub change : MayChange means system.on book units words
 
 -- What a call leaves that grants: `Outcome` says what its answer comes to, and `Added` that the events of what it
--- grants were added to a log, all of them or, where the device failed, those before its fault.
+-- grants were added to a log, all of them or, where the device failed, those before its fault; and after such a fault
+-- what each name resolves to and, of several grants, which are live.
 pub record IsGrantDone {K : Type 0} {V : K → Type 0} {R D : Type 0} (means : (k : K) × V k → Meaning)
     (on : KindedNet K V) (Outcome : Option (Result ℕ R) → List Grant → Type 0)
     (Added : Bool → Option (List TableEvent) → Option (List TableEvent) → Type 0)
@@ -46,5 +47,5 @@ pub record IsGrantDone {K : Type 0} {V : K → Type 0} {R D : Type 0} (means : (
       (IsFaithful on.net.now book.grants → IsFaithful on.net.now book'.grants)
   -- all events of what is granted were added
   pub granted : OnOk result (Added false (log device) (log device'))
-  -- where the device failed, those before its fault were added
+  -- where the device failed, those before its fault were added, and what it left is said
   pub stopped : result ≡ Err Device → Added true (log device) (log device')

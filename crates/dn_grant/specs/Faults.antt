@@ -10,7 +10,7 @@ grant_answer (Err (Refused why)) = Some (Err why)
 grant_answer (Err Device) = None
 grant_answer (Err OutOfMemory) = None
 
--- nothing was granted, by a fault of the device
+-- the call failed by a fault of the device
 abbrev pub is_grant_fault : {A R : Type 0} → Result A (GrantFault R) → Bool
 is_grant_fault (Err Device) = true
 is_grant_fault _ = false

@@ -18,7 +18,7 @@ use Rattle.dn_flat.specs.Views.{ResolvesFrom}
 use Rattle.dn_place.specs.Blocks.{ShowsWithin}
 use Rattle.dn_place.specs.Candidates.{IsAddressed, IsUnder, NoneUnder, to_address}
 use Rattle.dn_place.specs.declared.preimages.Way.{Way}
-use Rattle.dn_place.specs.Preimages.{IsWay}
+use Rattle.dn_place.specs.Preimages.{IsWayTo}
 use Rattle.dn_place.specs.Rows.{AreToward, GivesStops, wanted_name}
 use Rattle.dn_place.specs.Sought.{IsSearchReady, Sought}
 use Rattle.dn_place.proofs.Agents.{v_of}
@@ -72,7 +72,7 @@ row_stops s (hop ∷ hops) rows i r some l e f = λ a z g. f.given a z (low a z 
     low a z (inr g) = absurd g
     low a z (inl g) = let h = hi_of r.span a g.0 in omega (arith, h, r.span.within)
 
-module _ (s : Sought) (ready : IsSearchReady s) (hop : Hop) (u : UnitPart) (node : ℕ) (way : Way) (e : unit_at s.net hop.unit ≡ Some u) (port : slice_get u.ports hop.port ≡ Some node) (agree : hop.x % 2 ^ u.page ≡ hop.y % 2 ^ u.page) (g : IsWay s.net s.request.agent (wanted_name s.request (hop ∷ [])) s.request.size way) where
+module _ (s : Sought) (ready : IsSearchReady s) (hop : Hop) (u : UnitPart) (node : ℕ) (way : Way) (e : unit_at s.net hop.unit ≡ Some u) (port : slice_get u.ports hop.port ≡ Some node) (agree : hop.x % 2 ^ u.page ≡ hop.y % 2 ^ u.page) (g : IsWayTo s.net s.request.agent (wanted_name s.request (hop ∷ [])) s.request.size way) where
   -- so many addresses on from the buffer's first, past its last
   after : (j : ℕ) (z : End) → s.request.size ≤ j → (hop.x + j) / 2 ^ u.page ≡ (hop.x + (s.request.size - 1)) / 2 ^ u.page → way.v + j ≤ way.last → ResolvesFrom s.net node (hop.y + j) z → NoneUnder s (to_address 1 (hop ∷ []) way.v)
   after j z past slot to res = record { none = λ q under. absurd (go q under) }
@@ -134,10 +134,10 @@ pub record IsLoneHop (s : Sought) (u : UnitPart) (node : ℕ) (hop : Hop) (way :
   pub agree : hop.x % 2 ^ u.page ≡ hop.y % 2 ^ u.page
   pub within : hop.x + s.request.size ≤ u.slots * 2 ^ u.page
   pub reached : hop.y + s.request.size ≤ 2 ^ u.reach
-  pub leads : IsWay s.net s.request.agent (wanted_name s.request (hop ∷ [])) s.request.size way
+  pub leads : IsWayTo s.net s.request.agent (wanted_name s.request (hop ∷ [])) s.request.size way
 
 -- a hop that the agent meets alone
-pub lone_hop : (s : Sought) (hop : Hop) (u : UnitPart) (node : ℕ) (way : Way) → unit_at s.net hop.unit ≡ Some u → slice_get u.ports hop.port ≡ Some node → IsAddressed s (hop ∷ []) way.v → IsWay s.net s.request.agent (wanted_name s.request (hop ∷ [])) s.request.size way → IsLoneHop s u node hop way
+pub lone_hop : (s : Sought) (hop : Hop) (u : UnitPart) (node : ℕ) (way : Way) → unit_at s.net hop.unit ≡ Some u → slice_get u.ports hop.port ≡ Some node → IsAddressed s (hop ∷ []) way.v → IsWayTo s.net s.request.agent (wanted_name s.request (hop ∷ [])) s.request.size way → IsLoneHop s u node hop way
 lone_hop s hop u node way e port a leads = subst (λ (k : UnitPart). slice_get k.ports hop.port ≡ Some node → unit_at s.net hop.unit ≡ Some k → IsLoneHop s k node hop way) same (λ f h. record {
   unit = h;
   port = f;

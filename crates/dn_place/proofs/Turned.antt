@@ -29,7 +29,7 @@ use Rattle.dn_placement.specs.Placement.{Meets, name_on}
 use Rattle.dn_placement.proofs.Keys.{append_none}
 use Rattle.dn_place.specs.declared.preimages.Way.{Way}
 use Rattle.dn_place.specs.Candidates.{IsAddressed, IsChosen, IsFirstOrNone, IsUnder, NoneUnder, key_of_hops, to_address}
-use Rattle.dn_place.specs.Preimages.{IsPreimage, IsTurned, IsWay, LeadsAlone}
+use Rattle.dn_place.specs.Preimages.{IsPreimage, IsTurned, IsWayTo, LeadsAlone}
 use Rattle.dn_place.specs.Rows.{GivesStops, InRow, wanted_name}
 use Rattle.dn_place.specs.Sought.{IsSearchReady, Sought}
 use Rattle.dn_place.proofs.Agents.{agent_goes, v_of}
@@ -133,7 +133,7 @@ preimages_normal net agent unit segs back rows stops turned n = normal_like (Seg
     from x z p = segs_to back x z (turned x z ∙ and_from (nat_eq agent z.node) (segs_give segs z.base (record { node = unit; base = x })) (eq-eqb agent z.node (sym p.node)) ((stops z.base (record { node = unit; base = x }) p.low).1 p.stop))
 
 -- a row of preimages that gives each of so many names one address is a way there
-pub turned_way : (net : List NodeDecl) (agent unit x size : ℕ) (rows : List Row) (r : Row) (way : Way) → AreNormal (IsPreimage net agent unit) rows → Contains rows r → 1 ≤ size → IsTurned r x size way → IsWay net agent (record { node = unit; base = x }) size way
+pub turned_way : (net : List NodeDecl) (agent unit x size : ℕ) (rows : List Row) (r : Row) (way : Way) → AreNormal (IsPreimage net agent unit) rows → Contains rows r → 1 ≤ size → IsTurned r x size way → IsWayTo net agent (record { node = unit; base = x }) size way
 turned_way net agent unit x size rows r way n c some t = record {
   from = omega (arith, t.at);
   to = omega (arith, t.at, t.last, t.from, t.to);
@@ -198,7 +198,7 @@ none_then None P Q h p = h p
 none_then (Some x) P Q h p = tt
 
 -- a row of an agent that gives so many names to as many of its addresses is a way
-pub row_way : (net : List NodeDecl) (agent : ℕ) (r : Row) (t : End) (size v : ℕ) → InRow r t size v → GivesStops net agent r → IsWay net agent t size (record { first = r.span.lo; last = r.span.hi; v = v })
+pub row_way : (net : List NodeDecl) (agent : ℕ) (r : Row) (t : End) (size v : ℕ) → InRow r t size v → GivesStops net agent r → IsWayTo net agent t size (record { first = r.span.lo; last = r.span.hi; v = v })
 row_way net agent r t size v g gives = record {
   from = g.from;
   to = g.to;
@@ -241,7 +241,7 @@ pub none_leads : (s : Sought) (hops : List Hop) → IsSearchReady s → 1 ≤ le
 none_leads s hops ready some none = record { none = λ q u. none q.v (stands_alone s hops q ready some (same_hops s hops q u) u.is) }
 
 -- where a way leads there, each placement stands at its address
-at_way : (s : Sought) (hops : List Hop) (way : Way) (q : Place) → IsSearchReady s → 1 ≤ length hops → IsWay s.net s.request.agent (wanted_name s.request hops) s.request.size way → q.hops ≡ hops → IsSuited s.net s.slots s.request s.at q → q.v ≡ way.v
+at_way : (s : Sought) (hops : List Hop) (way : Way) (q : Place) → IsSearchReady s → 1 ≤ length hops → IsWayTo s.net s.request.agent (wanted_name s.request hops) s.request.size way → q.hops ≡ hops → IsSuited s.net s.slots s.request s.at q → q.v ≡ way.v
 at_way s hops way q ready some w e is =
     let t : End = wanted_name s.request hops in
     let plain : (m : ℕ) → m ≡ t.base → StopsFrom s.net s.request.agent way.v (record { node = t.node; base = m }) → StopsFrom s.net s.request.agent way.v (record { node = t.node; base = t.base + 0 }) = λ m f st. subst (λ (n : ℕ). StopsFrom s.net s.request.agent way.v (record { node = t.node; base = n })) (let k : m ≡ t.base + 0 = omega (arith, f) in k) st in
@@ -252,18 +252,18 @@ at_way s hops way q ready some w e is =
     omega (arith, at)
 
 -- so the first of those at its address is the first of all
-pub only_way : (s : Sought) (hops : List Hop) (way : Way) (found : Option Place) → IsSearchReady s → 1 ≤ length hops → IsWay s.net s.request.agent (wanted_name s.request hops) s.request.size way → IsFirstOrNone s (to_address (length hops) hops way.v) found → IsFirstOrNone s (key_of_hops (length hops) hops) found
+pub only_way : (s : Sought) (hops : List Hop) (way : Way) (found : Option Place) → IsSearchReady s → 1 ≤ length hops → IsWayTo s.net s.request.agent (wanted_name s.request hops) s.request.size way → IsFirstOrNone s (to_address (length hops) hops way.v) found → IsFirstOrNone s (key_of_hops (length hops) hops) found
 only_way s hops way found ready some w a = only_number s (key_of_hops (length hops) hops) way.v found (agent_goes s hops) others a
   where
     others : (j : ℕ) → (j ≡ way.v → ⊥) → NoneUnder s (to_address (length hops) hops j)
     others j other = record { none = λ q u. let k = v_of s hops q j u in other (sym k.0 ∙ at_way s hops way q ready some w k.1 u.is) }
 
 -- and where its address is not asked for, there is none
-pub way_not_asked : (s : Sought) (hops : List Hop) (way : Way) → IsSearchReady s → 1 ≤ length hops → IsWay s.net s.request.agent (wanted_name s.request hops) s.request.size way → (IsAt s.at way.v → ⊥) → NoneUnder s (key_of_hops (length hops) hops)
+pub way_not_asked : (s : Sought) (hops : List Hop) (way : Way) → IsSearchReady s → 1 ≤ length hops → IsWayTo s.net s.request.agent (wanted_name s.request hops) s.request.size way → (IsAt s.at way.v → ⊥) → NoneUnder s (key_of_hops (length hops) hops)
 way_not_asked s hops way ready some w other = record { none = λ q u. other (subst (IsAt s.at) (at_way s hops way q ready some w (same_hops s hops q u) u.is) u.is.is_at) }
 
 -- the agent meets the hops from the address of a way
-pub way_addressed : (s : Sought) (hops : List Hop) (way : Way) → IsChosen s (length hops) hops → 1 ≤ length hops → IsAt s.at way.v → IsWay s.net s.request.agent (wanted_name s.request hops) s.request.size way → IsAddressed s hops way.v
+pub way_addressed : (s : Sought) (hops : List Hop) (way : Way) → IsChosen s (length hops) hops → 1 ≤ length hops → IsAt s.at way.v → IsWayTo s.net s.request.agent (wanted_name s.request hops) s.request.size way → IsAddressed s hops way.v
 way_addressed s [] way chosen some at w = absurd (omega arith)
 way_addressed s (hop ∷ hops) way chosen some at w = record {
   chosen = chosen;
@@ -275,11 +275,11 @@ way_addressed s (hop ∷ hops) way chosen some at w = record {
 
 -- what the preimages tell, asked by a copy of the request
 
-pub way_asked : (s : Sought) (hops : List Hop) (rq : Request) (t : End) (way : Way) (rows : List Row) → rq ≡ s.request → t ≡ wanted_name rq hops → AreNormal (IsPreimage s.net s.request.agent (wanted_name s.request hops).node) rows → ((net : List NodeDecl) (agent unit : ℕ) → AreNormal (IsPreimage net agent unit) rows → IsWay net agent (record { node = unit; base = t.base }) rq.size way) → IsWay s.net s.request.agent (wanted_name s.request hops) s.request.size way
+pub way_asked : (s : Sought) (hops : List Hop) (rq : Request) (t : End) (way : Way) (rows : List Row) → rq ≡ s.request → t ≡ wanted_name rq hops → AreNormal (IsPreimage s.net s.request.agent (wanted_name s.request hops).node) rows → ((net : List NodeDecl) (agent unit : ℕ) → AreNormal (IsPreimage net agent unit) rows → IsWayTo net agent (record { node = unit; base = t.base }) rq.size way) → IsWayTo s.net s.request.agent (wanted_name s.request hops) s.request.size way
 way_asked s hops rq t way rows e f n told =
     let w : End = wanted_name s.request hops in
-    subst (λ (q : Request). IsWay s.net s.request.agent w q.size way) e
-    (subst (λ (z : End). IsWay s.net s.request.agent (record { node = w.node; base = z.base }) rq.size way) (f ∙ ap (λ (q : Request). wanted_name q hops) e) (told s.net s.request.agent w.node n))
+    subst (λ (q : Request). IsWayTo s.net s.request.agent w q.size way) e
+    (subst (λ (z : End). IsWayTo s.net s.request.agent (record { node = w.node; base = z.base }) rq.size way) (f ∙ ap (λ (q : Request). wanted_name q hops) e) (told s.net s.request.agent w.node n))
 
 pub none_asked : (s : Sought) (hops : List Hop) (rq : Request) (t : End) (rows : List Row) → rq ≡ s.request → t ≡ wanted_name rq hops → AreNormal (IsPreimage s.net s.request.agent (wanted_name s.request hops).node) rows → ((net : List NodeDecl) (agent unit v : ℕ) → AreNormal (IsPreimage net agent unit) rows → LeadsAlone net agent unit t.base rq.size v → ⊥) → (v : ℕ) → LeadsAlone s.net s.request.agent (wanted_name s.request hops).node (wanted_name s.request hops).base s.request.size v → ⊥
 none_asked s hops rq t rows e f n told = λ v alone.

@@ -9,12 +9,12 @@ use Rattle.dn_placement.specs.Placement.{IsPlacement}
 use Rattle.dn_place.specs.declared.hops.Hops.{Hops}
 use Rattle.dn_place.specs.declared.slot_state.SlotState.{SlotState}
 use Rattle.dn_place.specs.Hops.{hops_view}
-use Rattle.dn_place.specs.Slots.{IsRun, slot_of}
+use Rattle.dn_place.specs.Slots.{IsSlotRun, slot_of}
 use Rattle.dn_place.specs.Sought.{Sought, slot_count}
 
 -- the net, what its nodes reach, the request and the address are those of what is looked for; a slot that is
 -- there may be asked for, and the answer is what a hop meets in it; so may slots that are free, or barred, one after
--- another, and the answer is where they end; a placement may be tested, and the answer is whether it is admissible
+-- another, and up to the answer they are so; a placement may be tested, and the answer is whether it is admissible
 pub record IsSearchProblem {Fault : Type 0} (net : List NodeDecl) (flats : FlatsView) (rq : Request) (at : Option ℕ)
     (may_ask : ℕ → ℕ → Type 0) (asked : ℕ → ℕ → SlotState → Type 0)
     (may_run : ℕ → ℕ → ℕ → Bool → Type 0) (ran : ℕ → ℕ → ℕ → Bool → ℕ → Type 0)
@@ -30,7 +30,7 @@ pub record IsSearchProblem {Fault : Type 0} (net : List NodeDecl) (flats : Flats
   pub can_run : (unit from end : ℕ) (barred : Bool) → end ≤ slot_count (unit_at s.net unit) →
       may_run unit from end barred
   pub is_run : (unit from end : ℕ) (barred : Bool) (to : ℕ) → end ≤ slot_count (unit_at s.net unit) →
-      ran unit from end barred to → IsRun barred s.slots unit from end to
+      ran unit from end barred to → IsSlotRun barred s.slots unit from end to
   pub can_test : (v : ℕ) (hops : Hops) (own : ℕ) →
       IsPlacement s.net s.slots s.request (record { v = v; hops = hops_view hops; own = own }) →
       may_test v hops own

@@ -73,8 +73,8 @@ abbrev pub AreRun : Bool → Slots → ℕ → ℕ → ℕ → Type 0
 AreRun barred slots unit first to = (slot : ℕ) → first ≤ slot → slot < to →
     IsTrue (is_in_run barred (slot_of slots unit slot))
 
--- so they are up to a slot, which is not past an end
-pub record IsRun (barred : Bool) (slots : Slots) (unit first end to : ℕ) : Type 0 where
+-- so they are up to a slot, which is at or after the first one, and not past the end unless that one is
+pub record IsSlotRun (barred : Bool) (slots : Slots) (unit first end to : ℕ) : Type 0 where
   pub onward : first ≤ to
   pub most : first ≤ end → to ≤ end
   pub run : AreRun barred slots unit first to

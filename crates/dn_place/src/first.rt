@@ -5,7 +5,7 @@ ghost use Rattle.dn_kind.specs.Terms.{AreKinds, Meaning, are_rights, kinds_of};
 ghost use Rattle.dn_tables.specs.Terms.{FitsNet, fits_kinds, has_slot, record_kept};
 ghost use Rattle.dn_placement.specs.Terms.{IsAdmissible, IsFirst, IsPlacement, NoneSuited, slots_of_set};
 ghost use Rattle.dn_view.specs.Terms.{IsSystem};
-ghost use Rattle.dn_place.specs.Terms.{IsFirstOrNone, IsHopReach, IsRequest, IsRun, IsSearchReady, hops_view, slot_of};
+ghost use Rattle.dn_place.specs.Terms.{IsFirstOrNone, IsHopReach, IsRequest, IsSlotRun, IsSearchReady, hops_view, slot_of};
 
 use crate::OutOfMemory;
 use crate::blocks::block_of;
@@ -102,7 +102,7 @@ fn by_tables<A: Aim>(
     let run = |unit: u16, from: u32, end: u32, barred: bool| -> u32
         requires { (slot : ℕ) → slot < end → IsTrue (has_slot tables.now unit slot) }
         ensures { (kinds : List Meaning)
-            → IsRun barred (slots_of_set kinds tables.entry.now) unit from end result }
+            → IsSlotRun barred (slots_of_set kinds tables.entry.now) unit from end result }
     { run_end(tables, unit, from, end, barred) };
     let exact = |v: u64, hops: Hops, own: u8| -> Result<bool, OutOfMemory>
         requires system { IsSystem meaning system }

@@ -4,7 +4,7 @@ ghost use Rattle.std.specs.Prelude.{◌≡◌, ℕ, ◌+◌, ◌-◌, ◌<◌, �
 ghost use Rattle.dn_interval.specs.declared.row.End.{End};
 ghost use Rattle.dn_interval.specs.Terms.{AreNormal, EndsFit, in_span, seg_gives, segs_give};
 ghost use Rattle.dn_net.specs.declared.node.NodeDecl.{NodeDecl};
-ghost use Rattle.dn_place.specs.Terms.{ArePreimages, InRow, IsPreimage, IsSearchReady, IsTurned, IsWay, LeadsAlone};
+ghost use Rattle.dn_place.specs.Terms.{ArePreimages, InRow, IsPreimage, IsSearchReady, IsTurned, IsWayTo, LeadsAlone};
 
 use crate::OutOfMemory;
 use crate::quest::Quest;
@@ -39,7 +39,7 @@ pub(crate) fn way_to(rows: &Rows, x: u64, size: u64) -> Option<Way>
     requires { 1 ≤ size }
     ensures some { IfSome result (λ way. (net : List NodeDecl) (agent unit : ℕ) →
         AreNormal (IsPreimage net agent unit) rows.now →
-        IsWay net agent (record { node = unit; base = x }) size way) }
+        IsWayTo net agent (record { node = unit; base = x }) size way) }
     ensures none { IfNone result ((net : List NodeDecl) (agent unit v : ℕ) →
         AreNormal (IsPreimage net agent unit) rows.now →
         LeadsAlone net agent unit x size v → ⊥) }

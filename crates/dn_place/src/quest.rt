@@ -33,7 +33,7 @@ pub(crate) trait Quest {
     ghost use Rattle.dn_placement.specs.Placement.{IsPlacement};
     ghost use Rattle.dn_place.specs.Blocks.{ShowsWithin};
     ghost use Rattle.dn_place.specs.Hops.{hops_view};
-    ghost use Rattle.dn_place.specs.Slots.{IsRun, slot_of};
+    ghost use Rattle.dn_place.specs.Slots.{IsSlotRun, slot_of};
     ghost use Rattle.dn_place.specs.Sought.{Sought, slot_count};
 
     /// What is looked for, and where.
@@ -119,7 +119,7 @@ pub(crate) trait Quest {
     fn run_end(&self, unit: u16, from: u32, end: u32, barred: bool) -> u32
         requires consistent { is_consistent self.now }
         requires within { end ≤ slot_count (unit_at (sought self.now).net unit) }
-        ensures { IsRun barred (sought self.now).slots unit from end result };
+        ensures { IsSlotRun barred (sought self.now).slots unit from end result };
 
     /// Whether the placement with these hops is admissible.
     fn is_exact(&self, v: u64, hops: Hops, own: u8) -> Result<bool, OutOfMemory>

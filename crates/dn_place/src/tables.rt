@@ -5,7 +5,7 @@ ghost use Rattle.dn_kind.specs.Terms.{AreKinds, Meaning, kinds_of};
 ghost use Rattle.dn_tables.specs.Terms.{FitsNet, fits_kinds, has_slot};
 ghost use Rattle.dn_placement.specs.Terms.{is_free_in, is_zero_slot, slots_of_set};
 ghost use Rattle.dn_view.specs.Terms.{IsSystem};
-ghost use Rattle.dn_place.specs.Terms.{IsBarred, IsRun, shared_by, slot_of};
+ghost use Rattle.dn_place.specs.Terms.{IsBarred, IsSlotRun, shared_by, slot_of};
 
 use crate::slot_state::SlotState;
 use crate::slots::{is_barred_slot, power};
@@ -39,7 +39,7 @@ pub(crate) fn slot_at(kinds: &Kinds, tables: &TableSet, unit: u16, slot: u32) ->
 pub(crate) fn run_end(tables: &TableSet, unit: u16, from: u32, end: u32, barred: bool) -> u32
     requires { (slot : ℕ) → slot < end → IsTrue (has_slot tables.now unit slot) }
     ensures { (kinds : List Meaning)
-        → IsRun barred (slots_of_set kinds tables.now) unit from end result }
+        → IsSlotRun barred (slots_of_set kinds tables.now) unit from end result }
 {
     tables.run_end(unit, from, end, barred)
 }

@@ -5,7 +5,7 @@ ghost use Rattle.dn_interval.specs.Terms.{AreNormal};
 ghost use Rattle.dn_net.specs.declared.node.NodeDecl.{NodeDecl};
 ghost use Rattle.dn_kind.specs.Terms.{both_rights};
 ghost use Rattle.dn_placement.specs.Terms.{IsAt, Leads, hop_page};
-ghost use Rattle.dn_place.specs.Terms.{ArePreimages, AreToward, CanOwn, IsAddressed, IsChosen, IsFirstOrNone, IsPreimage, IsSearchReady, IsWay, NoneUnder, PagesBelow, PagesFrom, hops_view, key_of_hops, to_address, to_page, wanted_name};
+ghost use Rattle.dn_place.specs.Terms.{ArePreimages, AreToward, CanOwn, IsAddressed, IsChosen, IsFirstOrNone, IsPreimage, IsSearchReady, IsWayTo, NoneUnder, PagesBelow, PagesFrom, hops_view, key_of_hops, to_address, to_page, wanted_name};
 
 use crate::OutOfMemory;
 use crate::blocks::shows_some;
@@ -131,7 +131,7 @@ fn by_way<Q: Quest>(alloc: Global, quest: &Q, hops: Hops, way: Way) -> FoundPlac
     requires consistent { Q.is_consistent quest.now }
     requires ready { IsSearchReady (Q.sought quest.now) }
     requires addressed { IsAddressed (Q.sought quest.now) (hops_view hops) way.v }
-    requires way { IsWay (Q.sought quest.now).net (Q.sought quest.now).request.agent
+    requires way { IsWayTo (Q.sought quest.now).net (Q.sought quest.now).request.agent
         (wanted_name (Q.sought quest.now).request (hops_view hops))
         (Q.sought quest.now).request.size way }
     ensures { IfOk result (λ found. IsFirstOrNone (Q.sought quest.now)
@@ -151,7 +151,7 @@ fn shows_beside<Q: Quest>(alloc: Global, quest: &Q, hop: Hop, way: Way) -> Resul
     requires consistent { Q.is_consistent quest.now }
     requires ready { IsSearchReady (Q.sought quest.now) }
     requires addressed { IsAddressed (Q.sought quest.now) (hop ∷ []) way.v }
-    requires way { IsWay (Q.sought quest.now).net (Q.sought quest.now).request.agent
+    requires way { IsWayTo (Q.sought quest.now).net (Q.sought quest.now).request.agent
         (wanted_name (Q.sought quest.now).request (hop ∷ []))
         (Q.sought quest.now).request.size way }
     ensures { IfOk result (λ more. IsTrue more → NoneUnder (Q.sought quest.now)

@@ -232,13 +232,13 @@ abbrev pub IsEmpty : List NodeTable → ℕ → ℕ → Type 0
 IsEmpty set node slot =
     slot_words (width_in set node) (words_in set node) slot ≡ replicate (width_in set node) 0
 
--- no live grant uses the slot of a table, and its words are 0
+-- no live grant uses the slot of a table, and its words are 0; so it is of a slot that is not there
 abbrev pub is_clear : Option NodeTable → ℕ → Bool
 is_clear o slot =
     ((slice_index_or (uses_of_table o) slot no_use).uses == 0)
     && list_all (λ w. w == 0) (slot_words (width_of_table o) (words_of_table o) slot)
 
--- a live grant owns the slot of a table, where that is asked, or else it is clear
+-- where that is asked, a live grant owns the slot of a table; else the slot is clear
 abbrev pub IsInRun : Bool → Option NodeTable → ℕ → Type 0
 IsInRun true o slot = IsOwned (slice_index_or (uses_of_table o) slot no_use)
 IsInRun false o slot = IsTrue (is_clear o slot)

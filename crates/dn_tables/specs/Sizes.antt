@@ -1,4 +1,4 @@
--- A device that is none: how many words each unit was given.
+-- A device that keeps no words: how many each unit was given.
 use Rattle.std.specs.Prelude.{true, List, map}
 use Rattle.dn_base.specs.Device.{UnitSize}
 use Rattle.dn_base.specs.Outside.{Faults}

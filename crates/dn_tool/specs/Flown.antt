@@ -34,8 +34,8 @@ books_at book (t ∷ ts) count =
     then books_at t.next.book ts (count - length t.events)
     else if nat_eq count 0 then book ∷ [] else book ∷ t.next.book ∷ []
 
--- A lookup beside a script has flown as lookups do. A book of which the moment speaks at which its start
--- resolved to all of its names owes its start each of them. And where all books of which the moments of
+-- A lookup beside a script has flown as lookups do. At the moment of its life at which its start resolved to all of its
+-- names, a book of which the moment speaks owes its start each of them. And where all books of which the moments of
 -- its life speak owe its start the same names, it has ended with exactly these.
 pub record IsGivenOwed (kinds : List Meaning) (net : List NodeDecl) (turns : List Turn)
     (log : List TableEvent) (events : List Event) (n : ℕ) (l : Lookup) (names : List Name)

@@ -64,7 +64,8 @@ pub record IsReadyOn {K : Type 0} {V : K → Type 0} (means : (k : K) × V k →
   pub state : IsState (kinds_of means m.on.kinds.now) m.on.net.now k
   pub on_device : IsOnDevice k.book.set units words
 
--- a script may be gone through: its commands name nodes that are there, and the state is that before the first of them
+-- a script may be gone through: its commands name nodes that are there, a gather has one to eight pieces, and the state
+-- is that before the first of them
 pub record MayBegin {K : Type 0} {V : K → Type 0} (means : (k : K) × V k → Meaning)
     (m : Machine K V) (k : Kept) (commands : List Command) (units : List UnitSize)
     (words : Option (List UnitWords)) : Type 0 where

@@ -38,7 +38,7 @@ IsFoundOr Is absent (Some found) = Is found
 IsFoundOr Is absent None = absent
 
 -- what a search among some vectors goes by: what is asked for, the marks for the line, and the vectors that are taken
-pub record IsSought {K : Type 0} {V : K → Type 0} (means : (k : K) × V k → Meaning) (a : Asked K V)
+pub record IsVectorSought {K : Type 0} {V : K → Type 0} (means : (k : K) × V k → Meaning) (a : Asked K V)
     (marks : ReachMarks) (set : List Span) : Type 0 where
   pub asked : IsRouteAsked means a
   pub reach : IsHopReach a.system.on.net.now a.agent marks

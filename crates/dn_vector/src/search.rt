@@ -4,7 +4,7 @@ ghost use Rattle.std.specs.Prelude.{◌≡◌, ◌≤◌, ℕ, true, false, All,
 ghost use Rattle.std.specs.List.Sorted.{IsNonDecreasingBy};
 ghost use Rattle.dn_interval.specs.declared.span.TheConstants.{TOP};
 ghost use Rattle.dn_net.specs.Terms.{block_in_range, in_some_block};
-ghost use Rattle.dn_vector.specs.Terms.{HasNoPlace, IsFoundOr, IsLeastBetween, IsLeastOfBlocks, IsLeastVector, IsRouteAsked, IsSought, IsVectorPlaced, NoVector, grant_of_route, is_taken_vector, vector_request};
+ghost use Rattle.dn_vector.specs.Terms.{HasNoPlace, IsFoundOr, IsLeastBetween, IsLeastOfBlocks, IsLeastVector, IsRouteAsked, IsVectorSought, IsVectorPlaced, NoVector, grant_of_route, is_taken_vector, vector_request};
 
 use crate::OutOfMemory;
 use crate::vectors::taken_vectors;
@@ -84,7 +84,7 @@ fn least_of_blocks(
     taken: &SpanSet,
     blocks: &[Block],
 ) -> Result<Option<FoundRoute>, OutOfMemory>
-    requires sought { IsSought meaning asked reach.now taken.now }
+    requires sought { IsVectorSought meaning asked reach.now taken.now }
     requires order { IsNonDecreasingBy (λ b. b.lo) blocks.now }
     requires in_range { All (λ b. IsTrue (block_in_range b)) blocks.now }
     ensures { IfOk result (IsFoundOr
@@ -125,7 +125,7 @@ fn least_between(
     first: u64,
     last: u64,
 ) -> Result<Option<FoundRoute>, OutOfMemory>
-    requires sought { IsSought meaning asked reach.now taken.now }
+    requires sought { IsVectorSought meaning asked reach.now taken.now }
     requires few { last ≤ TOP }
     ensures { IfOk result (IsFoundOr
         (λ f. IsLeastBetween asked.entry.system.on.net.now asked.entry.book.now.grants
@@ -152,7 +152,7 @@ fn placement_of(
     taken: &SpanSet,
     vector: u64,
 ) -> Result<Option<Placement>, OutOfMemory>
-    requires sought { IsSought meaning asked reach.now taken.now }
+    requires sought { IsVectorSought meaning asked reach.now taken.now }
     requires few { vector ≤ TOP }
     ensures { IfOk result (IsFoundOr
         (IsVectorPlaced asked.entry.system.on.net.now asked.entry.book.now.grants

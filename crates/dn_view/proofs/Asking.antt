@@ -13,7 +13,7 @@ use Rattle.dn_walk.proofs.UnitRows.{unit_there}
 use Rattle.dn_kind.specs.declared.rights.Access.{Access}
 use Rattle.dn_kind.specs.Rights.{allows}
 use Rattle.dn_kind.specs.Tables.{Held}
-use Rattle.dn_flat.specs.Levels.{AreFlats, FlatsView, is_among, leads_to_units, sees, units_in}
+use Rattle.dn_flat.specs.Levels.{AreFlats, FlatsView, is_among, leads_to_units, is_listed_for, units_in}
 use Rattle.dn_tables.specs.declared.placement.Hop.{Hop}
 use Rattle.dn_tables.specs.Placement.{Place}
 use Rattle.dn_placement.specs.declared.request.Request.{Request}
@@ -46,7 +46,7 @@ module _ (net : List NodeDecl) (legal : IsLegalNet net) (flats : FlatsView) (are
           let listed : Among net Exact (slice_index_or flats.seers.by_unit f.0.unit []) = member_of_all (λ (hop : Hop). Among net Exact (slice_index_or flats.seers.by_unit hop.unit [])) p.hops f.0 seen f.1 in
           let same : u ≡ f.0.unit = eqb-true u f.0.unit f.2 in
           let within : f.0.unit < length flats.seers.by_unit = subst (λ n. f.0.unit < n) (sym are.seers.listed.every) (unit_there net f.0.unit (ap is_some fit.is_unit)) in
-          elim (or_cases (is_among m flats.seers.onward) (sees flats.seers.by_unit f.0.unit m) ((are.seers.listed.each m (agent_there net m agent) agent).each f.0.unit within (subst (λ n. is_among n (units_in (slice_get flats.nodes m)) ≡ true) same there))) [
+          elim (or_cases (is_among m flats.seers.onward) (is_listed_for flats.seers.by_unit f.0.unit m) ((are.seers.listed.each m (agent_there net m agent) agent).each f.0.unit within (subst (λ n. is_among n (units_in (slice_get flats.nodes m)) ≡ true) same there))) [
             | inl k ↦ onward m k agent
             | inr k ↦ listed m k agent
           ]

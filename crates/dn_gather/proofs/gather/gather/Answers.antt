@@ -46,5 +46,5 @@ returns-in-Ok-commit_pieces g c =
     let same : c.reserve.new.self.grants ≡ c.args.book.now.grants = search rules in
     let appended : c.commit_pieces.new.book.grants ≡ c.args.book.now.grants ++ gs = all_appended _ _ _ _ _ _ _ _ _ c.in-Ok-commit_pieces.ensures.committed ∙ ap (λ (b : List Grant). b ++ gs) same in
     made_done _ (search rules) (search rules)
-    (λ faithful. subst (λ (b : List Grant). IsFaithful c.args.system.on.net.now b) (sym appended) ((pieces_keep_book c.args.system.on.net.now c.args.book.now.grants c.args.agent c.args.rights c.in-Ok-Some.scatter.unit c.in-Ok-Some.scatter.v c.args.pieces.now c.in-Ok-Some.scatter.hops c.requires.ready.sees.kinded.legal.legal c.requires.ready.change.kept.sound (come g at)).1 faithful (placed g at).first.suited.are_admissible))
+    (λ faithful. subst (λ (b : List Grant). IsFaithful c.args.system.on.net.now b) (sym appended) ((pieces_keep_book c.args.system.on.net.now c.args.book.now.grants c.args.agent c.args.rights c.in-Ok-Some.scatter.unit c.in-Ok-Some.scatter.v c.args.pieces.now c.in-Ok-Some.scatter.hops c.requires.ready.is_system.kinded.legal.legal c.requires.ready.change.kept.sound (come g at)).1 faithful (placed g at).first.suited.are_admissible))
     (search rules)

@@ -33,7 +33,7 @@ returns-in-Err-Device g c = failed_done (search rules) (search rules) (record {
 
 pub returns-in-Ok-None : goal.returns-in-Ok-None
 returns-in-Ok-None g c = refused_done NoPlacement c.requires.ready.change (
-  unplaced c.args.system.on.net.now c.args.book.now.grants c.args.id c.args.request.now c.requires.ready.sees.kinded.legal.legal c.requires.ready.change.kept.sound
+  unplaced c.args.system.on.net.now c.args.book.now.grants c.args.id c.args.request.now c.requires.ready.is_system.kinded.legal.legal c.requires.ready.change.kept.sound
       (c.refusal.ensures.none c.in_default.is) c.requires.rights (c.in-Ok-None.ensures.none c.in-Ok-None.field-0-is),
   refl,
 )
@@ -42,5 +42,5 @@ pub returns-in-Ok : goal.returns-in-Ok
 returns-in-Ok g c =
     let is = placed g (goal.at.returns-in-Ok g c).In-Ok-Some in
     made_done _ (record { place = c.in-Ok-Some.placement; placed = is; address = c.v-v.ensures; appended = c.in-Ok.ensures.granted }) (search rules)
-    (still_faithful c.args.system.on.net.now c.args.book.now.grants _ c.args.id c.args.request.now c.in-Ok-Some.placement c.requires.ready.sees.kinded.legal.legal c.requires.ready.change.kept.sound is.allowed c.requires.rights is.first c.in-Ok.ensures.granted)
+    (still_faithful c.args.system.on.net.now c.args.book.now.grants _ c.args.id c.args.request.now c.in-Ok-Some.placement c.requires.ready.is_system.kinded.legal.legal c.requires.ready.change.kept.sound is.allowed c.requires.rights is.first c.in-Ok.ensures.granted)
     (record { place = c.in-Ok-Some.placement; placed = is; added = c.in-Ok.ensures.added (λ e. cc); caught = λ f. cc })

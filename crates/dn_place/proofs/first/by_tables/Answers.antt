@@ -9,7 +9,7 @@ use Rattle.dn_placement.specs.Exposure.{IsAdmissible}
 use Rattle.dn_placement.specs.Placement.{IsPlacement}
 use Rattle.dn_place.specs.Hops.{hops_view}
 use Rattle.dn_place.specs.Reaches.{IsHopReach}
-use Rattle.dn_place.specs.Slots.{IsRun, slot_of}
+use Rattle.dn_place.specs.Slots.{IsSlotRun, slot_of}
 use Rattle.dn_place.specs.Sought.{Sought, slot_count}
 use Rattle.dn_place.proofs.Readies.{slot_in_set}
 use Rattle.dn_place.proofs.first.by_tables.Goals as goal
@@ -26,7 +26,7 @@ first_of-requires-clause-consistent g c =
       can_ask = λ unit slot l. (record { lawful = c.requires.system.kinded.lawful }, (c.requires.fits.wide, slot_in_set kinds c.args.system.on.net.now c.args.tables.now unit slot c.requires.fits (subst (λ (n : List NodeDecl). slot < slot_count (unit_at n unit)) (sym net) l)));
       is_met = λ unit slot found l posted. subst (λ (s : Sought). found ≡ slot_of s.slots unit slot) (sym c.requires.aim) posted;
       can_run = λ unit from end barred l slot k. slot_in_set kinds c.args.system.on.net.now c.args.tables.now unit slot c.requires.fits (subst (λ (n : List NodeDecl). slot < slot_count (unit_at n unit)) (sym net) (omega (arith, k, l)));
-      is_run = λ unit from end barred to l posted. subst (λ (s : Sought). IsRun barred s.slots unit from end to) (sym c.requires.aim) (posted kinds);
+      is_run = λ unit from end barred to l posted. subst (λ (s : Sought). IsSlotRun barred s.slots unit from end to) (sym c.requires.aim) (posted kinds);
       can_test = λ v hops own p. (c.requires.system, (c.requires.fits, (c.requires.rights, (slice_get_within (hops_view hops) own p.own p.is_own, subst (λ (s : Sought). IsPlacement s.net s.slots s.request (record { v = v; hops = hops_view hops; own = own })) c.requires.aim p))));
       is_tested = λ v hops own answer p posted. subst (λ (s : Sought). IfOk answer (λ yes. IsTrue yes ↔ IsAdmissible s.net s.slots.held s.request (record { v = v; hops = hops_view hops; own = own }))) (sym c.requires.aim) posted.1;
     }

@@ -5,7 +5,7 @@ use Rattle.dn_net.specs.Decode.{unit_at}
 use Rattle.dn_flat.specs.Levels.{AreFlats}
 use Rattle.dn_placement.specs.Exposure.{IsAdmissible}
 use Rattle.dn_place.specs.Hops.{hops_view}
-use Rattle.dn_place.specs.Slots.{IsRun, slot_of}
+use Rattle.dn_place.specs.Slots.{IsSlotRun, slot_of}
 use Rattle.dn_place.specs.Sought.{Sought}
 use Rattle.dn_place.proofs.lone.lone_exits.Goals as goal
 
@@ -20,7 +20,7 @@ keep_lone-requires-clause-consistent g c =
       can_ask = λ unit slot l. tt;
       is_met = λ unit slot found l posted. subst (λ (s : Sought). found ≡ slot_of s.slots unit slot) (sym c.requires.aim) posted;
       can_run = λ unit from end barred l. tt;
-      is_run = λ unit from end barred to l posted. subst (IsRun barred g.A.Aim.sought.slots unit from end) (sym posted) (record { onward = omega arith; most = λ m. m; run = λ slot a b. absurd (omega (arith, a, b)) });
+      is_run = λ unit from end barred to l posted. subst (IsSlotRun barred g.A.Aim.sought.slots unit from end) (sym posted) (record { onward = omega arith; most = λ m. m; run = λ slot a b. absurd (omega (arith, a, b)) });
       can_test = λ v hops own p. tt;
       is_tested = λ v hops own answer p posted. IfOk-weaker answer _ (λ yes. IsTrue yes ↔ IsAdmissible g.A.Aim.sought.net g.A.Aim.sought.slots.held g.A.Aim.sought.request (record { v = v; hops = hops_view hops; own = own })) (λ yes none. absurd none) posted.1;
     }

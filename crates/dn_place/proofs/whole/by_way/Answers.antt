@@ -2,7 +2,7 @@ use Rattle.std.proofs.Common.{length, sym, subst}
 use Rattle.dn_place.specs.declared.hops.Hops.{Hops}
 use Rattle.dn_place.specs.Candidates.{IsAddressed, NoneUnder, to_address}
 use Rattle.dn_place.specs.Hops.{hops_view}
-use Rattle.dn_place.specs.Preimages.{IsWay}
+use Rattle.dn_place.specs.Preimages.{IsWayTo}
 use Rattle.dn_place.specs.Rows.{wanted_name}
 use Rattle.dn_place.proofs.whole.by_way.Goals as goal
 
@@ -12,7 +12,7 @@ shows_beside-requires-clause-addressed g c = subst (λ (h : Hops). IsAddressed (
 pub shows_beside-requires-clause-way : goal.shows_beside-requires-clause-way
 shows_beside-requires-clause-way g c =
     let s = g.Q.Quest.sought c.args.quest.now in
-    subst (λ (h : Hops). IsWay s.net s.request.agent (wanted_name s.request (hops_view h)) s.request.size c.args.way) c.in-One.is c.requires.way
+    subst (λ (h : Hops). IsWayTo s.net s.request.agent (wanted_name s.request (hops_view h)) s.request.size c.args.way) c.in-One.is c.requires.way
 
 pub returns-then-branch : goal.returns-then-branch
 returns-then-branch g c =

@@ -18,7 +18,7 @@ placed g c = record {
 pub least_vector-requires : goal.least_vector-requires
 least_vector-requires g c =
     let is = allowed_is c.args.system.on.net.now c.args.book.now.grants c.args.id c.args.agent c.args.node (c.refusal.ensures.none c.in_default.is) in
-    record { asked = record { system = c.requires.sees; kept = c.requires.change.kept; agent = is.agent_is; target = is.target } }
+    record { asked = record { system = c.requires.is_system; kept = c.requires.change.kept; agent = is.agent_is; target = is.target } }
 
 pub commit-requires-clause-placed : goal.commit-requires-clause-placed
 commit-requires-clause-placed g c =
@@ -27,7 +27,7 @@ commit-requires-clause-placed g c =
 
 pub returns-in-Ok-None : goal.returns-in-Ok-None
 returns-in-Ok-None g c = refused_done NoPlacement c.requires.change (
-  unplaced c.args.system.on.net.now c.args.book.now.grants c.args.id c.args.agent c.args.line c.args.node c.requires.sees.kinded.legal.legal c.requires.change.kept.sound
+  unplaced c.args.system.on.net.now c.args.book.now.grants c.args.id c.args.agent c.args.line c.args.node c.requires.is_system.kinded.legal.legal c.requires.change.kept.sound
       (c.refusal.ensures.none c.in_default.is) (rw c.in-Ok-None.field-0-is at c.in-Ok-None.ensures),
   refl,
 )
@@ -46,5 +46,5 @@ returns-in-Ok g c =
     made_done _
     (placed_made c.args.system.on.net.now c.args.book.now.grants _ c.args.id c.args.agent c.args.line c.args.node c.in-Ok-Some.found.vector c.in-Ok-Some.found.placement c.grant-grant.result c.grant-grant.ensures is c.in-Ok.ensures.granted)
     (search rules)
-    (still_faithful c.args.system.on.net.now c.args.book.now.grants _ c.args.id c.args.agent c.args.line c.args.node c.in-Ok-Some.found.vector c.in-Ok-Some.found.placement c.grant-grant.result c.grant-grant.ensures c.requires.sees.kinded.legal.legal c.requires.change.kept.sound is c.in-Ok.ensures.granted)
+    (still_faithful c.args.system.on.net.now c.args.book.now.grants _ c.args.id c.args.agent c.args.line c.args.node c.in-Ok-Some.found.vector c.in-Ok-Some.found.placement c.grant-grant.result c.grant-grant.ensures c.requires.is_system.kinded.legal.legal c.requires.change.kept.sound is c.in-Ok.ensures.granted)
     (placed_logged c.args.system.on.net.now _ c.args.book.now.grants _ c.args.id c.args.agent c.args.line c.args.node c.in-Ok-Some.found.vector c.in-Ok-Some.found.placement c.grant-grant.result _ _ _ _ c.grant-grant.ensures is (c.in-Ok.ensures.added (λ e. cc)) (λ f. cc))
