@@ -21,19 +21,19 @@ use Rattle.dn_tables.specs.Writes.{AreUnitsMade}
 use Rattle.dn_book.specs.Tables.{IsKept, tables_of}
 use Rattle.dn_demo.specs.declared.summary.Summary.{Summary}
 use Rattle.dn_demo.specs.Summary.{summary_text}
-use Rattle.dn_tool.specs.declared.halt.RunHalt.{RunHalt}
-use Rattle.dn_tool.specs.declared.halt.RunHalt.TheVariants.{WriteFault, DeviceFault, NoMemory}
-use Rattle.dn_tool.specs.Books.{GivesOwed}
+use Rattle.dn_script.specs.declared.halt.RunHalt.{RunHalt}
+use Rattle.dn_script.specs.declared.halt.RunHalt.TheVariants.{WriteFault, DeviceFault, NoMemory}
+use Rattle.dn_script.specs.Books.{GivesOwed}
 use Rattle.dn_tool.specs.Demo.{IsShown, IsSummedUp, has_granted, has_revoked, passing_turns, sum_below, summary_of, summary_with}
-use Rattle.dn_tool.specs.Halt.{ending_status, is_device_halt, is_write_halt, make_halt}
-use Rattle.dn_tool.specs.Played.{IsPlayed, make_turn}
-use Rattle.dn_tool.specs.State.{CameThrough, IsChanged, IsTurned}
-use Rattle.dn_tool.specs.Stopped.{IsStopped}
-use Rattle.dn_tool.specs.Turn.{IsTurn, State, Turn, is_change, reply, reply_turn, start, state_after}
-use Rattle.dn_tool.proofs.Played.{IsGone, gone_more, gone_start, halted_by, halted_unmade, more_turns, played_whole, turns_count, unmade_by, whole_turns}
-use Rattle.dn_tool.proofs.Changes.{still_turn}
-use Rattle.dn_tool.proofs.Kept.{IsLawfulNet}
-use Rattle.dn_tool.proofs.Stopped.{words_told}
+use Rattle.dn_script.specs.Halt.{ending_status, is_device_halt, is_write_halt, make_halt}
+use Rattle.dn_script.specs.Played.{IsPlayed, make_turn}
+use Rattle.dn_script.specs.State.{CameThrough, IsChanged, IsTurned}
+use Rattle.dn_script.specs.Stopped.{IsStopped}
+use Rattle.dn_script.specs.Turn.{IsTurn, State, Turn, is_change, reply, reply_turn, start, state_after}
+use Rattle.dn_script.proofs.Played.{IsGone, gone_more, gone_start, halted_by, halted_unmade, more_turns, played_whole, turns_count, unmade_by, whole_turns}
+use Rattle.dn_script.proofs.Changes.{still_turn}
+use Rattle.dn_script.proofs.Kept.{IsLawfulNet}
+use Rattle.dn_script.proofs.Stopped.{words_told}
 
 -- a test that passes counts one at most
 pub one_at_most : (b : Bool) → (if b then 1 else 0) ≤ 1

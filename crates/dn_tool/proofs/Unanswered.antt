@@ -20,16 +20,16 @@ use Rattle.dn_words.specs.declared.words.Task.TheVariants.{Run, Check, Audit, De
 use Rattle.dn_words.specs.Words.{task_of}
 use Rattle.dn_tool.specs.Answer.{Answer, IsAnswered, answer, asked_answer, bytes_answer, commands_answer, compiled_answer, played, said, shown, task_answer, task_bytes, text_answer, too_long_line}
 use Rattle.dn_tool.specs.Compiled.{Compilation, compilation, with_refusal}
-use Rattle.dn_tool.specs.declared.halt.RunHalt.{RunHalt}
-use Rattle.dn_tool.specs.Halt.{ending_status, is_free_status, make_halt}
+use Rattle.dn_script.specs.declared.halt.RunHalt.{RunHalt}
+use Rattle.dn_script.specs.Halt.{ending_status, is_free_status, make_halt}
 use Rattle.dn_tool.specs.Input.{Parts, is_too_long, parts_of}
-use Rattle.dn_tool.specs.Played.{IsPlayed}
+use Rattle.dn_script.specs.Played.{IsPlayed}
 use Rattle.dn_tool.proofs.Demos.{shown_unmade}
 use Rattle.dn_tool.proofs.Inputs.{is_shown}
-use Rattle.dn_tool.proofs.Kept.{IsLawfulNet}
-use Rattle.dn_tool.proofs.Played.{unmade_by}
+use Rattle.dn_script.proofs.Kept.{IsLawfulNet}
+use Rattle.dn_script.proofs.Played.{unmade_by}
 use Rattle.dn_tool.proofs.Reread.{compiled_is_legal}
-use Rattle.dn_tool.proofs.Scripts.{added_given}
+use Rattle.dn_script.proofs.Scripts.{added_given}
 
 -- nothing of a script was done
 unplayed : (kinds : List Meaning) (net : List NodeDecl) (commands : List Command) (status : ℕ) (b d : Option (List ℕ)) (log log' : Option (List TableEvent)) (told' : Option (List UnitWords)) → All IsLawful kinds → IsLegalWith kinds net → is_free_status status ≡ true → (status == 3) ≡ false → (status == 6) ≡ false → d ≡ b → log' ≡ log → IsPlayed kinds net commands status b d log log' told'

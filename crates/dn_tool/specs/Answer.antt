@@ -15,9 +15,9 @@ use Rattle.dn_module.specs.Expand.{Expansion}
 use Rattle.dn_tool.specs.Audited.{Outcome, image_answer}
 use Rattle.dn_tool.specs.Compiled.{compilation, with_refusal}
 use Rattle.dn_tool.specs.Demo.{IsShown}
-use Rattle.dn_tool.specs.Halt.{is_free_status}
+use Rattle.dn_script.specs.Halt.{is_free_status}
 use Rattle.dn_tool.specs.Input.{Parts, is_too_long, parts_of}
-use Rattle.dn_tool.specs.Played.{IsPlayed}
+use Rattle.dn_script.specs.Played.{IsPlayed}
 use Rattle.dn_tool.specs.declared.refusal.Refusal.{Refusal}
 
 -- a status and the output; or a net, whose commands are answered one after the other, or gone through

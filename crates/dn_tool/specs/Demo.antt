@@ -19,9 +19,9 @@ use Rattle.dn_book.specs.declared.grant.Grant.{Grant as GrantPart}
 use Rattle.dn_book.specs.Tables.{tables_of}
 use Rattle.dn_demo.specs.declared.summary.Summary.{Summary}
 use Rattle.dn_demo.specs.Summary.{summary_text}
-use Rattle.dn_tool.specs.Played.{IsPlayed, make_turn}
-use Rattle.dn_tool.specs.Turn.{State, Turn, start, state_after}
-use Rattle.dn_tool.specs.Viewed.{owed_rows}
+use Rattle.dn_script.specs.Played.{IsPlayed, make_turn}
+use Rattle.dn_script.specs.Turn.{State, Turn, start, state_after}
+use Rattle.dn_script.specs.Viewed.{owed_rows}
 
 -- the command is `grant`
 abbrev pub is_grant : Command → Bool

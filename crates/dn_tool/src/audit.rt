@@ -6,15 +6,13 @@ ghost use Rattle.std.specs.String.{string_bytes};
 ghost use Rattle.dn_kind.specs.Terms.{kinds_of};
 ghost use Rattle.dn_image.specs.Terms.{image_fault_view};
 ghost use Rattle.dn_audit.specs.Terms.{audit_reading, audit_text, is_within_nodes, report_told};
-ghost use Rattle.dn_tool.specs.Terms.{HaltsBySink, IsMachine, IsOutcome, IsSaid, audit_answer, broken_line, ending_status, image_answer};
+ghost use Rattle.dn_script.specs.Terms.{HaltsBySink, IsMachine, ending_status};
+ghost use Rattle.dn_tool.specs.Terms.{IsOutcome, IsSaid, audit_answer, broken_line, image_answer};
 
 use crate::OutOfMemory;
-use crate::halt::RunHalt;
-use crate::machine::Machine;
-use crate::output::say;
 use crate::refusal::REFUSED;
 use crate::report::write_report;
-use crate::script::DONE;
+use crate::said::say;
 use dn_audit::audit::audit;
 use dn_audit::fault::AuditFault;
 use dn_audit::report::AuditReport;
@@ -23,6 +21,9 @@ use dn_base::sink::Sink;
 use dn_flat::flats::flatten_all;
 use dn_image::fault::ImageFault;
 use dn_net::net::Net;
+use dn_script::halt::RunHalt;
+use dn_script::machine::Machine;
+use dn_script::script::DONE;
 use dn_view::system::System;
 use std::alloc::Global;
 

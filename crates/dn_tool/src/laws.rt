@@ -1,7 +1,8 @@
 //! Laws on scripts, on the rows that they print and on the nets that commands make, each the
 //! contract of a function that does nothing.
 
-ghost use Rattle.dn_tool.specs.Terms.{AbsorbIsReadBack, BooksStayFaithful, CompiledIsReadBack, FaithfulImageGivesOwed, LookupsAreGiven, OwedRowsAreNormal, SplitIsReadBack, TurnIsOne, TurnsAreOne};
+ghost use Rattle.dn_script.specs.Terms.{BooksStayFaithful, FaithfulImageGivesOwed, LookupsAreGiven, OwedRowsAreNormal, TurnIsOne, TurnsAreOne};
+ghost use Rattle.dn_tool.specs.Terms.{AbsorbIsReadBack, CompiledIsReadBack, SplitIsReadBack};
 
 /// The book after each number of the turns of a script over a legal net is sound and faithful.
 pub fn books_stay_faithful()

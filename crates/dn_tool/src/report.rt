@@ -3,15 +3,15 @@
 ghost use Rattle.std.specs.Prelude.{length, map, IsTrue};
 ghost use Rattle.std.specs.List.{flat_map, list_all};
 ghost use Rattle.dn_audit.specs.Terms.{audit_text, is_seen_within, is_within_nodes, report_told, seen_text, seen_told};
-ghost use Rattle.dn_tool.specs.Terms.{HaltsBySink, Writes};
+ghost use Rattle.dn_script.specs.Terms.{HaltsBySink, Writes};
 
-use crate::halt::RunHalt;
-use crate::lines::{write_lines, write_rows};
-use crate::output::write_output;
 use dn_audit::report::{AuditReport, Seen};
 use dn_audit::text::{heading_text, seen_heading};
 use dn_base::sink::Sink;
 use dn_net::net::Net;
+use dn_script::halt::RunHalt;
+use dn_script::lines::{write_lines, write_rows};
+use dn_script::output::write_output;
 use std::alloc::Global;
 
 /// Writes the text of a report: its heading, then view by view, and then a line for each slot with a shut-out

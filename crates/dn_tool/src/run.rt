@@ -7,22 +7,17 @@ ghost use Rattle.dn_base.specs.Terms.{AtEnd, IsCounted, Taken, TakenAtMost, inpu
 ghost use Rattle.dn_kind.specs.Terms.{AreKinds, kinds_of, shape_fault};
 ghost use Rattle.dn_module.specs.Terms.{names_within};
 ghost use Rattle.dn_words.specs.Terms.{task_of};
-ghost use Rattle.dn_tool.specs.Terms.{HaltsByEither, HaltsBySink, IsAnswered, IsInput, IsMachine, IsSaid, MayRun, answer, bytes_answer, commands_answer, demo_answer, ending_status, is_script, limit_for, parts_view, reads, task_answer, text_answer, usage};
+ghost use Rattle.dn_script.specs.Terms.{HaltsByEither, HaltsBySink, IsMachine, MayRun, ending_status};
+ghost use Rattle.dn_tool.specs.Terms.{IsAnswered, IsInput, IsSaid, answer, bytes_answer, commands_answer, demo_answer, is_script, limit_for, parts_view, reads, task_answer, text_answer, usage};
 ghost use Rattle.dn_print.specs.Terms.{net_text};
 
 use crate::audit::answer_image;
 use crate::compile::{CompileFault, Platform};
 use crate::demo::play_all;
-use crate::halt::{RunHalt, status_of};
-pub use crate::halt::{DEVICE_FAULT, NO_MEMORY, WRITE_FAULT};
 use crate::input::{Input, is_too_long, parts_of, read_input};
-use crate::machine::Machine;
-use crate::output::{say, write_net};
 pub use crate::refusal::REFUSED;
 use crate::refusal::Refusal;
-pub use crate::script::DONE;
-use crate::script::answer_all;
-use crate::state::Session;
+use crate::said::{say, write_net};
 use crate::{OutOfMemory, compile};
 use dn_base::device::Tables;
 use dn_base::sink::Sink;
@@ -32,6 +27,12 @@ use dn_demo::text::demo_text;
 use dn_kind::kinded::KindedNet;
 use dn_kind::kinds::Kinds;
 use dn_module::commands::Commands;
+pub use dn_script::halt::{DEVICE_FAULT, NO_MEMORY, WRITE_FAULT};
+use dn_script::halt::{RunHalt, status_of};
+use dn_script::machine::Machine;
+pub use dn_script::script::DONE;
+use dn_script::script::answer_all;
+use dn_script::state::Session;
 use dn_words::words::{Task, Words};
 use std::alloc::Global;
 

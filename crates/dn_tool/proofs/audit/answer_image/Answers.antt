@@ -1,7 +1,7 @@
 use Rattle.std.proofs.Common.{rules, ◌≡◌, subst, List, ℕ}
 use Rattle.dn_tool.specs.Answer.{IsSaid}
 use Rattle.dn_tool.specs.Audited.{no_image_line}
-use Rattle.dn_tool.specs.Halt.{ending_status}
+use Rattle.dn_script.specs.Halt.{ending_status}
 use Rattle.dn_tool.proofs.audit.answer_image.Goals as goal
 
 pub returns-in-None-clause-said : goal.returns-in-None-clause-said

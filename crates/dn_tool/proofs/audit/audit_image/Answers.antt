@@ -10,7 +10,7 @@ use Rattle.dn_audit.specs.Audit.{IsAudited, IsBroken}
 use Rattle.dn_audit.specs.Told.{ToldAudit, audit_fault_view, audit_reading}
 use Rattle.dn_tool.specs.Answer.{IsOutcome, IsSaid}
 use Rattle.dn_tool.specs.Audited.{audit_answer, broken_line}
-use Rattle.dn_tool.specs.Halt.{ending_status}
+use Rattle.dn_script.specs.Halt.{ending_status}
 use Rattle.dn_tool.proofs.audit.audit_image.Goals as goal
 
 -- bytes that are no image are answered by the line of what is wrong with them

@@ -4,7 +4,7 @@ use Rattle.std.proofs.lemmas.Result.{IfOk-weaker}
 use Rattle.dn_image.specs.Reading.{image_fault_view}
 use Rattle.dn_audit.specs.Text.{broken_text}
 use Rattle.dn_tool.specs.Audited.{broken_line}
-use Rattle.dn_tool.proofs.Endings.{if_some}
+use Rattle.dn_script.proofs.Endings.{if_some}
 use Rattle.dn_tool.proofs.audit.broken_line.Goals as goal
 
 pub returns : goal.returns

@@ -1,11 +1,17 @@
-use Rattle.std.proofs.Common.{rules, ◌≡◌, ◌∙◌, sym, subst, ℕ, List, IfSome}
+use Rattle.std.proofs.Common.{rules, ◌≡◌, ◌∙◌, refl, sym, subst, ℕ, List, Option, Some, None, IfSome}
 use Rattle.std.specs.String.{string_bytes}
+use Rattle.dn_base.proofs.Told.{written_none}
 use Rattle.dn_image.specs.Reading.{image_fault_view}
 use Rattle.dn_tool.specs.Answer.{IsSaid}
 use Rattle.dn_tool.specs.Audited.{broken_line}
-use Rattle.dn_tool.specs.Halt.{ending_status}
-use Rattle.dn_tool.proofs.Endings.{if_some, unsaid}
+use Rattle.dn_script.specs.Halt.{ending_status}
+use Rattle.dn_script.proofs.Endings.{if_some}
 use Rattle.dn_tool.proofs.audit.refuse_image.Goals as goal
+
+-- of an output that may be there nothing was written, for want of memory
+unsaid : {A : Type 0} (o : Option A) (own : ℕ) (output : A → List ℕ) (told : Option (List ℕ)) → IfSome o (λ a. IsSaid own (output a) 7 told told)
+unsaid None own output told = tt
+unsaid (Some a) own output told = record { exact = λ e. cc; written = written_none told told (output a) refl }
 
 pub returns-in_err-line-clause-said : goal.returns-in_err-line-clause-said
 returns-in_err-line-clause-said g c =

@@ -7,7 +7,7 @@ use Rattle.dn_module.specs.Finish.{outcome_view}
 use Rattle.dn_tool.proofs.WalkFaults.{walk_fault_within}
 use Rattle.dn_tool.proofs.NodeFaults.{fault_within}
 use Rattle.dn_tool.proofs.Refusals.{nodes_refused, unit_refused, walks_refused}
-use Rattle.dn_tool.proofs.Shaped.{shape_fault_within}
+use Rattle.dn_script.proofs.Shaped.{shape_fault_within}
 use Rattle.dn_tool.proofs.compile.platform_of.Goals as goal
 
 pub node_refusal-requires : goal.node_refusal-requires

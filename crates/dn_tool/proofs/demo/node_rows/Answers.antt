@@ -11,8 +11,8 @@ use Rattle.dn_kind.specs.Tables.{allowing}
 use Rattle.dn_tables.specs.declared.table.NodeTable.{NodeTable}
 use Rattle.dn_tables.specs.Set.{record_kept}
 use Rattle.dn_view.specs.Views.{AreViewed}
-use Rattle.dn_tool.specs.Viewed.{owed_rows}
-use Rattle.dn_tool.proofs.Seen.{rows_are_owed}
+use Rattle.dn_script.specs.Viewed.{owed_rows}
+use Rattle.dn_script.proofs.Seen.{rows_are_owed}
 use Rattle.dn_tool.proofs.demo.node_rows.Goals as goal
 
 pub returns : goal.returns

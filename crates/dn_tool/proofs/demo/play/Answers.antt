@@ -1,11 +1,11 @@
 use Rattle.std.proofs.Common.{◌≡◌, sym, subst, rules, List, Result, Err, None}
 use Rattle.dn_kind.specs.Kind.{Meaning}
 use Rattle.dn_kind.specs.Kinded.{kinds_of}
-use Rattle.dn_tool.specs.declared.halt.RunHalt.{RunHalt}
-use Rattle.dn_tool.specs.State.{CameThrough, state_view}
-use Rattle.dn_tool.specs.Turn.{IsTurn, Turn}
+use Rattle.dn_script.specs.declared.halt.RunHalt.{RunHalt}
+use Rattle.dn_script.specs.State.{CameThrough, state_view}
+use Rattle.dn_script.specs.Turn.{IsTurn, Turn}
 use Rattle.dn_tool.proofs.Demos.{quiet_changed, quiet_still}
-use Rattle.dn_tool.proofs.Stopped.{handed_on}
+use Rattle.dn_script.proofs.Stopped.{handed_on}
 use Rattle.dn_tool.proofs.demo.play.Goals as goal
 
 pub returns-then-not-is_change-clause-through : goal.returns-then-not-is_change-clause-through

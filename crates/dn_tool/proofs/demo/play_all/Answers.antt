@@ -7,12 +7,12 @@ use Rattle.dn_book.specs.declared.grant.Grant.{Grant}
 use Rattle.dn_module.specs.declared.command.Command.{Command}
 use Rattle.dn_module.specs.Commands.{names_within}
 use Rattle.dn_tool.specs.Demo.{has_granted, has_revoked}
-use Rattle.dn_tool.specs.Halt.{ending_status}
-use Rattle.dn_tool.specs.State.{state_view}
+use Rattle.dn_script.specs.Halt.{ending_status}
+use Rattle.dn_script.specs.State.{state_view}
 use Rattle.dn_tool.proofs.Demos.{IsTallied, line_status, one_at_most, shown_halted, shown_unread, shown_written, tallied_more, tallied_start}
-use Rattle.dn_tool.proofs.Endings.{device_halts, halts_again, halts_later, memory_halts, sink_halts}
-use Rattle.dn_tool.proofs.Places.{first_place, first_rest, known_next, place, told_end, told_next}
-use Rattle.dn_tool.proofs.Kept.{machine_lawful, machine_owed}
+use Rattle.dn_script.proofs.Endings.{device_halts, halts_again, halts_later, memory_halts, sink_halts}
+use Rattle.dn_script.proofs.Places.{first_place, first_rest, known_next, place, told_end, told_next}
+use Rattle.dn_script.proofs.Kept.{machine_lawful, machine_owed}
 use Rattle.dn_tool.proofs.demo.play_all.Goals as goal
 
 pub commands-init : goal.commands-init

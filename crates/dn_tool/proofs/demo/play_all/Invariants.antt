@@ -3,8 +3,8 @@ use Rattle.std.specs.List.{list_all}
 use Rattle.dn_base.specs.Outside.{IsCounted}
 use Rattle.dn_kind.specs.Kinded.{kinds_of}
 use Rattle.dn_module.specs.Commands.{names_within}
-use Rattle.dn_tool.specs.State.{IsReadyOn, state_view}
-use Rattle.dn_tool.proofs.Places.{place}
+use Rattle.dn_script.specs.State.{IsReadyOn, state_view}
+use Rattle.dn_script.proofs.Places.{place}
 use Rattle.dn_tool.proofs.Demos.{IsTalliedOn}
 use Rattle.dn_tool.proofs.demo.play_all.Given as goal
 

@@ -1,4 +1,4 @@
-use Rattle.dn_tool.proofs.Scripts.{lookups_are_given}
+use Rattle.dn_script.proofs.Scripts.{lookups_are_given}
 use Rattle.dn_tool.proofs.laws.lookups_are_given.Goals as goal
 
 pub returns : goal.returns

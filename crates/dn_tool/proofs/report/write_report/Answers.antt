@@ -8,8 +8,8 @@ use Rattle.dn_audit.specs.declared.report.Shared.{Shared}
 use Rattle.dn_audit.specs.declared.report.Shut.{Shut}
 use Rattle.dn_audit.specs.Text.{audit_heading, seen_text, shared_text, shut_text}
 use Rattle.dn_audit.specs.Told.{report_told, seen_told, shared_told}
-use Rattle.dn_tool.specs.Halt.{Writes}
-use Rattle.dn_tool.proofs.Written.{stopped_first, then_written}
+use Rattle.dn_script.specs.Halt.{Writes}
+use Rattle.dn_script.proofs.Written.{stopped_first, then_written}
 use Rattle.dn_tool.proofs.report.write_report.Given.{Over}
 use Rattle.dn_tool.proofs.report.write_report.Goals.{In_ok-write_output, In_ok-write_views}
 use Rattle.dn_tool.proofs.report.write_report.Goals as goal

@@ -11,7 +11,7 @@ use Rattle.dn_audit.specs.declared.report.Seen.{Seen}
 use Rattle.dn_audit.specs.Nodes.{is_seen_within}
 use Rattle.dn_audit.specs.Text.{seen_text}
 use Rattle.dn_audit.specs.Told.{seen_told}
-use Rattle.dn_tool.proofs.Written.{IsSoFar, begun, ended, gone_on, stopped_there}
+use Rattle.dn_script.proofs.Written.{IsSoFar, begun, ended, gone_on, stopped_there}
 use Rattle.dn_tool.proofs.report.write_views.Goals as goal
 
 -- the text of the views that are left is that of the first and that of those after it

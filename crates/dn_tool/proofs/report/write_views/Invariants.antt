@@ -6,7 +6,7 @@ use Rattle.dn_audit.specs.declared.report.Seen.{Seen}
 use Rattle.dn_audit.specs.Nodes.{is_seen_within}
 use Rattle.dn_audit.specs.Text.{seen_text}
 use Rattle.dn_audit.specs.Told.{seen_told}
-use Rattle.dn_tool.proofs.Written.{IsSoFar}
+use Rattle.dn_script.proofs.Written.{IsSoFar}
 use Rattle.dn_tool.proofs.report.write_views.Given as goal
 
 abbrev pub invariant-loop-seen : goal.invariant-loop-seen

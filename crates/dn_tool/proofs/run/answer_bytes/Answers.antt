@@ -5,7 +5,7 @@ use Rattle.dn_kind.specs.Kind.{Meaning}
 use Rattle.dn_kind.specs.Kinded.{kinds_of}
 use Rattle.dn_base.specs.Outside.{input_limit}
 use Rattle.dn_tool.specs.Answer.{Answer, IsAnswered, IsSaid, is_script, text_answer, too_long_line}
-use Rattle.dn_tool.specs.Halt.{ending_status}
+use Rattle.dn_script.specs.Halt.{ending_status}
 use Rattle.dn_tool.specs.Input.{Parts, is_too_long, limit_for, parts_view}
 use Rattle.dn_tool.proofs.Inputs.{answered_by_parts, refused_long, short_bytes}
 use Rattle.dn_tool.proofs.run.answer_bytes.Goals as goal

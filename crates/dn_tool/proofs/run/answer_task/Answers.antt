@@ -1,4 +1,4 @@
-use Rattle.dn_tool.proofs.Kept.{platform_machine}
+use Rattle.dn_script.proofs.Kept.{platform_machine}
 use Rattle.dn_tool.proofs.run.answer_task.Goals as goal
 
 pub run_commands-requires-clause-machine : goal.run_commands-requires-clause-machine

@@ -3,7 +3,7 @@ use Rattle.dn_kind.specs.Kinded.{kinds_of}
 use Rattle.dn_tables.proofs.Slots.{all_of_map}
 use Rattle.dn_tool.specs.Compiled.{platform_view}
 use Rattle.dn_tool.specs.Input.{parts_view}
-use Rattle.dn_tool.proofs.Endings.{if_ok}
+use Rattle.dn_script.proofs.Endings.{if_ok}
 use Rattle.dn_tool.proofs.Inputs.{legal_short}
 use Rattle.dn_tool.proofs.Unanswered.{text_legal, unanswered}
 use Rattle.dn_tool.proofs.run.answer_text.Goals as goal

@@ -5,7 +5,7 @@ use Rattle.dn_tables.proofs.Slots.{all_of_map}
 use Rattle.dn_demo.specs.Text.{demo_text}
 use Rattle.dn_words.specs.declared.words.Task.TheVariants.{Demo}
 use Rattle.dn_tool.specs.Answer.{Answer, IsAnswered, demo_answer, is_script, bytes_answer}
-use Rattle.dn_tool.specs.Halt.{ending_status}
+use Rattle.dn_script.specs.Halt.{ending_status}
 use Rattle.dn_tool.proofs.Unanswered.{bytes_legal, unanswered}
 use Rattle.dn_tool.proofs.run.demo.Goals as goal
 

@@ -4,7 +4,7 @@ use Rattle.std.proofs.lemmas.List.{length-map}
 use Rattle.dn_kind.specs.Kind.{Meaning}
 use Rattle.dn_kind.specs.Kinded.{kinds_of}
 use Rattle.dn_kind.specs.Units.{has_kind}
-use Rattle.dn_tool.proofs.Shaped.{kinds_fit}
+use Rattle.dn_script.proofs.Shaped.{kinds_fit}
 use Rattle.dn_tool.proofs.run.print_net.Goals as goal
 
 pub write_net-requires-clause-known : goal.write_net-requires-clause-known

@@ -1,6 +1,6 @@
 use Rattle.std.proofs.Common.{rules, ◌≡◌, subst, List, ℕ}
 use Rattle.dn_tool.specs.Answer.{IsSaid, usage}
-use Rattle.dn_tool.specs.Halt.{ending_status}
+use Rattle.dn_script.specs.Halt.{ending_status}
 use Rattle.dn_tool.proofs.run.refuse_words.Goals as goal
 
 pub returns-clause-said : goal.returns-clause-said

@@ -5,7 +5,7 @@ use Rattle.dn_kind.specs.Kinded.{kinds_of}
 use Rattle.dn_tables.proofs.Slots.{all_of_map}
 use Rattle.dn_words.specs.Words.{task_of}
 use Rattle.dn_tool.specs.Answer.{Answer, IsAnswered, IsInput, answer, is_script, task_reads, bytes_answer}
-use Rattle.dn_tool.specs.Halt.{ending_status}
+use Rattle.dn_script.specs.Halt.{ending_status}
 use Rattle.dn_tool.specs.Input.{limit_for}
 use Rattle.dn_tool.proofs.Inputs.{asked_reads, input_answer, read_is_not_shown, task_is_read}
 use Rattle.dn_tool.proofs.Unanswered.{answer_legal, unanswered}

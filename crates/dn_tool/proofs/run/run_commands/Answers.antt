@@ -2,10 +2,10 @@ use Rattle.std.proofs.Common.{rules, ◌≡◌, List, Err}
 use Rattle.dn_base.proofs.Counts.{counted_none}
 use Rattle.dn_kind.specs.Kind.{Meaning}
 use Rattle.dn_kind.specs.Kinded.{kinds_of}
-use Rattle.dn_tool.specs.Halt.{make_halt}
-use Rattle.dn_tool.proofs.Endings.{halts_later}
-use Rattle.dn_tool.proofs.Kept.{machine_lawful}
-use Rattle.dn_tool.proofs.Played.{making_told}
+use Rattle.dn_script.specs.Halt.{make_halt}
+use Rattle.dn_script.proofs.Endings.{halts_later}
+use Rattle.dn_script.proofs.Kept.{machine_lawful}
+use Rattle.dn_script.proofs.Played.{making_told}
 use Rattle.dn_tool.proofs.Unanswered.{unmade_answer}
 use Rattle.dn_tool.proofs.run.run_commands.Goals as goal
 

@@ -1,0 +1,55 @@
+use Rattle.std.proofs.Common.{rules, ◌≡◌, ◌∙◌, ap, sym, subst, inr, false, length, List, ℕ}
+use Rattle.dn_kind.specs.Kinded.{kinds_of}
+use Rattle.dn_tables.specs.Set.{words_of}
+use Rattle.dn_gather.specs.Gather.{IsGatherLogged, IsGatherMade, IsGatherRefused}
+use Rattle.dn_gather.specs.declared.piece.Piece.{Piece}
+use Rattle.dn_script.specs.Asked.{numbered}
+use Rattle.dn_script.specs.Changed.{gathered_text}
+use Rattle.dn_script.specs.State.{IsChanged, state_view}
+use Rattle.dn_script.specs.Turn.{IsGatherTurn, reply_turn, state_with_ids}
+use Rattle.dn_script.proofs.Changes.{numbered_few, state_gathered}
+use Rattle.dn_script.proofs.Stopped.{done_said, done_unsaid, gather_cut, halted_done, refusal_done}
+use Rattle.dn_script.proofs.pieces.gather_change.Given.{Over}
+use Rattle.dn_script.proofs.pieces.gather_change.Goals.{After-renew}
+use Rattle.dn_script.proofs.pieces.gather_change.Goals as goal
+
+pub renew-requires-clause-faithful : goal.renew-requires-clause-faithful
+renew-requires-clause-faithful g c = c.in-Ok.ensures.faithful c.requires.ready.state.faithful
+
+-- the pieces that are asked for
+asked : (g : Over) (c : After-renew g) → c.deref.result.now ≡ numbered c.args.state.now.ids c.args.pieces.now
+asked g c = c.deref.ensures.value ∙ c.in_ok-asked.ensures.pieces
+
+pub gather-requires-clause-some : goal.gather-requires-clause-some
+gather-requires-clause-some g c = (numbered_few c.args.state.now.ids c.args.pieces.now _ (c.deref.ensures.value ∙ c.in_ok-asked.ensures.pieces) c.requires.some c.requires.few).0
+
+pub gather-requires-clause-few : goal.gather-requires-clause-few
+gather-requires-clause-few g c = (numbered_few c.args.state.now.ids c.args.pieces.now _ (c.deref.ensures.value ∙ c.in_ok-asked.ensures.pieces) c.requires.some c.requires.few).1
+
+-- the turn of the gather that was made
+made : (g : Over) (c : After-renew g) → IsChanged (IsGatherTurn (kinds_of (λ k. (goal.UnitKind-dyn g k).meaning k.1) c.args.machine.on.kinds.now) c.args.machine.on.net.now (state_view c.args.state.now) c.args.agent c.args.rights c.args.pieces.now) (state_view c.renew.new.state) (gathered_text c.in-Ok.v (length c.args.pieces.now)) (g.D.Tables.log c.args.device.now) (g.D.Tables.log c.gather.new.device)
+made g c =
+    state_gathered (kinds_of (λ k. (goal.UnitKind-dyn g k).meaning k.1) c.args.machine.on.kinds.now) c.args.machine.on.net.now c.args.state.now c.renew.new.state c.args.agent c.args.rights c.args.pieces.now c.in-Ok.v c.gather.new.book _ _ _ c.requires.some
+    (subst (λ (ps : List Piece). IsGatherMade c.args.machine.on.net.now c.args.state.now.book.grants c.args.agent c.args.rights ps c.in-Ok.v c.gather.new.book.grants) (asked g c) c.in-Ok.ensures.turn)
+    (subst (λ (ps : List Piece). IsGatherLogged c.args.machine.on.net.now (kinds_of (λ k. (goal.UnitKind-dyn g k).meaning k.1) c.args.machine.on.kinds.now) c.args.state.now.book.grants c.args.state.now.book.cleared c.args.agent c.args.rights ps false (g.D.Tables.log c.args.device.now) (g.D.Tables.log c.gather.new.device) (words_of c.gather.new.book.set) c.gather.new.book.grants) (asked g c) c.in-Ok.ensures.granted)
+    c.renew.ensures.still.book (c.renew.ensures.still.ids ∙ c.in_ok-asked.ensures.ids) c.in-Ok.ensures.changed.fenced
+
+pub returns-in_err-gathered_reply-in-Ok : goal.returns-in_err-gathered_reply-in-Ok
+returns-in_err-gathered_reply-in-Ok g c = done_unsaid _ _ _ c.from_residual-in_err-gathered_reply-in-Ok.result _ _ c.renew.new.state _ _ _ _ _ _ (search rules) (made g (goal.at.returns-in_err-gathered_reply-in-Ok g c).After-renew) c.in-Ok.ensures.changed.counted
+
+pub returns-in-Ok : goal.returns-in-Ok
+returns-in-Ok g c = done_said _ _ _ (gathered_text c.in-Ok.v (length c.args.pieces.now)) _ _ c.renew.new.state _ _ _ _ _ _ c.in_ok-gathered_reply-in-Ok.ensures (made g (goal.at.returns-in-Ok g c).After-renew) (search rules) c.in-Ok.ensures.changed.counted
+
+pub returns-in_err-why-in-Err : goal.returns-in_err-why-in-Err
+returns-in_err-why-in-Err g c =
+    halted_done c.in-Err.fault c.in_err-why-in-Err.field-0.0 c.from_residual-in_err-why-in-Err.result c.in-Err.ensures (sym c.refusal_or_halt.ensures ∙ c.in_err-why-in-Err.was) (search rules)
+    (gather_cut (kinds_of (λ k. (goal.UnitKind-dyn g k).meaning k.1) c.args.machine.on.kinds.now) c.args.machine.on.net.now (state_view c.args.state.now) (state_view c.args.state.now) c.args.agent c.args.rights c.args.pieces.now c.deref.result.now c.gather.new.book.set c.gather.new.book.grants _ _ _ _ c.gather.ensures.changed.fits c.gather.ensures.changed.on_device (c.deref.ensures.value ∙ c.in_ok-asked.ensures.pieces))
+
+pub returns : goal.returns
+returns g c =
+    refusal_done c.in-Err.fault c.in_ok-why-in-Err.why c.number_pieces.new.ids _ c.keep_flats.new.flats _ c.requires.ready.machine c.requires.ready.state c.in-Err.ensures (sym c.refusal_or_halt.ensures ∙ c.in_ok-why-in-Err.was) c.in_ok-asked.ensures.ids c.in_ok-keep_flats.ensures.flat
+    (λ o. inr (record {
+      why = c.in_ok-why-in-Err.why;
+      refused = subst (λ (ps : List Piece). IsGatherRefused c.args.machine.on.net.now c.args.state.now.book.grants c.args.agent c.args.rights ps c.in_ok-why-in-Err.why) (c.deref.ensures.value ∙ c.in_ok-asked.ensures.pieces) o.0;
+      is_turn = ap (λ (t : List ℕ). reply_turn t (state_with_ids (state_view c.args.state.now) c.args.pieces.now)) c.in_ok-gather_refused-in-Err.ensures;
+    }))

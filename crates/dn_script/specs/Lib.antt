@@ -1,0 +1,17 @@
+pub mod Found
+pub mod Viewed
+pub mod Radix
+pub mod Turn
+pub mod Books
+pub mod Played
+pub mod Changed
+pub mod Ids
+pub mod State
+pub mod Halt
+pub mod Machine
+pub mod Reshape
+pub mod Unmade
+pub mod Stopped
+pub mod Flown
+pub mod Asked
+pub mod Terms

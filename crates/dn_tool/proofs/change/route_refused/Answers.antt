@@ -1,8 +1,0 @@
-use Rattle.std.proofs.Common.{rules, ◌≡◌}
-use Rattle.dn_vector.specs.declared.refusal.RouteRefusal.TheVariants as why
-use Rattle.dn_tool.proofs.change.route_refused.Goals as goal
-
-pub returns-in-NoPlacement : goal.returns-in-NoPlacement
-returns-in-NoPlacement c =
-    let is : c.args.why ≡ why.NoPlacement = search rules in
-    rw is c.refused_reply-in-NoPlacement.ensures
