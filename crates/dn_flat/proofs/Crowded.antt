@@ -1,8 +1,9 @@
 -- Names that two addresses of agents reach.
-use Rattle.std.proofs.Common.{◌≡◌, ℕ, zero, suc, ◌+◌, ◌-◌, ◌<◌, ◌≤◌, ◌⊎◌, inl, inr, Bool, true, false, ◌&&◌, ◌||◌, nat_eq, nat_le, List, [], ◌∷◌, length, get_or, slice_get, Option, Some, None, IsTrue, refl, sym, ap, ◌∙◌, subst, arith, eq-eqb, le-leb}
-use Rattle.std.specs.List.{list_any}
+use Rattle.std.proofs.Common.{◌≡◌, ℕ, zero, suc, ◌+◌, ◌-◌, ◌<◌, ◌≤◌, ◌⊎◌, inl, inr, Bool, true, false, ◌&&◌, ◌||◌, nat_eq, nat_le, List, [], ◌∷◌, length, get_or, slice_get, IfSome, Option, Some, None, IsTrue, refl, sym, ap, ◌∙◌, subst, arith, eq-eqb, le-leb}
+use Rattle.std.specs.List.{Contains, list_any}
 use Rattle.std.specs.Option.{option_map}
 use Rattle.std.proofs.lemmas.Bool.{and_from, cases_lt, false≢true}
+use Rattle.std.proofs.lemmas.List.Elements.{All-contains}
 use Rattle.dn_interval.specs.declared.row.End.{End}
 use Rattle.dn_interval.specs.declared.row.Row.{Row}
 use Rattle.dn_interval.specs.declared.row.Seg.{Seg}
@@ -15,9 +16,10 @@ use Rattle.dn_net.specs.declared.node.Name.{Name}
 use Rattle.dn_net.specs.declared.node.NodeDecl.{NodeDecl}
 use Rattle.dn_net.specs.declared.node.Role.{Role}
 use Rattle.dn_net.specs.Decode.{is_agent, is_agent_at, StopsAt}
+use Rattle.dn_flat.specs.declared.crowds.UnitSpan.{UnitSpan}
 use Rattle.dn_flat.specs.declared.crowds.Way.{Way}
 use Rattle.dn_flat.specs.declared.levels.Levels.{Levels}
-use Rattle.dn_flat.specs.Crowds.{AreAgentStops, AreCrowded, IsWay}
+use Rattle.dn_flat.specs.Crowds.{AreAgentStops, AreCrowded, HoldAlong, HoldAlongAll, IsWay}
 use Rattle.dn_flat.specs.Levels.{IsLevels, levels_give}
 use Rattle.dn_flat.specs.Views.{StopsFrom}
 
@@ -105,6 +107,11 @@ crowd_met net one other s same apart one_lo other_lo one_hi other_hi v w a is = 
 
     alike : one.agent ≡ other.agent → one.seg.span.lo + (a - one.seg.base) ≡ other.seg.span.lo + (a - other.seg.base) → (nat_eq one.agent other.agent && nat_eq (one.seg.span.lo + other.seg.base) (other.seg.span.lo + one.seg.base)) ≡ true
     alike p q = and_from (nat_eq one.agent other.agent) (nat_eq (one.seg.span.lo + other.seg.base) (other.seg.span.lo + one.seg.base)) (eq-eqb one.agent other.agent p) (eq-eqb (one.seg.span.lo + other.seg.base) (other.seg.span.lo + one.seg.base) (omega (arith, q, from, one_lo, other_lo)))
+
+-- what holds along each span that is listed holds along one that is found among them
+pub found_along : (has : Name → Type 0) (spans : List UnitSpan) (unit : ℕ) (found : Option Span) → HoldAlongAll has spans → IfSome found (λ s. Contains spans (record { unit = unit; span = s })) → IfSome found (λ s. HoldAlong has unit s)
+found_along has spans unit None all at = tt
+found_along has spans unit (Some s) all at = All-contains (λ (k : UnitSpan). HoldAlong has k.unit k.span) spans (record { unit = unit; span = s }) all at
 
 pub not_past : (n lo : ℕ) → nat_le n lo ≡ false → lo < n
 not_past n lo e = by (cases_lt lo n)

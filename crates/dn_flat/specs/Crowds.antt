@@ -1,6 +1,6 @@
 -- Names in units that addresses of agents reach: one of them, or two.
-use Rattle.std.specs.Prelude.{◌≡◌, ℕ, ◌+◌, ◌-◌, true, List, slice_get, IsTrue}
-use Rattle.std.specs.List.{All}
+use Rattle.std.specs.Prelude.{◌≡◌, ℕ, ◌+◌, ◌-◌, ◌<◌, ◌≤◌, true, List, slice_get, IfSome, IsTrue, Option}
+use Rattle.std.specs.List.{All, Contains}
 use Rattle.dn_interval.specs.declared.span.Span.{Span}
 use Rattle.dn_interval.specs.Spans.{in_span}
 use Rattle.dn_net.specs.declared.node.Name.{Name}
@@ -20,29 +20,33 @@ pub record IsCrowded (net : List NodeDecl) (stop : Name) : Type 0 where
   pub other_stops : StopsAt net other stop
   pub differ : one ≡ other → ⊥
 
--- so is each name of a span of a unit
-abbrev pub AreCrowded : List NodeDecl → ℕ → Span → Type 0
-AreCrowded net unit span = (a : ℕ) → in_span span a ≡ true →
-    IsCrowded net (record { node = unit; addr = a })
-
--- so is each name of those that are listed
-abbrev pub AreCrowds : List NodeDecl → List UnitSpan → Type 0
-AreCrowds net crowds = All (λ (c : UnitSpan). AreCrowded net c.unit c.span) crowds
-
 -- the name is the stop of an address of an agent
 pub record IsAgentStop (net : List NodeDecl) (stop : Name) : Type 0 where
   pub from : Name
   pub agent : IsTrue (is_agent_at (slice_get net from.node))
   pub stops : StopsAt net from stop
 
--- so is each name of a span of a unit
-abbrev pub AreAgentStops : List NodeDecl → ℕ → Span → Type 0
-AreAgentStops net unit span = (a : ℕ) → in_span span a ≡ true →
-    IsAgentStop net (record { node = unit; addr = a })
+-- each name of a span of a unit has the property
+abbrev pub HoldAlong : (Name → Type 0) → ℕ → Span → Type 0
+HoldAlong has unit span = (a : ℕ) → in_span span a ≡ true → has (record { node = unit; addr = a })
 
--- so is each name of those that are listed
-abbrev pub ListAgentStops : List NodeDecl → List UnitSpan → Type 0
-ListAgentStops net spans = All (λ (s : UnitSpan). AreAgentStops net s.unit s.span) spans
+-- so has each name of those that are listed
+abbrev pub HoldAlongAll : (Name → Type 0) → List UnitSpan → Type 0
+HoldAlongAll has spans = All (λ (s : UnitSpan). HoldAlong has s.unit s.span) spans
+
+-- each name of a span of a unit is crowded
+abbrev pub AreCrowded : List NodeDecl → ℕ → Span → Type 0
+AreCrowded net = HoldAlong (IsCrowded net)
+
+-- each is the stop of an address of an agent
+abbrev pub AreAgentStops : List NodeDecl → ℕ → Span → Type 0
+AreAgentStops net = HoldAlong (IsAgentStop net)
+
+-- a span that is found is listed for the unit, and has some of so many names from one on
+pub record IsSpanAmong (spans : List UnitSpan) (unit first size : ℕ) (found : Option Span) : Type 0 where
+  pub listed : IfSome found (λ s. Contains spans (record { unit = unit; span = s }))
+  pub from : IfSome found (λ s. first ≤ s.hi)
+  pub to : IfSome found (λ s. s.lo < first + size)
 
 -- the node is an agent, and the names that the segment gives to its addresses are their stops
 pub record IsWay (net : List NodeDecl) (way : Way) : Type 0 where

@@ -16,7 +16,7 @@ use Rattle.dn_flat.specs.declared.crowds.UnitSpan.{UnitSpan}
 use Rattle.dn_flat.specs.declared.levels.Levels.{Levels}
 use Rattle.dn_flat.specs.declared.reach.Reach.{Reach}
 use Rattle.dn_flat.specs.declared.seers.Seers.{Seers}
-use Rattle.dn_flat.specs.Crowds.{AreCrowds, ListAgentStops}
+use Rattle.dn_flat.specs.Crowds.{HoldAlongAll, IsAgentStop, IsCrowded}
 use Rattle.dn_flat.specs.Onward.{has_rows, levels_lead}
 use Rattle.dn_flat.specs.Stages.{AreReaches, StageRows}
 use Rattle.dn_flat.specs.Views.{ResolvesFrom, StopsFrom}
@@ -117,8 +117,8 @@ pub record AreFlats (net : List NodeDecl) (flats : FlatsView) : Type 0 where
   pub every : length flats.nodes ≡ length net
   pub each : (node : ℕ) (levels : Levels) → slice_get flats.nodes node ≡ Some levels → IsLevels net node levels
   pub steps : AreReaches net 1 flats.stage.nodes
-  pub crowded : AreCrowds net flats.crowds
-  pub stopped : ListAgentStops net flats.agent_stops
+  pub crowded : HoldAlongAll (IsCrowded net) flats.crowds
+  pub stopped : HoldAlongAll (IsAgentStop net) flats.agent_stops
   pub seers : AreSeers net flats.nodes flats.seers
 
 -- the levels of what a node reaches; of one that is not there they are none

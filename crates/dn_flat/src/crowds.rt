@@ -5,7 +5,7 @@ ghost use Rattle.dn_interval.specs.declared.row.End.{End};
 ghost use Rattle.dn_interval.specs.Terms.{segs_give};
 ghost use Rattle.dn_net.specs.declared.node.NodeDecl.{NodeDecl};
 ghost use Rattle.dn_net.specs.Terms.{is_agent, is_agent_at};
-ghost use Rattle.dn_flat.specs.Terms.{AreAgentStops, AreCrowded, AreCrowds, AreLevelsBelow, AreWays, IsWay, ListAgentStops, StopsFrom};
+ghost use Rattle.dn_flat.specs.Terms.{AreAgentStops, AreCrowded, AreLevelsBelow, AreWays, HoldAlongAll, IsAgentStop, IsCrowded, IsSpanAmong, IsWay, StopsFrom};
 
 use crate::found::whole;
 use crate::levels::push_given;
@@ -97,7 +97,7 @@ fn push_ways(ways: &mut Vec<Way>, agent: u16, segs: &[Seg]) -> Result<(), OutOfM
 /// held against the one before it that goes furthest.
 pub(crate) fn crowds_between(alloc: Global, ways: &[Way]) -> Result<Vec<UnitSpan>, OutOfMemory>
     ensures { IfOk result (λ crowds. (net : List NodeDecl) → AreWays net ways.now →
-        AreCrowds net crowds.items) }
+        HoldAlongAll (IsCrowded net) crowds.items) }
 {
     let mut crowds = Vec::new(alloc);
     let mut top = 0;
@@ -125,7 +125,7 @@ fn further(ways: &[Way], top: usize, at: usize) -> usize
 /// The names that the ways give, as spans that ascend where the ways do.
 pub(crate) fn agent_stops(alloc: Global, ways: &[Way]) -> Result<Vec<UnitSpan>, OutOfMemory>
     ensures { IfOk result (λ stops. (net : List NodeDecl) → AreWays net ways.now →
-        ListAgentStops net stops.items) }
+        HoldAlongAll (IsAgentStop net) stops.items) }
 {
     let mut stops = Vec::new(alloc);
     for way in ways {
@@ -137,7 +137,8 @@ pub(crate) fn agent_stops(alloc: Global, ways: &[Way]) -> Result<Vec<UnitSpan>, 
 /// Adds the names that a way gives, and that come after those that are listed.
 fn push_stops(stops: &mut Vec<UnitSpan>, way: Way) -> Result<(), OutOfMemory>
     ensures { OnOk result ((net : List NodeDecl) → IsWay net way →
-        ListAgentStops net stops.old.items → ListAgentStops net stops.new.items) }
+        HoldAlongAll (IsAgentStop net) stops.old.items →
+        HoldAlongAll (IsAgentStop net) stops.new.items) }
 {
     let from = first_left(stops.as_slice(), way.seg);
     push_span(stops, way.seg.node, given(way, from))
@@ -147,10 +148,12 @@ fn push_stops(stops: &mut Vec<UnitSpan>, way: Way) -> Result<(), OutOfMemory>
 fn push_span(spans: &mut Vec<UnitSpan>, unit: u16, found: Option<Span>) -> Result<(), OutOfMemory>
     ensures crowds { OnOk result ((net : List NodeDecl) →
         IfSome found (λ s. AreCrowded net unit s) →
-        AreCrowds net spans.old.items → AreCrowds net spans.new.items) }
+        HoldAlongAll (IsCrowded net) spans.old.items →
+        HoldAlongAll (IsCrowded net) spans.new.items) }
     ensures stops { OnOk result ((net : List NodeDecl) →
         IfSome found (λ s. AreAgentStops net unit s) →
-        ListAgentStops net spans.old.items → ListAgentStops net spans.new.items) }
+        HoldAlongAll (IsAgentStop net) spans.old.items →
+        HoldAlongAll (IsAgentStop net) spans.new.items) }
 {
     match found {
         Some(span) => {
@@ -174,7 +177,8 @@ fn given(way: Way, from: u64) -> Option<Span>
 /// Adds the names that two ways give at different addresses, and that come after those that are listed.
 fn push_crowd(crowds: &mut Vec<UnitSpan>, one: Way, other: Way) -> Result<(), OutOfMemory>
     ensures { OnOk result ((net : List NodeDecl) → IsWay net one → IsWay net other →
-        AreCrowds net crowds.old.items → AreCrowds net crowds.new.items) }
+        HoldAlongAll (IsCrowded net) crowds.old.items →
+        HoldAlongAll (IsCrowded net) crowds.new.items) }
 {
     let from = first_left(crowds.as_slice(), other.seg);
     push_span(crowds, other.seg.node, met(one, other, from))
@@ -218,12 +222,7 @@ fn is_one_way(one: Way, other: Way) -> bool
 
 /// Listed names of a unit, one after another, of which some are among so many names from one on.
 pub(crate) fn span_among(spans: &[UnitSpan], unit: u16, first: u64, size: u64) -> Option<Span>
-    ensures crowded { IfSome result (λ s. (net : List NodeDecl) → AreCrowds net spans.now →
-        AreCrowded net unit s) }
-    ensures stopped { IfSome result (λ s. (net : List NodeDecl) → ListAgentStops net spans.now →
-        AreAgentStops net unit s) }
-    ensures from { IfSome result (λ s. first ≤ s.hi) }
-    ensures to { IfSome result (λ s. s.lo < first + size) }
+    ensures { IsSpanAmong spans.now unit first size result }
 {
     let place = spans.partition_point(|names| ends_before(*names, unit, first));
     let Some(names) = spans.get(place) else {

@@ -9,7 +9,7 @@ ghost use Rattle.dn_net.specs.declared.node.NodeDecl.{NodeDecl};
 ghost use Rattle.dn_net.specs.Terms.{IsLegalNet};
 ghost use Rattle.dn_walk.specs.Terms.{AreWalksOf};
 ghost use Rattle.dn_flat.specs.declared.flat.Flat.{Flat};
-ghost use Rattle.dn_flat.specs.Terms.{AreAgentStops, AreCrowded, AreFlats, AreLevelsBelow, IsFlat, IsStage, ResolvesFrom, ResolvesWhole, StopsFrom, levels_give, shows, stops_in};
+ghost use Rattle.dn_flat.specs.Terms.{AreFlats, AreLevelsBelow, IsFlat, IsSpanAmong, IsStage, ResolvesFrom, ResolvesWhole, StopsFrom, levels_give, shows, stops_in};
 
 use crate::crowds::{UnitSpan, agent_stops, crowds_between, span_among, ways_of};
 use crate::found::whole;
@@ -82,10 +82,7 @@ impl Flats {
     /// Names of a unit, one after another, that two addresses of agents reach, of which some are among so many names
     /// from one on. `None` says nothing. Time of a binary search.
     pub fn crowd_among(&self, unit: u16, first: u64, size: u64) -> Option<Span>
-        ensures crowded { IfSome result (λ s. (net : List NodeDecl) → AreFlats net self.now
-            → AreCrowded net unit s) }
-        ensures from { IfSome result (λ s. first ≤ s.hi) }
-        ensures to { IfSome result (λ s. s.lo < first + size) }
+        ensures { IsSpanAmong self.now.crowds unit first size result }
     {
         span_among(&self.crowds, unit, first, size)
     }
@@ -93,10 +90,7 @@ impl Flats {
     /// Names of a unit, one after another, that an address of an agent reaches, of which some are among so many names
     /// from one on. `None` says nothing. Time of a binary search.
     pub fn agent_stop_among(&self, unit: u16, first: u64, size: u64) -> Option<Span>
-        ensures stopped { IfSome result (λ s. (net : List NodeDecl) → AreFlats net self.now
-            → AreAgentStops net unit s) }
-        ensures from { IfSome result (λ s. first ≤ s.hi) }
-        ensures to { IfSome result (λ s. s.lo < first + size) }
+        ensures { IsSpanAmong self.now.agent_stops unit first size result }
     {
         span_among(&self.agent_stops, unit, first, size)
     }

@@ -15,7 +15,7 @@ use Rattle.dn_net.specs.declared.node.NodeDecl.{NodeDecl}
 use Rattle.dn_net.specs.Decode.{StopsAt}
 use Rattle.dn_flat.specs.declared.levels.Levels.{Levels}
 use Rattle.dn_flat.specs.Crowds.{AreCrowded}
-use Rattle.dn_flat.specs.Levels.{AreFlats, FlatsView, IsLevels}
+use Rattle.dn_flat.specs.Levels.{IsLevels}
 use Rattle.dn_flat.specs.Views.{StopsFrom}
 use Rattle.dn_placement.specs.Placement.{name_on}
 use Rattle.dn_walk.specs.Ends.{end_of, name_of_end}
@@ -98,6 +98,6 @@ crowd_of net unit x size span some crowded from to alone = by (cases_lt x span.l
     by (inr l) = alone 0 some (crowded (x + 0) (in_from span (x + 0) (omega (arith, l)) (omega (arith, from))))
 
 -- so where a list of such inputs tells some
-pub crowd_told : (net : List NodeDecl) (flats : FlatsView) (unit x size : ℕ) (o : Option Span) → 1 ≤ size → AreFlats net flats → IfSome o (λ s. (n : List NodeDecl) → AreFlats n flats → AreCrowded n unit s) → IfSome o (λ s. x ≤ s.hi) → IfSome o (λ s. s.lo < x + size) → is_some o ≡ true → AreAlone net unit x size → ⊥
-crowd_told net flats unit x size None some flat crowded from to is alone = cc
-crowd_told net flats unit x size (Some s) some flat crowded from to is alone = crowd_of net unit x size s some (crowded net flat) from to alone
+pub crowd_told : (net : List NodeDecl) (unit x size : ℕ) (o : Option Span) → 1 ≤ size → IfSome o (λ s. AreCrowded net unit s) → IfSome o (λ s. x ≤ s.hi) → IfSome o (λ s. s.lo < x + size) → is_some o ≡ true → AreAlone net unit x size → ⊥
+crowd_told net unit x size None some crowded from to is alone = cc
+crowd_told net unit x size (Some s) some crowded from to is alone = crowd_of net unit x size s some crowded from to alone

@@ -2,13 +2,13 @@
 use Rattle.std.proofs.Common.{List, sym, subst, arith}
 use Rattle.std.proofs.lemmas.List.Elements.{All-nil}
 use Rattle.dn_flat.specs.declared.crowds.UnitSpan.{UnitSpan}
-use Rattle.dn_flat.specs.Crowds.{AreCrowded, AreCrowds, IsWay}
+use Rattle.dn_flat.specs.Crowds.{AreCrowded, HoldAlongAll, IsCrowded, IsWay}
 use Rattle.dn_flat.proofs.crowds.crowds_between.Goals as goal
 
 pub loop-at-init : goal.loop-at-init
 loop-at-init c = record {
   before = omega arith;
-  crowded = λ net ways. subst (λ (cs : List UnitSpan). AreCrowds net cs) (sym c.new-crowds.ensures.items) (All-nil (λ (k : UnitSpan). AreCrowded net k.unit k.span));
+  crowded = λ net ways. subst (λ (cs : List UnitSpan). HoldAlongAll (IsCrowded net) cs) (sym c.new-crowds.ensures.items) (All-nil (λ (k : UnitSpan). AreCrowded net k.unit k.span));
 }
 
 pub loop-at-preserved : goal.loop-at-preserved

@@ -1,4 +1,6 @@
 use Rattle.std.proofs.Common.{ap, arith, not, subst, sym, ℕ, ◌+◌, ◌-◌, ◌/◌, ◌<◌, ◌∙◌}
+use Rattle.dn_flat.specs.Crowds.{IsCrowded}
+use Rattle.dn_flat.proofs.Crowded.{found_along}
 use Rattle.dn_place.proofs.Pages.{input_bound, last_within}
 use Rattle.dn_gather.specs.Stands.{AreFreeIn}
 use Rattle.dn_gather.proofs.Entering.{crowd_told}
@@ -21,7 +23,7 @@ returns-clause-yes g c = λ yes.
 pub returns-clause-no : goal.returns-clause-no
 returns-clause-no g c = λ is free alone.
     let net = c.args.ground.wanted.system.on.net.now in
-    crowd_told net c.args.ground.wanted.system.flats.now c.args.ground.unit c.args.x c.args.size c.crowd_among.result c.requires.some c.requires.ground.wanted.system.flat c.crowd_among.ensures.crowded c.crowd_among.ensures.from c.crowd_among.ensures.to (c.is_none.ensures ∙ ap not is) alone
+    crowd_told net c.args.ground.unit c.args.x c.args.size c.crowd_among.result c.requires.some (found_along (IsCrowded net) c.args.ground.wanted.system.flats.now.crowds c.args.ground.unit c.crowd_among.result c.requires.ground.wanted.system.flat.crowded c.crowd_among.ensures.listed) c.crowd_among.ensures.from c.crowd_among.ensures.to (c.is_none.ensures ∙ ap not is) alone
 
 pub overflow_add-x : goal.overflow_add-x
 overflow_add-x g c =

@@ -1,11 +1,9 @@
 -- The stop is one of the names that are listed.
-use Rattle.std.proofs.Common.{◌∙◌, List, Option, Some, sym, subst}
-use Rattle.dn_base.proofs.Told.{if_some_then}
+use Rattle.std.proofs.Common.{◌∙◌, Option, Some, sym, subst}
 use Rattle.dn_interval.specs.declared.row.End.{End}
-use Rattle.dn_net.specs.declared.node.NodeDecl.{NodeDecl}
 use Rattle.dn_net.proofs.Stops.{agent_there}
-use Rattle.dn_flat.specs.Crowds.{AreCrowded}
-use Rattle.dn_flat.specs.Levels.{AreFlats}
+use Rattle.dn_flat.specs.Crowds.{IsCrowded}
+use Rattle.dn_flat.proofs.Crowded.{found_along}
 use Rattle.dn_place.specs.Marks.{IsEntry}
 use Rattle.dn_place.proofs.Shut.{crowd_here, crowd_off}
 use Rattle.dn_place.proofs.booked.is_crowded.Goals as goal
@@ -20,5 +18,5 @@ returns-in-Some g c = λ yes.
     crowd_off net c.requires.system.kinded.legal.legal c.args.agent c.args.at entry c.requires.agent
     (subst (λ (o : Option End). IsEntry net c.args.agent (Some c.args.at) o) c.in-Some.is c.entry_of.ensures)
     (crowd_here net entry.node entry.base c.crowd_among.result (sym c.is_some.ensures ∙ yes)
-    (if_some_then c.crowd_among.result (λ s. (n : List NodeDecl) → AreFlats n c.args.system.flats.now → AreCrowded n entry.node s) (λ s. AreCrowded net entry.node s) (λ s f. f net c.requires.system.flat) c.crowd_among.ensures.crowded)
+    (found_along (IsCrowded net) c.args.system.flats.now.crowds entry.node c.crowd_among.result c.requires.system.flat.crowded c.crowd_among.ensures.listed)
     c.crowd_among.ensures.from c.crowd_among.ensures.to)
