@@ -1,15 +1,14 @@
 -- Rows of an agent that enter a unit: to which input a stretch of addresses leads.
-use Rattle.std.proofs.Common.{◌≡◌, ℕ, zero, suc, ◌+◌, ◌-◌, ◌<◌, ◌≤◌, ◌⊎◌, inl, inr, List, [], ◌∷◌, length, map, get_or, Option, Some, None, IfNone, IfSome, is_some, true, sym, ap, subst, arith, IsTrue}
+use Rattle.std.proofs.Common.{◌≡◌, ℕ, ◌+◌, ◌-◌, ◌<◌, ◌≤◌, ◌⊎◌, inl, inr, List, map, Option, Some, None, IfNone, IfSome, is_some, true, sym, ap, subst, arith, IsTrue}
 use Rattle.std.specs.List.{Contains}
 use Rattle.std.proofs.lemmas.Bool.{cases_lt}
 use Rattle.dn_interval.specs.declared.row.End.{End}
 use Rattle.dn_interval.specs.declared.row.Row.{Row}
 use Rattle.dn_interval.specs.declared.span.Span.{Span}
 use Rattle.dn_interval.specs.declared.span.TheConstants.{TOP}
-use Rattle.dn_interval.specs.Rows.{Member, further_end, Apart, AreNormal, GivenBy}
+use Rattle.dn_interval.specs.Rows.{Member, further_end, AreNormal, GivenBy}
 use Rattle.dn_interval.specs.Spans.{in_span}
-use Rattle.dn_interval.proofs.Membership.{hi_of, in_from, lo_of}
-use Rattle.dn_interval.proofs.Normal.{behind_first}
+use Rattle.dn_interval.proofs.Membership.{in_from}
 use Rattle.dn_net.specs.declared.node.Name.{Name}
 use Rattle.dn_net.specs.declared.node.NodeDecl.{NodeDecl}
 use Rattle.dn_net.specs.Decode.{StopsAt}

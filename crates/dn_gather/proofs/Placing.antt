@@ -20,7 +20,7 @@ use Rattle.dn_place.specs.declared.exits.Exit.{Exit}
 use Rattle.dn_place.specs.Exits.{AreExits}
 use Rattle.dn_place.specs.Rows.{InRow}
 use Rattle.dn_place.proofs.Pages.{input_bound}
-use Rattle.dn_place.proofs.Readies.{one_stop}
+use Rattle.dn_view.proofs.Ways.{one_stop}
 use Rattle.dn_gather.specs.declared.ground.Ground.{Ground}
 use Rattle.dn_gather.specs.declared.piece.Piece.{Piece}
 use Rattle.dn_gather.specs.declared.scatter.Scatter.{Scatter}

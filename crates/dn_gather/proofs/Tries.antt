@@ -5,7 +5,7 @@ use Rattle.dn_kind.specs.Kinded.{kinds_of}
 use Rattle.dn_tables.specs.declared.placement.Hop.{Hop}
 use Rattle.dn_placement.specs.Placement.{IsPlacement}
 use Rattle.dn_place.specs.declared.exits.Exit.{Exit}
-use Rattle.dn_place.proofs.Readies.{one_stop}
+use Rattle.dn_view.proofs.Ways.{one_stop}
 use Rattle.dn_gather.specs.declared.ground.Ground.{Ground}
 use Rattle.dn_gather.specs.declared.piece.Piece.{Piece}
 use Rattle.dn_gather.specs.Firsts.{IsFirstHop, IsSuitedHop}

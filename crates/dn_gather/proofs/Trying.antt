@@ -20,7 +20,7 @@ use Rattle.dn_placement.proofs.Keys.{not_before, same_front}
 use Rattle.dn_place.specs.declared.exits.Exit.{Exit}
 use Rattle.dn_place.specs.Exits.{AreExits, has_exit, IsExit}
 use Rattle.dn_place.specs.Sought.{HasUnitBounds}
-use Rattle.dn_place.proofs.Readies.{one_stop}
+use Rattle.dn_view.proofs.Ways.{one_stop}
 use Rattle.dn_gather.specs.declared.piece.Piece.{Piece}
 use Rattle.dn_gather.specs.Grounds.{IsSized}
 use Rattle.dn_gather.specs.Firsts.{IsFirstHop, IsSuitedHop, hop_key}

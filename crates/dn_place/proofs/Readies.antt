@@ -1,30 +1,27 @@
 -- What the search asks holds of a request on a legal net.
-use Rattle.std.proofs.Common.{◌≡◌, ℕ, zero, suc, ◌+◌, ◌/◌, ◌^◌, ◌<◌, ◌≤◌, ◌⊎◌, inl, inr, Bool, true, false, if◌then◌else◌, ◌&&◌, nat_le, nat_lt, List, [], ◌∷◌, map, length, slice_get, Option, Some, None, is_some, IsTrue, refl, sym, ap, ◌∙◌, subst, arith, ltb-true, lt-ltb}
+use Rattle.std.proofs.Common.{◌≡◌, ℕ, zero, suc, ◌+◌, ◌/◌, ◌^◌, ◌<◌, ◌≤◌, true, ◌&&◌, nat_lt, List, [], ◌∷◌, map, length, slice_get, Option, Some, None, IsTrue, refl, sym, ap, ◌∙◌, subst, arith, ltb-true, lt-ltb}
 use Rattle.std.specs.List.{list_all}
 use Rattle.std.proofs.lemmas.Bool.{and_parts}
 use Rattle.dn_base.proofs.Lists.{list_all-at}
-use Rattle.dn_net.specs.declared.node.Name.{Name}
 use Rattle.dn_net.specs.declared.node.NodeDecl.{NodeDecl}
 use Rattle.dn_net.specs.declared.node.Unit.{Unit as UnitPart}
-use Rattle.dn_net.specs.Chain.{Member, IsChain}
-use Rattle.dn_net.specs.Decode.{top, is_agent_at, is_formed, is_stop, is_stop_at, over_within, ports_within, refers_within, sent_names, unit_at, unit_of, Resolves, Step}
+use Rattle.dn_net.specs.Decode.{top, is_agent_at, over_within, ports_within, refers_within, unit_at, unit_of, Resolves}
 use Rattle.dn_net.specs.Legal.{IsLegalNet}
 use Rattle.dn_net.proofs.Plain.{plain_at}
-use Rattle.dn_net.proofs.Steps.{node_at, unit_is_bare}
 use Rattle.dn_net.proofs.Stops.{agent_there}
 use Rattle.dn_kind.specs.Kind.{Meaning}
 use Rattle.dn_kind.specs.Rights.{are_rights}
-use Rattle.dn_kind.specs.Tables.{AreHeld, Held, output, steps_by_unit, StepUnder}
-use Rattle.dn_kind.proofs.Ways.{legal_one_way_to_unit}
+use Rattle.dn_kind.specs.Tables.{AreHeld}
 use Rattle.dn_tables.specs.declared.table.NodeTable.{NodeTable}
 use Rattle.dn_tables.specs.Set.{FitsNet, has_slot, has_slot_by, unit_in, units_of}
 use Rattle.dn_placement.specs.declared.request.Request.{Request}
 use Rattle.dn_placement.specs.Slots.{Slots}
 use Rattle.dn_book.proofs.Hops.{has_bounds}
 use Rattle.dn_view.proofs.Alone.{reached_alone}
+use Rattle.dn_view.proofs.Ways.{one_stop}
 use Rattle.dn_place.specs.Blocks.{HasBlocks}
 use Rattle.dn_place.proofs.WholeBlocks.{KeepsWhole, behind_at, not_beside, not_seen, whole_blocks}
-use Rattle.dn_place.specs.Sought.{HaveUnitBounds, IsSearchReady, ReachOneStop, slot_count}
+use Rattle.dn_place.specs.Sought.{HaveUnitBounds, IsSearchReady, slot_count}
 
 -- the ports of a unit are nodes that are there
 ports_there : (net : List NodeDecl) (node : ℕ) (u : UnitPart) → IsTrue (list_all (refers_within (length net)) net) → unit_at net node ≡ Some u → (port p : ℕ) → slice_get u.ports port ≡ Some p → p < length net
@@ -52,48 +49,6 @@ kept_whole net legal agent block l b = record {
   pages = b.pages;
   ports = λ node port n u e at. b.sends n ((unit_bounds net legal node u e).there port n at);
 }
-
--- no slot holds a record
-abbrev empty : Held
-empty node slot = None
-
--- a step of the net is a step where no slot holds a record
-step_stays : (net : List NodeDecl) → IsTrue (list_all is_formed net) → (x y : Name) → Step net x y → StepUnder net empty x y
-step_stays net all x y m = go (unit_at net x.node) refl
-  where
-    go : (o : Option UnitPart) → unit_at net x.node ≡ o → Member y (steps_by_unit net empty x o)
-    go None e = m
-    go (Some u) e =
-        let bare = unit_is_bare (slice_get net x.node) x.addr (λ n at. node_at is_formed net x.node all n at) (ap is_some e) in
-        absurd (subst (λ (l : List Name). Member y l) (ap sent_names bare.1) m)
-
-chain_stays : (net : List NodeDecl) → IsTrue (list_all is_formed net) → (k : ℕ) (x y : Name) → IsChain (Step net) k x y → IsChain (StepUnder net empty) k x y
-chain_stays net all zero x y c = c
-chain_stays net all (suc k) x y c = (c.0, step_stays net all x c.0 c.1, chain_stays net all k c.0 y c.2)
-
--- and no such step goes on from a stop
-stuck : (net : List NodeDecl) (x y : Name) → IsTrue (is_stop net x) → StepUnder net empty x y → ⊥
-stuck net x y is m = go (unit_at net x.node) is m
-  where
-    go : (o : Option UnitPart) → IsTrue (is_stop_at x.addr o) → Member y (steps_by_unit net empty x o) → ⊥
-    go None h n = cc
-    go (Some u) h n = by (nat_le x.addr top) n
-      where
-        by : (b : Bool) → Member y (if b then output u None x.addr else []) → ⊥
-        by true n = n
-        by false n = n
-
--- so a chain from a stop ends there
-ends_there : (net : List NodeDecl) (k : ℕ) (x y : Name) → IsTrue (is_stop net x) → IsChain (StepUnder net empty) k x y → x ≡ y
-ends_there net zero x y is c = c
-ends_there net (suc k) x y is c = absurd (stuck net x c.0 is c.1)
-
-pub one_stop : (net : List NodeDecl) → IsLegalNet net → ReachOneStop net
-one_stop net legal x y z a b = go (legal_one_way_to_unit net empty legal x y z a.1.0 b.1.0 a.0 (chain_stays net legal.is_net.formed a.1.0 x y a.1.2) (chain_stays net legal.is_net.formed b.1.0 x z b.1.2))
-  where
-    go : ((d : ℕ) × (a.1.0 ≡ b.1.0 + d) × IsChain (StepUnder net empty) d z y) ⊎ ((d : ℕ) × (b.1.0 ≡ a.1.0 + d) × IsChain (StepUnder net empty) d y z) → y ≡ z
-    go (inl w) = sym (ends_there net w.0 z y b.0 w.2)
-    go (inr w) = ends_there net w.0 y z a.0 w.2
 
 pub ready : (net : List NodeDecl) (slots : Slots) (rq : Request) (at : Option ℕ) → IsLegalNet net → AreHeld net slots.held → ((node slot : ℕ) → IsTrue (slots.is_free node slot) → slots.held node slot ≡ None) → IsTrue (are_rights rq.rights) → IsTrue (is_agent_at (slice_get net rq.agent)) → 1 ≤ rq.size → rq.base + rq.size ≤ top + 1 → IsSearchReady (record { net = net; slots = slots; request = rq; at = at })
 ready net slots rq at legal held empty rights agent some fits = record {

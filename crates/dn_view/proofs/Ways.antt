@@ -12,7 +12,7 @@ use Rattle.dn_net.proofs.Stops.{shallow_reach}
 use Rattle.dn_net.proofs.Chains.{chain_more, chain_join}
 use Rattle.dn_kind.specs.Tables.{Held, output, steps_by_unit, step_limit_under, StepUnder, ResolvesUnder, AreHeld}
 use Rattle.dn_kind.proofs.Bounds.{Led, leads_by, led, reach_under_is_within}
-use Rattle.dn_kind.proofs.Ways.{stop_from_step}
+use Rattle.dn_kind.proofs.Ways.{legal_one_way_to_unit, stop_from_step}
 use Rattle.dn_view.specs.Passes.{outputs, outputs_by}
 use Rattle.dn_view.specs.Through.{Through, ComesThrough}
 
@@ -69,6 +69,17 @@ module _ (net : List NodeDecl) (legal : IsLegalNet net) (h : Held) where
       let n : Member w (steps_by_unit net h s (Some u)) = subst (λ o. Member w (steps_by_unit net h s o)) e m in
       let t : IsTrue (is_stop_at s.addr (Some u)) = stop_from_step net h s w u n in
       (subst (λ o. IsTrue (is_stop_at s.addr o)) (sym e) t, subst (λ o. Member w (outputs_by h s o)) (sym e) (subst (λ b. Member w (if b then output u (h s.node (s.addr / 2 ^ u.page)) s.addr else [])) t n))
+
+  -- nothing goes on from a stop in whose slots there are no records, so a chain from it ends there
+  stays_at : ((n q : ℕ) → h n q ≡ None) → (k : ℕ) (s t : Name) → IsTrue (is_stop net s) → IsChain (StepUnder net h) k s t → s ≡ t
+  stays_at none zero s t stop c = c
+  stays_at none (suc k) s t stop c = by (unit_at net s.node) refl stop
+    where
+      by : (o : Option UnitPart) → unit_at net s.node ≡ o → IsTrue (is_stop_at s.addr o) → s ≡ t
+      by None e is = cc
+      by (Some u) e is =
+          let out : Member c.0 (outputs_by h s (Some u)) = subst (λ o. Member c.0 (outputs_by h s o)) e (step_stop s c.0 u e c.1).1 in
+          absurd (subst (λ o. Member c.0 (output u o s.addr)) (none s.node (s.addr / 2 ^ u.page)) out)
 
   -- a name comes to an accepted name through exactly so many units
   abbrev Exactly : ℕ → Name → Name → Type 0
@@ -157,3 +168,14 @@ module _ (net : List NodeDecl) (legal : IsLegalNet net) (h : Held) where
     pub resolves_through : (x z : Name) → ResolvesUnder net h x z ↔ (Resolves net x z ⊎ ((t : Name) × StopsAt net x t × ComesThrough net h t z))
     unfolding ComesThrough
     resolves_through x z = up_to_three x z
+
+-- a name has one stop at most
+pub one_stop : (net : List NodeDecl) → IsLegalNet net → (x s t : Name) → StopsAt net x s → StopsAt net x t → s ≡ t
+one_stop net legal x s t a b = by (legal_one_way_to_unit net none legal x s t a.1.0 b.1.0 a.0 (net_chain net legal none a.1.0 x s a.1.2) (net_chain net legal none b.1.0 x t b.1.2))
+  where
+    none : Held
+    none n q = None
+
+    by : (((d : ℕ) × (a.1.0 ≡ b.1.0 + d) × IsChain (StepUnder net none) d t s) ⊎ ((d : ℕ) × (b.1.0 ≡ a.1.0 + d) × IsChain (StepUnder net none) d s t)) → s ≡ t
+    by (inl d) = sym (stays_at net legal none (λ n q. refl) d.0 t s b.0 d.2)
+    by (inr d) = stays_at net legal none (λ n q. refl) d.0 s t a.0 d.2

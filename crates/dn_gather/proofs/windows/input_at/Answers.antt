@@ -4,7 +4,7 @@ use Rattle.dn_interval.specs.declared.span.TheConstants.{TOP}
 use Rattle.dn_place.specs.Rows.{InRow}
 use Rattle.dn_place.proofs.Agents.{row_fits}
 use Rattle.dn_place.proofs.Marked.{none_given}
-use Rattle.dn_place.proofs.Readies.{one_stop}
+use Rattle.dn_view.proofs.Ways.{one_stop}
 use Rattle.dn_gather.specs.Stands.{Enters, inputs}
 use Rattle.dn_gather.proofs.Entering.{entered_given, entered_row, if_none_then, row_enters}
 use Rattle.dn_gather.proofs.windows.input_at.Goals as goal

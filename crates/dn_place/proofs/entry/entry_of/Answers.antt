@@ -3,7 +3,7 @@ use Rattle.dn_interval.specs.declared.row.Row.{Row}
 use Rattle.dn_flat.specs.Levels.{levels_give}
 use Rattle.dn_place.specs.Marks.{IsEntry}
 use Rattle.dn_place.proofs.Marked.{entry_is, no_entry}
-use Rattle.dn_place.proofs.Readies.{one_stop}
+use Rattle.dn_view.proofs.Ways.{one_stop}
 use Rattle.dn_place.proofs.entry.entry_of.Goals as goal
 
 pub returns-in-Some : goal.returns-in-Some

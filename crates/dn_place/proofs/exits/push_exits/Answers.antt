@@ -8,7 +8,7 @@ use Rattle.dn_place.specs.declared.exits.Exit.{Exit}
 use Rattle.dn_place.specs.Rows.{AreToward, GivesNone}
 use Rattle.dn_place.proofs.Nexts.{node_there, port_read}
 use Rattle.dn_place.proofs.Outputs.{Passing, pass_begun, pass_done, pass_none, pass_one, rows_toward}
-use Rattle.dn_place.proofs.Readies.{one_stop}
+use Rattle.dn_view.proofs.Ways.{one_stop}
 use Rattle.dn_place.proofs.exits.push_exits.Goals.{in-Some+in_ok-push, in_default}
 use Rattle.dn_place.proofs.exits.push_exits.Goals as goal
 
