@@ -10,6 +10,7 @@ pub mod Exposed
 pub mod Fitted
 pub mod Free
 pub mod Held
+pub mod KeptStops
 pub mod Nearby
 pub mod MetHops
 pub mod Newly

@@ -1,5 +1,6 @@
 pub mod Courses
 pub mod Exact
+pub mod KeptStops
 pub mod Named
 pub mod Near
 pub mod Passes

@@ -2,6 +2,7 @@
 pub use Rattle.dn_view.specs.Addition.{RefusalIsComplete}
 pub use Rattle.dn_view.specs.Courses.{IsCourse, course_records}
 pub use Rattle.dn_view.specs.Exact.{IsAskedAt, IsExactAt, are_buffer, is_buffer_end, is_buffer_row, is_part_of_buffer}
+pub use Rattle.dn_view.specs.KeptStops.{IsKeptStop, ListKeptStops}
 pub use Rattle.dn_view.specs.Named.{AddsGiven, AddsOne, AddsPart, AddsThose, IsAtName}
 pub use Rattle.dn_view.specs.Near.{end_near, first_name, hop_near_by, hops_near, is_near, levels_near, name_count, row_near, rows_near}
 pub use Rattle.dn_view.specs.Passes.{IsRun, in_slot, names_go, outputs, part_gives, part_leads, run_leads, seg_name, seg_passes, segs_pass, stops_of}

@@ -4,6 +4,7 @@
 mod course;
 pub mod exact;
 mod holding;
+pub mod kept;
 pub mod laws;
 mod met;
 pub mod names;
