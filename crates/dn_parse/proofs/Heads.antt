@@ -14,7 +14,7 @@ use Rattle.dn_parse.specs.Forms.{Form, takes, does, either, one_of, Sort, a_word
 use Rattle.dn_parse.specs.Forms.{and_then as both}
 use Rattle.dn_parse.specs.Syntax.{the, this, mark, factor, term, expr, part_form, name_form, spec_form, more_names, param_form, more_params, params_form, arg_form, more_args, args_form, plain_form, agent_form, vectors_form, unit_form, module_form, use_form, loop_form, access_form, maybe_access, command_form, radix_form, piece_form, more_pieces, gather_form, part_by, name_by, plain_by, index, more_parts, minus_expr, more_terms, more_factors, accept, map_form, over, block_form, upper_bound, more_blocks, entry_form, more_entries, dest_form, at_addr, more_dests, statement_form}
 use Rattle.dn_parse.specs.Machine.{Move, to, skips, refuses, move_of_token, move_and_then, move_or_else, move, Fed, on, stuck, fed_by_move, inside, run, go, feed, refused}
-use Rattle.dn_parse.specs.Descent.{and_then, if_there, Read, Reader, sign_at, keyword_at, word_at, any_word_at, row, with_front, after_sign, after_keyword, the_word_at, name_at, expr_at, spec_at, param_at, next_param_at, params_at, closed_params_at, arg_at, next_arg_at, args_at, closed_args_at, next_port_at, ports_at, node_at, measure_at, unit_declaration_at, module_at, use_at, loop_at, mode_at, access_at, resolve_at, lookup_at, view_at, grant_at, route_at, radix_at, piece_at, next_piece_at, pieces_at, gather_at, order_at, as_declared, as_ordered, keyword_statement_at, is_free, begins_word, begins_order, word_order_at, word_statement_at, statement_by, statement_at}
+use Rattle.dn_parse.specs.Descent.{and_then, if_there, Read, Reader, sign_at, keyword_at, word_at, any_word_at, row, with_front, after_sign, after_keyword, the_word_at, name_at, expr_at, spec_at, param_at, next_param_at, params_at, closed_params_at, arg_at, next_arg_at, args_at, closed_args_at, next_port_at, ports_at, node_at, measure_at, unit_declaration_at, module_at, use_at, loop_at, mode_at, access_at, resolve_at, lookup_at, view_at, grant_at, route_at, radix_at, piece_at, next_piece_at, pieces_at, gather_at, order_at, as_declared, as_ordered, keyword_statement_at, is_free, begins_word, word_order_at, word_statement_at, statement_by, statement_at}
 use Rattle.dn_parse.proofs.Does.{Does, Row, does_by, seq, pass, last, act, keyword_after, sign_after, word_does, any_word_does, if_keyword, if_word, the_word_after, seq_on, does_same, assoc, most_row_does}
 use Rattle.dn_parse.proofs.Readers.{bind_same, sign_row, keyword_row, row_read, expr_read, expr_does, name_read, name_does, spec_does}
 use Rattle.dn_parse.proofs.Sets.{none_of, may_skip, starts, fits, among, one_left, keyword_is, sign_is}
