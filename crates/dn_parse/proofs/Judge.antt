@@ -1,5 +1,5 @@
 -- What is still to be said of a text, one statement after the other.
-use Rattle.std.proofs.Common.{◌≡◌, ◌∙◌, ap, sym, refl, subst, ℕ, suc, ◌-◌, ◌<◌, ◌≤◌, Bool, true, false, cond, List, [], ◌∷◌, ◌++◌, length, Some, None, IfSome, Result, Ok, Err, arith, map, reverse, drop, le-leb}
+use Rattle.std.proofs.Common.{◌≡◌, ◌∙◌, ap, sym, refl, subst, ℕ, suc, ◌-◌, ◌<◌, ◌≤◌, Bool, true, false, cond, List, [], ◌∷◌, ◌++◌, length, Some, None, IfSome, Result, Ok, Err, MatchResult, arith, map, reverse, drop, le-leb}
 use Rattle.std.proofs.lemmas.List.{length-map, length-reverse, map-append, reverse-append}
 use Rattle.dn_token.specs.declared.token.Sign.TheVariants.{Semicolon}
 use Rattle.dn_token.specs.Token.{Token, tokens}
@@ -14,6 +14,8 @@ use Rattle.dn_parse.specs.declared.cursor.Halt.{Halt}
 use Rattle.dn_parse.specs.declared.cursor.Halt.TheVariants.{Refused, Deep as DeepHalt, OutOfMemory as HaltMemory}
 use Rattle.dn_parse.specs.declared.blocks.Misplaced.{Misplaced}
 use Rattle.dn_parse.specs.declared.blocks.Misplaced.TheVariants.{Forbidden, Crowded, OutOfMemory as NoRoom}
+use Rattle.dn_parse.specs.declared.blocks.Trouble.{Trouble}
+use Rattle.dn_parse.specs.declared.blocks.Trouble.TheVariants.{Misplaced as MisplacedAt}
 use Rattle.dn_parse.specs.declared.blocks.Blocks.{Blocks as CodeBlocks}
 use Rattle.dn_parse.specs.declared.blocks.Frame.{Frame as CodeFrame}
 use Rattle.dn_parse.specs.declared.syntax.Tree.{Tree as CodeTree}
@@ -22,7 +24,7 @@ use Rattle.dn_base.specs.Answers.{Answers}
 use Rattle.dn_base.proofs.Orders.{lt-leb}
 use Rattle.dn_parse.specs.Views.{frame_view, blocks_view, item_view, tree_view}
 use Rattle.dn_parse.specs.Commands.{with_commands}
-use Rattle.dn_parse.specs.Faults.{halt_view, misplaced_view, parse_fault_view, halt_fault, misplaced_fault}
+use Rattle.dn_parse.specs.Faults.{halt_view, misplaced_view, parse_fault_view, halt_fault, misplaced_fault, Places}
 use Rattle.dn_parse.proofs.Does.{DoesBy}
 use Rattle.dn_parse.proofs.Heads.{statement_does}
 
@@ -113,11 +115,9 @@ before_steps v r b line s g st =
     let same : step b (record { line = line; statement = s }) ≡ before_begin b line s = ap (λ (t : Bool). cond t (after_begin b line s) (before_begin b line s)) g in
     subst (λ (q : BlockStep). Answers v misplaced_view r q) (sym same) st
 
-pub misplaced_before : {X : Type 0} (v : X → Blocks) (last : ℕ) (all : List Token) (b : Blocks) (ts : List Token) (line : ℕ) (s : Statement) (after : List Token) (r : Result X Misplaced) (m : Misplaced) → first_line ts ≡ Some line → whole_statement_at ts ≡ Ok (s, after) → b.begun ≡ false → Answers v misplaced_view r (before_begin b line s) → r ≡ Err m → IfSome (misplaced_fault m line) (λ f. judge last all b ts ≡ Err f)
-misplaced_before v last all b ts line s after r m h e g st is = fault_misplaced v last all b ts line s after r m h e (before_steps v r b line s g st) is
-
-pub placed_before : {X : Type 0} (v : X → Blocks) (last : ℕ) (all : List Token) (b : Blocks) (ts : List Token) (line : ℕ) (s : Statement) (after : List Token) (r : Result X Misplaced) (x : X) → first_line ts ≡ Some line → whole_statement_at ts ≡ Ok (s, after) → b.begun ≡ false → Answers v misplaced_view r (before_begin b line s) → r ≡ Ok x → judge last all b ts ≡ judge last all (v x) after
-placed_before v last all b ts line s after r x h e g st is = placed_on v last all b ts line s after r x h e (before_steps v r b line s g st) is
+pub put_before : {X : Type 0} (v : X → Blocks) (b : Blocks) (ts : List Token) (line : ℕ) (s : Statement) (after : List Token) (r : Result X Misplaced) (t : Result X Trouble) → first_line ts ≡ Some line → whole_statement_at ts ≡ Ok (s, after) → b.begun ≡ false → Answers v misplaced_view r (before_begin b line s) → MatchResult r (λ x. t ≡ Ok x) (λ m. t ≡ Err (MisplacedAt m line)) → Places v t after b ts
+put_before {X} v b ts line s after (Ok x) t h e g st is = subst (λ (q : Result X Trouble). Places v q after b ts) (sym is) (λ last all. placed_on v last all b ts line s after (Ok x) x h e (before_steps v (Ok x) b line s g st) refl)
+put_before {X} v b ts line s after (Err m) t h e g st is = subst (λ (q : Result X Trouble). Places v q after b ts) (sym is) (λ last all. fault_misplaced v last all b ts line s after (Err m) m h e (before_steps v (Err m) b line s g st) refl)
 
 -- the open blocks at the end
 reverse_none : (fs : List CodeFrame) → length fs ≡ 0 → reverse (map frame_view fs) ≡ []

@@ -1,6 +1,6 @@
 -- The faults of the code as those of the definitions, and what a call that reads a part answers.
 -- Want of memory is none of the faults: it may befall any call.
-use Rattle.std.specs.Prelude.{◌≡◌, ℕ, ◌<◌, ◌≤◌, Bool, true, false, List, length, Option, None, Some, option_map, Result}
+use Rattle.std.specs.Prelude.{◌≡◌, ℕ, ◌<◌, ◌≤◌, Bool, true, false, List, length, Option, None, Some, IfSome, option_map, Result, Ok, Err}
 use Rattle.dn_base.specs.Answers.{Answers}
 use Rattle.dn_token.specs.declared.cursor.Cursor.{Cursor}
 use Rattle.dn_token.specs.Cursor.{cursor_view}
@@ -15,7 +15,7 @@ use Rattle.dn_parse.specs.declared.reader.ParseFault.TheVariants.{Length, Token 
 use Rattle.dn_token.specs.Token.{Token}
 use Rattle.dn_parse.specs.Machine.{Stop, refused, deep}
 use Rattle.dn_parse.specs.Descent.{Read, Next}
-use Rattle.dn_parse.specs.Whole.{Misplacement, forbidden, crowded, TextFault, too_long, bad_token, statement_fault, block_fault, nesting_fault, stop_fault, misplacement_fault}
+use Rattle.dn_parse.specs.Whole.{Blocks, judge, Misplacement, forbidden, crowded, TextFault, too_long, bad_token, statement_fault, block_fault, nesting_fault, stop_fault, misplacement_fault}
 
 -- where the reading of a part stops
 abbrev pub halt_view : Halt → Option Stop
@@ -76,3 +76,8 @@ misplaced_fault m line = option_map (λ r. misplacement_fault r line) (misplaced
 abbrev pub trouble_view : Trouble → ℕ → List Token → Option TextFault
 trouble_view (Halted h) last ts = halt_fault h last ts
 trouble_view (MisplacedAt m line) last ts = misplaced_fault m line
+
+-- statements were placed, and what is still to be said of the text is to be said from these blocks and tokens on; or this is its first fault
+abbrev pub Places : {X : Type 0} → (X → Blocks) → Result X Trouble → List Token → Blocks → List Token → Type 0
+Places view (Ok x) rest blocks ts = (last : ℕ) (all : List Token) → judge last all blocks ts ≡ judge last all (view x) rest
+Places view (Err e) rest blocks ts = (last : ℕ) (all : List Token) → IfSome (trouble_view e last all) (λ f. judge last all blocks ts ≡ Err f)

@@ -1,9 +1,10 @@
 //! The reading of a whole text: its tree, or the first fault with its line.
 
-ghost use Rattle.std.specs.Prelude.{◌≡◌, ◌∷◌, [], ◌+◌, ◌^◌, ◌<◌, List, ℕ, length, true, false, Some, Err, IfSome, IfOk, IfErr, MatchOption};
+ghost use Rattle.std.specs.Prelude.{◌≡◌, ◌∷◌, [], ◌+◌, ◌^◌, ◌<◌, List, ℕ, length, true, false, Some, Ok, Err, IfSome, IfOk, IfErr, MatchOption, MatchResult};
 ghost use Rattle.dn_token.specs.Terms.{cursor_view};
 ghost use Rattle.dn_token.specs.Token.{Token as SpecToken};
-ghost use Rattle.dn_parse.specs.Terms.{IsShorter, at_stop, begins_node, blocks_view, first_line, halt_fault, judge, last_line, line_at, misplaced_fault, no_blocks_yet, parse_fault_view, script_view, text_reading, tree_view, trouble_view, whole, with_commands};
+ghost use Rattle.dn_parse.specs.declared.blocks.Trouble.TheVariants.{Misplaced as MisplacedAt};
+ghost use Rattle.dn_parse.specs.Terms.{IsShorter, Places, at_stop, blocks_view, first_line, halt_fault, judge, last_line, line_at, misplaced_fault, no_blocks_yet, parse_fault_view, script_view, text_reading, tree_view, trouble_view, whole, with_commands};
 ghost use Rattle.dn_base.specs.Terms.{Answers};
 
 use crate::blocks::{Blocks, Misplaced, Trouble};
@@ -124,31 +125,13 @@ fn misplaced_fault(misplaced: Misplaced, line: u32) -> ParseFault
     }
 }
 
-/// Puts the node that the next statement declares into the blocks, which begins with the node's name in this
-/// line and stands before the commands.
-fn put_node<'a>(
-    alloc: Global,
-    blocks: &mut Blocks<'a>,
-    tokens: &mut Cursor<'a>,
-    line: u32,
-) -> Result<(), Trouble>
-    requires begins { first_line (cursor_view tokens.old) ≡ Some line }
-    requires word { begins_node (cursor_view tokens.old) ≡ true }
-    requires before { blocks.old.begun ≡ false }
-    ensures ok { IfOk result (λ _. (last : ℕ) (all : List SpecToken) →
-        judge last all (blocks_view blocks.old) (cursor_view tokens.old)
-        ≡ judge last all (blocks_view blocks.new) (cursor_view tokens.new)) }
-    ensures shorter { IfOk result (λ _. IsShorter tokens.new tokens.old) }
-    ensures err { IfErr result (λ e. (last : ℕ) (all : List SpecToken) →
-        IfSome (trouble_view e last all)
-        (λ f. judge last all (blocks_view blocks.old) (cursor_view tokens.old) ≡ Err f)) }
+/// What a call that puts a statement comes to, where the statement begins in this line.
+fn in_line(put: Result<(), Misplaced>, line: u32) -> Result<(), Trouble>
+    ensures { MatchResult put (λ u. result ≡ Ok u) (λ m. result ≡ Err (MisplacedAt m line)) }
 {
-    match whole_node(alloc, tokens) {
-        Err(stop) => Err(Trouble::Halted(stop)),
-        Ok(decl) => match blocks.put_node(line, decl) {
-            Ok(()) => Ok(()),
-            Err(misplaced) => Err(Trouble::Misplaced(misplaced, line)),
-        },
+    match put {
+        Ok(()) => Ok(()),
+        Err(misplaced) => Err(Trouble::Misplaced(misplaced, line)),
     }
 }
 
@@ -161,35 +144,27 @@ fn put_next<'a>(
 ) -> Result<(), Trouble>
     requires begins { first_line (cursor_view tokens.old) ≡ Some line }
     requires before { blocks.old.begun ≡ false }
-    ensures ok { IfOk result (λ _. (last : ℕ) (all : List SpecToken) →
-        judge last all (blocks_view blocks.old) (cursor_view tokens.old)
-        ≡ judge last all (blocks_view blocks.new) (cursor_view tokens.new)) }
+    ensures placed { Places (λ _. blocks_view blocks.new) result (cursor_view tokens.new)
+        (blocks_view blocks.old) (cursor_view tokens.old) }
     ensures shorter { IfOk result (λ _. IsShorter tokens.new tokens.old) }
-    ensures err { IfErr result (λ e. (last : ℕ) (all : List SpecToken) →
-        IfSome (trouble_view e last all)
-        (λ f. judge last all (blocks_view blocks.old) (cursor_view tokens.old) ≡ Err f)) }
 {
     if at_node(tokens) {
-        return put_node(alloc, blocks, tokens, line);
+        return match whole_node(alloc, tokens) {
+            Err(halt) => Err(Trouble::Halted(halt)),
+            Ok(decl) => in_line(blocks.put_node(line, decl), line),
+        };
     }
     match whole_statement(alloc, tokens) {
         Err(halt) => Err(Trouble::Halted(halt)),
-        Ok(statement) => match blocks.put(alloc, line, statement) {
-            Ok(()) => Ok(()),
-            Err(misplaced) => Err(Trouble::Misplaced(misplaced, line)),
-        },
+        Ok(statement) => in_line(blocks.put(alloc, line, statement), line),
     }
 }
 
 /// The blocks that the tokens come to, up to `begin` or to their end.
 fn blocks_before<'a>(alloc: Global, tokens: &mut Cursor<'a>) -> Result<Blocks<'a>, Trouble>
-    ensures ok { IfOk result (λ b. (last : ℕ) (all : List SpecToken) →
-        judge last all no_blocks_yet (cursor_view tokens.old)
-        ≡ judge last all (blocks_view b) (cursor_view tokens.new)) }
+    ensures placed { Places blocks_view result (cursor_view tokens.new)
+        no_blocks_yet (cursor_view tokens.old) }
     ensures ended { IfOk result (λ b. b.begun ≡ false → cursor_view tokens.new ≡ []) }
-    ensures err { IfErr result (λ e. (last : ℕ) (all : List SpecToken) →
-        IfSome (trouble_view e last all)
-        (λ f. judge last all no_blocks_yet (cursor_view tokens.old) ≡ Err f)) }
 {
     let mut blocks = Blocks::none(alloc);
     'statements: while !blocks.begun {

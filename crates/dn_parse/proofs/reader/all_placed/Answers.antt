@@ -19,7 +19,7 @@ returns-then-not-blocks-clause-ok c =
     let before : c.in_ok-blocks.blocks.begun ≡ false = search rules in
     let ended : cursor_view c.blocks_before.new.tokens ≡ [] = c.in_ok-blocks.ensures.ended before in
     λ last all.
-    c.in_ok-blocks.ensures.ok last all
+    c.in_ok-blocks.ensures.placed last all
     ∙ ap (judge last all (blocks_view c.in_ok-blocks.blocks)) ended
     ∙ judge_end last all (blocks_view c.in_ok-blocks.blocks)
     ∙ ap (λ (cs : List Command). at_stop whole last all (with_commands (blocks_view c.in_ok-blocks.blocks) cs)) (sym c.none.ensures)
@@ -31,10 +31,10 @@ returns-in_err-commands-clause-err c =
     let same : c.from_residual-in_err-commands.result ≡ Err c.in_err-commands.field-0.0 = search rules in
     subst (λ (r : Result (CodeBlocks × Script) Trouble). IfErr r (λ e. (last : ℕ) → (all : List Token) → IfSome (trouble_view e last all) (λ f. judge last all no_blocks_yet ts ≡ Err f))) (sym same)
     (λ last all. fault_before (trouble_view c.in_err-commands.field-0.0 last all) (judge last all no_blocks_yet ts) (judge last all (blocks_view c.in_ok-blocks.blocks) (cursor_view c.blocks_before.new.tokens))
-    (c.in_ok-blocks.ensures.ok last all)
+    (c.in_ok-blocks.ensures.placed last all)
     (c.in_err-commands.ensures.err last all (blocks_view c.in_ok-blocks.blocks) begun))
 
 pub returns-clause-ok : goal.returns-clause-ok
 returns-clause-ok c =
     let begun : c.in_ok-blocks.blocks.begun ≡ true = search rules in
-    λ last all. c.in_ok-blocks.ensures.ok last all ∙ c.in_ok-commands.ensures.ok last all (blocks_view c.in_ok-blocks.blocks) begun
+    λ last all. c.in_ok-blocks.ensures.placed last all ∙ c.in_ok-commands.ensures.ok last all (blocks_view c.in_ok-blocks.blocks) begun

@@ -7,4 +7,4 @@ pub statements-init : goal.statements-init
 statements-init c = λ last all. ap (λ (b : Blocks). judge last all b (cursor_view c.args.tokens.now)) (sym c.none-blocks.ensures)
 
 pub statements-preserved : goal.statements-preserved
-statements-preserved c = λ last all. c.statements.invariant last all ∙ c.in_ok-put_next.ensures.ok last all
+statements-preserved c = λ last all. c.statements.invariant last all ∙ c.in_ok-put_next.ensures.placed last all
