@@ -10,6 +10,9 @@ use dn_token::cursor::Cursor;
 use dn_token::token::{Lexeme, Sign};
 use std::alloc::{AllocError, Global};
 
+/// The most parentheses that may be open at once.
+pub const MOST_OPEN: u8 = 32;
+
 /// A row of members: a product of factors, or a sum of products.
 #[derive(Clone, Copy)]
 pub enum Operation {

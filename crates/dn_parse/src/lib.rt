@@ -13,6 +13,7 @@ pub mod few;
 pub mod laws;
 mod listed;
 mod nodes;
+mod parts;
 mod plain;
 pub mod reader;
 pub mod script;

@@ -1,77 +1,131 @@
 //! Parts of one sort, one behind another.
 
-ghost use Rattle.std.specs.Prelude.{◌≡◌, ◌<◌, [], ◌∷◌, map, IfOk};
+ghost use Rattle.std.specs.Prelude.{◌≡◌, ◌<◌, [], ◌∷◌, true, map, IfOk};
 ghost use Rattle.dn_token.specs.Terms.{cursor_view};
-ghost use Rattle.dn_parse.specs.Terms.{IsShorter, Reads, first_and, first_and_most};
+ghost use Rattle.dn_parse.specs.Terms.{GoesOn, IsShorter, Reads, after_separator, bracketed_at, by_commas, closed_at, first_and_most, in_brackets, one_behind};
 
-use crate::cursor::Halt;
+use crate::cursor::{Halt, after_keyword, after_sign, sign};
 use dn_base::items::Items;
 use dn_token::cursor::Cursor;
+use dn_token::token::{Keyword, Sign};
 use std::alloc::{AllocError, Global};
 
 /// A part of which one or more may stand one behind another.
 pub(crate) trait Member<'a>: Drop {
-    ghost use Rattle.std.specs.Prelude.{List, IfOk};
-    ghost use Rattle.dn_token.specs.Token.{Token};
+    ghost use Rattle.std.specs.Prelude.{IfOk};
     ghost use Rattle.dn_token.specs.Cursor.{cursor_view};
-    ghost use Rattle.dn_parse.specs.Descent.{Next, Reader};
-    ghost use Rattle.dn_parse.specs.Faults.{Reads, ReadsNext, IsShorter, Shortens};
+    ghost use Rattle.dn_parse.specs.Descent.{Reader};
+    ghost use Rattle.dn_parse.specs.Faults.{Reads, IsShorter};
 
     /// What it is in the tree.
     ghost Tree: { Type 0 };
     /// The part in the tree.
     ghost view: { Self → Tree };
-    /// How the first one is read.
-    ghost first_at: { Reader Tree };
-    /// How one behind another is read, where one stands there.
-    ghost next_at: { List Token → Next Tree };
+    /// How it is read.
+    ghost read_at: { Reader Tree };
 
-    /// The first one.
-    fn first(alloc: Global, tokens: &mut Cursor<'a>) -> Result<Self, Halt>
-        ensures gives { Reads view result tokens.new (first_at (cursor_view tokens.old)) }
+    /// Reads one.
+    fn read(alloc: Global, tokens: &mut Cursor<'a>) -> Result<Self, Halt>
+        ensures gives { Reads view result tokens.new (read_at (cursor_view tokens.old)) }
         ensures shorter { IfOk result (λ _. IsShorter tokens.new tokens.old) };
-
-    /// One behind another, where one stands there.
-    fn next(alloc: Global, tokens: &mut Cursor<'a>) -> Result<Option<Self>, Halt>
-        ensures gives { ReadsNext view result tokens.new (next_at (cursor_view tokens.old)) }
-        ensures shorter { IfOk result (λ o. Shortens o tokens.new tokens.old) };
 }
 
-/// One or more, one behind another.
-pub(crate) fn members<'a, M: Member<'a>>(
-    alloc: Global,
-    tokens: &mut Cursor<'a>,
-) -> Result<Items<M>, Halt>
+/// One or more, with a `,` between two of them.
+fn members<'a, M: Member<'a>>(alloc: Global, tokens: &mut Cursor<'a>) -> Result<Items<M>, Halt>
     ensures gives { Reads (map M.view) result tokens.new
-        (first_and M.first_at M.next_at (cursor_view tokens.old)) }
+        (by_commas M.read_at (cursor_view tokens.old)) }
     ensures shorter { IfOk result (λ _. IsShorter tokens.new tokens.old) }
 {
-    let first = M::first(alloc, tokens)?;
+    let first = M::read(alloc, tokens)?;
     let mut members = Items::new(alloc);
     members.push(first)?;
-    'list: while let Some(member) = M::next(alloc, tokens)? {
+    'list: while after_sign(tokens, Sign::Comma) {
+        let member = M::read(alloc, tokens)?;
         members.push(member)?;
     }
     Ok(members)
 }
 
-/// One to eight, one behind another: a ninth is left where it stands.
-pub(crate) fn eight_members<'a, M: Member<'a>>(
+/// `"[" part { "," part } "]"`
+#[inline(never)]
+fn bracketed<'a, M: Member<'a>>(alloc: Global, tokens: &mut Cursor<'a>) -> Result<Items<M>, Halt>
+    ensures { Reads (map M.view) result tokens.new
+        (in_brackets (by_commas M.read_at) (cursor_view tokens.old)) }
+{
+    sign(tokens, Sign::OpenBracket)?;
+    let members = members(alloc, tokens)?;
+    sign(tokens, Sign::CloseBracket)?;
+    Ok(members)
+}
+
+/// `[ word "[" part { "," part } "]" ]`, for this reserved word
+pub(crate) fn bracketed_after<'a, M: Member<'a>>(
+    alloc: Global,
+    tokens: &mut Cursor<'a>,
+    word: Keyword,
+) -> Result<Items<M>, Halt>
+    ensures { Reads (map M.view) result tokens.new
+        (bracketed_at word M.read_at (cursor_view tokens.old)) }
+{
+    if !after_keyword(tokens, word) {
+        return Ok(Items::new(alloc));
+    }
+    bracketed(alloc, tokens)
+}
+
+/// `[ part { "," part } ] ")"`
+pub(crate) fn closed_members<'a, M: Member<'a>>(
     alloc: Global,
     tokens: &mut Cursor<'a>,
 ) -> Result<Items<M>, Halt>
+    ensures { Reads (map M.view) result tokens.new
+        (closed_at M.read_at (cursor_view tokens.old)) }
+{
+    if after_sign(tokens, Sign::CloseParenthesis) {
+        return Ok(Items::new(alloc));
+    }
+    let members = members(alloc, tokens)?;
+    sign(tokens, Sign::CloseParenthesis)?;
+    Ok(members)
+}
+
+/// What stands between two parts.
+#[derive(Clone, Copy)]
+pub enum Separator {
+    Comma,
+    And,
+}
+
+/// Whether this separator is the next token; it goes on behind it where it is.
+fn after_separator<'a>(tokens: &mut Cursor<'a>, by: Separator) -> bool
+    ensures gives { GoesOn result (cursor_view tokens.old) (cursor_view tokens.new)
+        (after_separator by (cursor_view tokens.old)) }
+    ensures shorter { result ≡ true → IsShorter tokens.new tokens.old }
+{
+    match by {
+        Separator::Comma => after_sign(tokens, Sign::Comma),
+        Separator::And => after_keyword(tokens, Keyword::And),
+    }
+}
+
+/// One to eight, with this separator between two of them: a ninth is left where it stands.
+pub(crate) fn eight_members<'a, M: Member<'a>>(
+    alloc: Global,
+    tokens: &mut Cursor<'a>,
+    by: Separator,
+) -> Result<Items<M>, Halt>
     ensures gives { Reads (map M.view) result tokens.new
-        (first_and_most 7 M.first_at M.next_at (cursor_view tokens.old)) }
+        (first_and_most 7 M.read_at (one_behind by M.read_at) (cursor_view tokens.old)) }
     ensures shorter { IfOk result (λ _. IsShorter tokens.new tokens.old) }
 {
-    let first = M::first(alloc, tokens)?;
+    let first = M::read(alloc, tokens)?;
     let mut members = one_member(alloc, first)?;
     let mut left = 7_u8;
     'list: while left > 0 {
-        let next = M::next(alloc, tokens)?;
-        let Some(member) = next else {
+        if !after_separator(tokens, by) {
             return Ok(members);
-        };
+        }
+        let member = M::read(alloc, tokens)?;
         members.push(member)?;
         left -= 1;
     }

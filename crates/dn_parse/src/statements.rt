@@ -2,15 +2,15 @@
 
 ghost use Rattle.std.specs.Prelude.{◌≡◌, ◌<◌, true, length, map, IfOk, IfSome};
 ghost use Rattle.dn_token.specs.Terms.{cursor_view};
-ghost use Rattle.dn_parse.specs.Terms.{IsShorter, Reads, ReadsNext, Shortens, access_at, any_word_at, arg_at, arg_view, args_at, as_declared, begins_node, closed_args_at, closed_params_at, command_at, command_view, declaration_view, declares, expr_view, gather_at, grant_at, keyword_statement_at, lookup_at, loop_at, measure_at, mode_at, module_at, name_view, next_arg_at, next_param_at, next_piece_at, next_port_at, node_at, order_at, order_view, param_at, param_view, params_at, piece_at, piece_view, pieces_at, ports_at, radix_at, resolve_at, role_view, route_at, statement_at, statement_view, unit_declaration_at, use_at, view_at, whole_statement_at, word_order_at, word_statement_at};
+ghost use Rattle.dn_parse.specs.Terms.{IsShorter, Reads, ReadsNext, access_at, any_word_at, as_declared, begins_node, command_at, command_view, declaration_view, declares, expr_view, gather_at, grant_at, keyword_statement_at, lookup_at, loop_at, measure_at, mode_at, module_at, node_at, order_at, order_view, radix_at, resolve_at, role_view, route_at, statement_at, statement_view, unit_declaration_at, use_at, view_at, whole_statement_at, word_order_at, word_statement_at};
 ghost use Rattle.dn_parse.specs.declared.cursor.Halt.TheVariants.{Refused};
 
 use crate::cursor::{
     Halt, after_keyword, after_sign, after_word, begins_order, keyword, refusal, sign, the_word,
     word,
 };
-use crate::expressions::expr;
-use crate::listed::{Member, eight_members, members};
+use crate::expressions::{MOST_OPEN, expr};
+use crate::listed::{Separator, closed_members, eight_members};
 use crate::nodes::{name, spec};
 use crate::syntax::{
     Arg, Cmd, Decl, DeclRole, Expr, GrantExpr, Mode, NameExpr, Order, Param, PieceExpr, RouteExpr,
@@ -21,12 +21,6 @@ use dn_token::cursor::Cursor;
 use dn_token::keyword::spelling;
 use dn_token::token::{Keyword, Lexeme, Sign};
 use std::alloc::Global;
-
-/// The most parentheses that may be open at once.
-const MOST_OPEN: u8 = 32;
-
-/// The most that may be opened inside the parentheses of a `use`.
-const MOST_INSIDE: u8 = 31;
 
 /// A statement as it stands between two `;`: a module or a loop is its head.
 #[derive(Drop)]
@@ -68,197 +62,6 @@ fn any_word<'a>(tokens: &mut Cursor<'a>) -> Result<&'a str, Halt>
     Ok(word)
 }
 
-/// `"num" word | "node" word`
-#[tactic(auto, unfolding(crate::specs::Descent::param_at))]
-fn param<'a>(alloc: Global, tokens: &mut Cursor<'a>) -> Result<Param<'a>, Halt>
-    ensures gives { Reads param_view result tokens.new (param_at (cursor_view tokens.old)) }
-    ensures shorter { IfOk result (λ _. IsShorter tokens.new tokens.old) }
-{
-    if !after_keyword(tokens, Keyword::Num) {
-        keyword(tokens, Keyword::Node)?;
-        let name = word(tokens)?;
-        return Ok(Param::Node(name));
-    }
-    let name = word(tokens)?;
-    Ok(Param::Num(name))
-}
-
-/// `[ "," param ]`
-#[tactic(auto, unfolding(crate::specs::Descent::next_param_at))]
-fn next_param<'a>(alloc: Global, tokens: &mut Cursor<'a>) -> Result<Option<Param<'a>>, Halt>
-    ensures gives { ReadsNext param_view result tokens.new
-        (next_param_at (cursor_view tokens.old)) }
-    ensures shorter { IfOk result (λ o. Shortens o tokens.new tokens.old) }
-{
-    if !after_sign(tokens, Sign::Comma) {
-        return Ok(None);
-    }
-    let param = param(alloc, tokens)?;
-    Ok(Some(param))
-}
-
-impl<'a> Member<'a> for Param<'a> {
-    ghost use Rattle.dn_parse.specs.Tree.{Param as Parameter};
-    ghost use Rattle.dn_parse.specs.Views.{param_view};
-    ghost use Rattle.dn_parse.specs.Descent.{param_at, next_param_at};
-
-    ghost Tree = { Parameter };
-
-    ghost view = { param_view };
-
-    ghost first_at = { param_at };
-
-    ghost next_at = { next_param_at };
-
-    fn first(alloc: Global, tokens: &mut Cursor<'a>) -> Result<Param<'a>, Halt> {
-        param(alloc, tokens)
-    }
-
-    fn next(alloc: Global, tokens: &mut Cursor<'a>) -> Result<Option<Param<'a>>, Halt> {
-        next_param(alloc, tokens)
-    }
-}
-
-/// `param { "," param }`
-#[tactic(auto, unfolding(crate::specs::Descent::params_at))]
-fn some_params<'a>(alloc: Global, tokens: &mut Cursor<'a>) -> Result<Items<Param<'a>>, Halt>
-    ensures gives { Reads (map param_view) result tokens.new (params_at (cursor_view tokens.old)) }
-    ensures shorter { IfOk result (λ _. IsShorter tokens.new tokens.old) }
-{
-    members(alloc, tokens)
-}
-
-/// `[ param { "," param } ] ")"`
-#[tactic(auto, unfolding(crate::specs::Descent::closed_params_at))]
-fn params<'a>(alloc: Global, tokens: &mut Cursor<'a>) -> Result<Items<Param<'a>>, Halt>
-    ensures gives { Reads (map param_view) result tokens.new
-        (closed_params_at (cursor_view tokens.old)) }
-{
-    if after_sign(tokens, Sign::CloseParenthesis) {
-        return Ok(Items::new(alloc));
-    }
-    let params = some_params(alloc, tokens)?;
-    sign(tokens, Sign::CloseParenthesis)?;
-    Ok(params)
-}
-
-/// `expr | "node" name`
-#[tactic(auto, unfolding(crate::specs::Descent::arg_at))]
-fn arg<'a>(alloc: Global, tokens: &mut Cursor<'a>) -> Result<Arg<'a>, Halt>
-    ensures gives { Reads arg_view result tokens.new (arg_at (cursor_view tokens.old)) }
-    ensures shorter { IfOk result (λ _. IsShorter tokens.new tokens.old) }
-{
-    if !after_keyword(tokens, Keyword::Node) {
-        let value = expr(alloc, tokens, MOST_INSIDE)?;
-        return Ok(Arg::Num(value));
-    }
-    let node = name(alloc, tokens, MOST_INSIDE)?;
-    Ok(Arg::Node(node))
-}
-
-/// `[ "," arg ]`
-#[tactic(auto, unfolding(crate::specs::Descent::next_arg_at))]
-fn next_arg<'a>(alloc: Global, tokens: &mut Cursor<'a>) -> Result<Option<Arg<'a>>, Halt>
-    ensures gives { ReadsNext arg_view result tokens.new (next_arg_at (cursor_view tokens.old)) }
-    ensures shorter { IfOk result (λ o. Shortens o tokens.new tokens.old) }
-{
-    if !after_sign(tokens, Sign::Comma) {
-        return Ok(None);
-    }
-    let arg = arg(alloc, tokens)?;
-    Ok(Some(arg))
-}
-
-impl<'a> Member<'a> for Arg<'a> {
-    ghost use Rattle.dn_parse.specs.Tree.{Arg as Argument};
-    ghost use Rattle.dn_parse.specs.Views.{arg_view};
-    ghost use Rattle.dn_parse.specs.Descent.{arg_at, next_arg_at};
-
-    ghost Tree = { Argument };
-
-    ghost view = { arg_view };
-
-    ghost first_at = { arg_at };
-
-    ghost next_at = { next_arg_at };
-
-    fn first(alloc: Global, tokens: &mut Cursor<'a>) -> Result<Arg<'a>, Halt> {
-        arg(alloc, tokens)
-    }
-
-    fn next(alloc: Global, tokens: &mut Cursor<'a>) -> Result<Option<Arg<'a>>, Halt> {
-        next_arg(alloc, tokens)
-    }
-}
-
-/// `arg { "," arg }`
-#[tactic(auto, unfolding(crate::specs::Descent::args_at))]
-fn some_args<'a>(alloc: Global, tokens: &mut Cursor<'a>) -> Result<Items<Arg<'a>>, Halt>
-    ensures gives { Reads (map arg_view) result tokens.new (args_at (cursor_view tokens.old)) }
-    ensures shorter { IfOk result (λ _. IsShorter tokens.new tokens.old) }
-{
-    members(alloc, tokens)
-}
-
-/// `[ arg { "," arg } ] ")"`
-#[tactic(auto, unfolding(crate::specs::Descent::closed_args_at))]
-fn args<'a>(alloc: Global, tokens: &mut Cursor<'a>) -> Result<Items<Arg<'a>>, Halt>
-    ensures gives { Reads (map arg_view) result tokens.new
-        (closed_args_at (cursor_view tokens.old)) }
-{
-    if after_sign(tokens, Sign::CloseParenthesis) {
-        return Ok(Items::new(alloc));
-    }
-    let args = some_args(alloc, tokens)?;
-    sign(tokens, Sign::CloseParenthesis)?;
-    Ok(args)
-}
-
-/// `[ "," name ]`
-#[tactic(auto, unfolding(crate::specs::Descent::next_port_at))]
-fn next_port<'a>(alloc: Global, tokens: &mut Cursor<'a>) -> Result<Option<NameExpr<'a>>, Halt>
-    ensures gives { ReadsNext name_view result tokens.new (next_port_at (cursor_view tokens.old)) }
-    ensures shorter { IfOk result (λ o. Shortens o tokens.new tokens.old) }
-{
-    if !after_sign(tokens, Sign::Comma) {
-        return Ok(None);
-    }
-    let port = name(alloc, tokens, MOST_OPEN)?;
-    Ok(Some(port))
-}
-
-impl<'a> Member<'a> for NameExpr<'a> {
-    ghost use Rattle.std.specs.Prelude.{List};
-    ghost use Rattle.dn_parse.specs.Tree.{Part};
-    ghost use Rattle.dn_parse.specs.Views.{name_view};
-    ghost use Rattle.dn_parse.specs.Descent.{name_at, next_port_at};
-
-    ghost Tree = { List Part };
-
-    ghost view = { name_view };
-
-    ghost first_at = { name_at 32 };
-
-    ghost next_at = { next_port_at };
-
-    fn first(alloc: Global, tokens: &mut Cursor<'a>) -> Result<NameExpr<'a>, Halt> {
-        name(alloc, tokens, MOST_OPEN)
-    }
-
-    fn next(alloc: Global, tokens: &mut Cursor<'a>) -> Result<Option<NameExpr<'a>>, Halt> {
-        next_port(alloc, tokens)
-    }
-}
-
-/// `name { "," name }`, at most eight: a ninth is left where it stands.
-#[tactic(auto, unfolding(crate::specs::Descent::ports_at))]
-fn ports<'a>(alloc: Global, tokens: &mut Cursor<'a>) -> Result<Items<NameExpr<'a>>, Halt>
-    ensures gives { Reads (map name_view) result tokens.new (ports_at (cursor_view tokens.old)) }
-    ensures shorter { IfOk result (λ _. IsShorter tokens.new tokens.old) }
-{
-    eight_members(alloc, tokens)
-}
-
 /// `name "is" spec`
 #[tactic(auto, unfolding(crate::specs::Descent::node_at))]
 fn node<'a>(alloc: Global, tokens: &mut Cursor<'a>, role: DeclRole) -> Result<Decl<'a>, Halt>
@@ -294,8 +97,8 @@ fn measure<'a>(alloc: Global, tokens: &mut Cursor<'a>, word: Keyword) -> Result<
     expr(alloc, tokens, MOST_OPEN)
 }
 
-/// `name "kind" any "page" expr "slots" expr "reach" expr "to" name { "," name }`
-#[tactic(auto, unfolding(crate::specs::Descent::unit_declaration_at))]
+/// `name "kind" any "page" expr "slots" expr "reach" expr "to" name { "," name }`, with at most eight ports
+#[tactic(auto, unfolding(crate::specs::Descent::unit_declaration_at, crate::specs::Descent::ports_at, crate::specs::Descent::next_port_at))]
 fn unit<'a>(alloc: Global, tokens: &mut Cursor<'a>) -> Result<Decl<'a>, Halt>
     ensures gives { Reads declaration_view result tokens.new
         (unit_declaration_at (cursor_view tokens.old)) }
@@ -307,7 +110,7 @@ fn unit<'a>(alloc: Global, tokens: &mut Cursor<'a>) -> Result<Decl<'a>, Halt>
     let slots = measure(alloc, tokens, Keyword::Slots)?;
     let reach = measure(alloc, tokens, Keyword::Reach)?;
     keyword(tokens, Keyword::To)?;
-    let ports = ports(alloc, tokens)?;
+    let ports = eight_members(alloc, tokens, Separator::Comma)?;
     let unit = UnitExpr {
         name,
         kind,
@@ -320,24 +123,24 @@ fn unit<'a>(alloc: Global, tokens: &mut Cursor<'a>) -> Result<Decl<'a>, Halt>
 }
 
 /// `word "(" [ param { "," param } ] ")"`
-#[tactic(auto, unfolding(crate::specs::Descent::module_at))]
+#[tactic(auto, unfolding(crate::specs::Descent::module_at, crate::specs::Descent::closed_params_at, crate::specs::Descent::params_at, crate::specs::Descent::next_param_at))]
 fn module<'a>(alloc: Global, tokens: &mut Cursor<'a>) -> Result<Statement<'a>, Halt>
     ensures gives { Reads statement_view result tokens.new (module_at (cursor_view tokens.old)) }
 {
     let title = word(tokens)?;
     sign(tokens, Sign::OpenParenthesis)?;
-    let params = params(alloc, tokens)?;
+    let params = closed_members(alloc, tokens)?;
     Ok(Statement::Module { title, params })
 }
 
 /// `word "(" [ arg { "," arg } ] ")" "as" name`
-#[tactic(auto, unfolding(crate::specs::Descent::use_at))]
+#[tactic(auto, unfolding(crate::specs::Descent::use_at, crate::specs::Descent::closed_args_at, crate::specs::Descent::args_at, crate::specs::Descent::next_arg_at))]
 fn instance<'a>(alloc: Global, tokens: &mut Cursor<'a>) -> Result<Statement<'a>, Halt>
     ensures gives { Reads statement_view result tokens.new (use_at (cursor_view tokens.old)) }
 {
     let title = word(tokens)?;
     sign(tokens, Sign::OpenParenthesis)?;
-    let args = args(alloc, tokens)?;
+    let args = closed_members(alloc, tokens)?;
     keyword(tokens, Keyword::As)?;
     let prefix = name(alloc, tokens, MOST_OPEN)?;
     Ok(Statement::Instance {
@@ -469,76 +272,13 @@ fn radix<'a>(alloc: Global, tokens: &mut Cursor<'a>) -> Result<Order<'a>, Halt>
     Ok(Order::Radix { node, pool })
 }
 
-/// `word name expr expr`
-#[tactic(auto, unfolding(crate::specs::Descent::piece_at))]
-fn piece<'a>(alloc: Global, tokens: &mut Cursor<'a>) -> Result<PieceExpr<'a>, Halt>
-    ensures gives { Reads piece_view result tokens.new (piece_at (cursor_view tokens.old)) }
-    ensures shorter { IfOk result (λ _. IsShorter tokens.new tokens.old) }
-{
-    let id = word(tokens)?;
-    let node = name(alloc, tokens, MOST_OPEN)?;
-    let base = expr(alloc, tokens, MOST_OPEN)?;
-    let size = expr(alloc, tokens, MOST_OPEN)?;
-    Ok(PieceExpr {
-        id,
-        node,
-        base,
-        size,
-    })
-}
-
-/// `[ "and" piece ]`
-#[tactic(auto, unfolding(crate::specs::Descent::next_piece_at))]
-fn next_piece<'a>(alloc: Global, tokens: &mut Cursor<'a>) -> Result<Option<PieceExpr<'a>>, Halt>
-    ensures gives { ReadsNext piece_view result tokens.new
-        (next_piece_at (cursor_view tokens.old)) }
-    ensures shorter { IfOk result (λ o. Shortens o tokens.new tokens.old) }
-{
-    if !after_keyword(tokens, Keyword::And) {
-        return Ok(None);
-    }
-    let piece = piece(alloc, tokens)?;
-    Ok(Some(piece))
-}
-
-impl<'a> Member<'a> for PieceExpr<'a> {
-    ghost use Rattle.dn_parse.specs.Tree.{Piece};
-    ghost use Rattle.dn_parse.specs.Views.{piece_view};
-    ghost use Rattle.dn_parse.specs.Descent.{piece_at, next_piece_at};
-
-    ghost Tree = { Piece };
-
-    ghost view = { piece_view };
-
-    ghost first_at = { piece_at };
-
-    ghost next_at = { next_piece_at };
-
-    fn first(alloc: Global, tokens: &mut Cursor<'a>) -> Result<PieceExpr<'a>, Halt> {
-        piece(alloc, tokens)
-    }
-
-    fn next(alloc: Global, tokens: &mut Cursor<'a>) -> Result<Option<PieceExpr<'a>>, Halt> {
-        next_piece(alloc, tokens)
-    }
-}
-
-/// `piece { "and" piece }`, at most eight: a ninth is left where it stands.
-#[tactic(auto, unfolding(crate::specs::Descent::pieces_at))]
-fn pieces<'a>(alloc: Global, tokens: &mut Cursor<'a>) -> Result<Items<PieceExpr<'a>>, Halt>
-    ensures gives { Reads (map piece_view) result tokens.new
-        (pieces_at (cursor_view tokens.old)) }
-{
-    eight_members(alloc, tokens)
-}
-
-/// `name piece { "and" piece } [ access ]`, of `gather`
-#[tactic(auto, unfolding(crate::specs::Descent::gather_at))]
+/// `name piece { "and" piece } [ access ]`, of `gather`, with at most eight pieces
+#[tactic(auto, unfolding(crate::specs::Descent::gather_at, crate::specs::Descent::pieces_at, crate::specs::Descent::next_piece_at))]
 fn gather<'a>(alloc: Global, tokens: &mut Cursor<'a>) -> Result<Order<'a>, Halt>
     ensures gives { Reads order_view result tokens.new (gather_at (cursor_view tokens.old)) }
 {
     let agent = name(alloc, tokens, MOST_OPEN)?;
-    let pieces = pieces(alloc, tokens)?;
+    let pieces = eight_members(alloc, tokens, Separator::And)?;
     let mode = access(tokens)?;
     Ok(Order::Gather {
         agent,

@@ -1,11 +1,11 @@
-use Rattle.std.proofs.Common.{◌≡◌, ap, sym, subst, [], ◌∷◌, map, arith}
+use Rattle.std.proofs.Common.{◌≡◌, ◌∙◌, ap, sym, subst, refl, [], ◌∷◌, map, Ok, arith}
 use Rattle.dn_token.specs.Cursor.{cursor_view}
 use Rattle.std.proofs.lemmas.Result.{err_from_is_err_and}
 use Rattle.dn_parse.specs.Views.{part_view}
 use Rattle.dn_parse.specs.Descent.{next_part_at, name_at}
-use Rattle.dn_parse.proofs.Members.{member_shortens, member_found}
-use Rattle.dn_parse.proofs.Series.{Found, halted, found_first}
-use Rattle.dn_parse.proofs.Firsts.{name_stop, name_first}
+use Rattle.dn_parse.proofs.Members.{pushed_found}
+use Rattle.dn_parse.proofs.Series.{Found, halted, found_all, found_first, found_stop}
+use Rattle.dn_parse.proofs.Firsts.{name_first, name_stop, no_part, part_found, part_stops}
 use Rattle.dn_parse.proofs.nodes.name.Goals as goal
 
 pub returns-in_err-first-clause-gives : goal.returns-in_err-first-clause-gives
@@ -23,8 +23,19 @@ parts-init c =
 
 pub parts-preserved : goal.parts-preserved
 parts-preserved c =
-    let shorter = member_shortens _ _ _ _ c.in-Some.is c.in_ok-part.ensures.shorter in
+    let is = part_found c.args.depth (cursor_view c.parts.tokens) _ _ _ c.parts-test.ensures.gives c.in_ok-part.ensures.gives in
+    let less = c.parts-test.ensures.shorter refl in
     record {
-      shorter = omega (arith, shorter, c.parts.invariant.shorter);
-      before = member_found part_view _ _ _ _ _ _ c.parts.invariant.before c.in_ok-part.ensures.gives c.in-Some.is c.in_ok-part.ensures.shorter c.in_ok-parts.ensures;
+      shorter = omega (arith, c.in_ok-part.ensures.shorter, less, c.parts.invariant.shorter);
+      before = pushed_found part_view _ _ (cursor_view c.parts.tokens) _ _ c.parts.invariant.before is (omega (arith, c.in_ok-part.ensures.shorter, less)) c.in_ok-parts.ensures;
     }
+
+pub returns-in_err-part-clause-gives : goal.returns-in_err-part-clause-gives
+returns-in_err-part-clause-gives c =
+    let p = err_from_is_err_and c.from_residual-in_err-part.result c.from_residual-in_err-part.ensures.1 in
+    rw (p.1, p.2) (halted _ _ _ c.in_err-part.ensures.gives (λ s e. found_stop c.parts.invariant.before s (part_stops c.args.depth (cursor_view c.parts.tokens) _ s c.parts-test.ensures.gives e)))
+
+pub returns-clause-gives : goal.returns-clause-gives
+returns-clause-gives c =
+    let none = no_part c.args.depth (cursor_view c.parts.tokens) c.parts-test.ensures.gives.0 in
+    found_all c.parts.invariant.before none ∙ ap (λ ts. Ok (map part_view c.parts.parts, ts)) (sym c.parts-test.ensures.gives.1)
