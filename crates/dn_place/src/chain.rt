@@ -1,9 +1,7 @@
 //! The search, hop by hop from memory's end to the agent's end.
 
-ghost use Rattle.std.specs.Prelude.{◌≡◌, ◌∷◌, ◌%◌, ◌*◌, ◌/◌, ◌^◌, ◌+◌, ◌-◌, ◌<◌, ◌≤◌, ℕ, false, Some, IfOk, IfSome, IsTrue, length, slice_get};
-ghost use Rattle.dn_net.specs.Terms.{unit_at};
-ghost use Rattle.dn_placement.specs.Terms.{Meets};
-ghost use Rattle.dn_place.specs.Terms.{ArePreimages, AreToward, AreUsable, IsDoor, IsFirstOrNone, IsOutput, IsSearchReady, IsSearchStage, NoneUnder, hops_view, key_of_hops, to_output, to_port, to_unit};
+ghost use Rattle.std.specs.Prelude.{◌≡◌, ◌∷◌, ◌%◌, ◌*◌, ◌/◌, ◌^◌, ◌+◌, ◌-◌, ◌<◌, ◌≤◌, false, Some, IfOk, IfSome, IsTrue, length, slice_get};
+ghost use Rattle.dn_place.specs.Terms.{ArePreimages, AreToward, IsChosen, IsDoor, IsFirstOrNone, IsOutput, IsSearchReady, IsSearchStage, NoneUnder, hops_view, key_of_hops, to_output, to_port, to_unit};
 
 use crate::OutOfMemory;
 use crate::blocks::is_alone;
@@ -202,7 +200,7 @@ fn by_entry<Q: Quest>(
     if next != x {
         return Ok(None);
     }
-    by_input(quest, stage, door.translator, hop, &None)
+    by_input(quest, stage, hop, &None)
 }
 
 /// The same with each input in turn: inputs agree with the output modulo the page.
@@ -240,7 +238,7 @@ fn by_inputs<Q: Quest>(quest: &Q, stage: SearchStage, door: Door, y: u64) -> Fou
                 place == 1 && tries == 0,
                 made,
             )?;
-            if let Some(placement) = by_input(quest, stage, door.translator, hop, &now)? {
+            if let Some(placement) = by_input(quest, stage, hop, &now)? {
                 return Ok(Some(placement));
             }
             made = now;
@@ -280,26 +278,14 @@ fn due_preimages<Q: Quest>(
 fn by_input<Q: Quest>(
     quest: &Q,
     stage: SearchStage,
-    translator: &Unit,
     hop: Hop,
     preimages: &Option<Preimages>,
 ) -> FoundPlacement
     requires consistent { Q.is_consistent quest.now }
     requires stage { IsSearchStage (Q.sought quest.now) stage }
     requires more { length (hops_view stage.chosen) < stage.count }
-    requires unit { unit_at (Q.sought quest.now).net hop.unit ≡ Some translator.now }
-    requires port { hop.port < length translator.now.ports }
-    requires agree { hop.x % 2 ^ translator.now.page ≡ hop.y % 2 ^ translator.now.page }
-    requires within { hop.x + (Q.sought quest.now).request.size
-        ≤ translator.now.slots * 2 ^ translator.now.page }
-    requires reached { hop.y + (Q.sought quest.now).request.size ≤ 2 ^ translator.now.reach }
-    requires usable { AreUsable (Q.sought quest.now).slots hop.unit
-        (hop.x / 2 ^ translator.now.page)
-        ((hop.x + (Q.sought quest.now).request.size - 1) / 2 ^ translator.now.page)
-        hop.port (hop.y / 2 ^ translator.now.page) }
-    requires meets { (n : ℕ) → slice_get translator.now.ports hop.port ≡ Some n →
-        Meets (Q.sought quest.now).net (Q.sought quest.now).request n hop.y
-        (hops_view stage.chosen) }
+    requires chosen { IsChosen (Q.sought quest.now) stage.count
+        (hop ∷ hops_view stage.chosen) }
     requires preimages { IfSome preimages.now (λ p. ArePreimages (Q.sought quest.now).net
         (Q.sought quest.now).request.agent p) }
     ensures { IfOk result (λ found. IsFirstOrNone (Q.sought quest.now)

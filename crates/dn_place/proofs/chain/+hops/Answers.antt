@@ -13,8 +13,10 @@ use Rattle.dn_place.specs.Hops.{hops_view}
 use Rattle.dn_place.specs.Rows.{AreToward, InRow, IsClear, wanted_name}
 use Rattle.dn_place.specs.Marks.{AreUnitsFrom, IsEntry}
 use Rattle.dn_place.specs.Candidates.{to_unit, to_port, to_output, key_of_hops, IsChosen, IsFirstOrNone, NoneUnder}
+use Rattle.dn_place.specs.Slots.{AreUsable}
 use Rattle.dn_place.specs.Sought.{Sought}
-use Rattle.dn_place.specs.Stages.{IsSearchStage}
+use Rattle.dn_place.specs.Stages.{IsOutput, IsSearchStage}
+use Rattle.dn_place.specs.declared.chain.Door.{Door}
 use Rattle.dn_place.specs.declared.chain.SearchStage.{SearchStage}
 use Rattle.dn_place.proofs.Agents.{row_asked, row_fits, step, step_found, step_done, step_meets, only_there}
 use Rattle.dn_place.proofs.Levels.{next_one, found_first}
@@ -26,6 +28,10 @@ use Rattle.dn_place.proofs.Units.{sifted_begun, sifted_done, sifted_found, sifte
 use Rattle.dn_place.proofs.Walks.{set_out}
 use Rattle.dn_place.proofs.chain.+hops.Goals as goal
 use Rattle.dn_place.proofs.chain.+hops.Goals.{by_hops-then-can_stand+in_ok-placement+in_default, by_hops-else-can_stand, by_rows-in-Some+then-y-size+then-is_clear+in_ok-placement+in_default-2, by_rows-in-Some+else-y-size, by_rows-else-y-size-via-then-y-size+else-is_clear, by_rows-else-y-size-via-else-y-size, by_rows-in_default}
+
+-- a hop at an input of a door through which its output goes is chosen
+hop_chosen : (s : Sought) (stage : SearchStage) (door : Door) (y x : ℕ) → IsOutput s stage door y → x % 2 ^ door.translator.now.page ≡ y % 2 ^ door.translator.now.page → x + s.request.size ≤ door.translator.now.slots * 2 ^ door.translator.now.page → AreUsable s.slots door.unit (x / 2 ^ door.translator.now.page) ((x + s.request.size - 1) / 2 ^ door.translator.now.page) door.port (y / 2 ^ door.translator.now.page) → IsChosen s stage.count (record { unit = door.unit; port = door.port; x = x; y = y } ∷ hops_view stage.chosen)
+hop_chosen s stage door y x is agree within usable = chosen_on s stage.count (hops_view stage.chosen) door.unit door.port y x door.translator.now is.through.stage.chosen is.through.more is.through.unit is.through.port agree within is.reached usable is.meets
 
 pub by_hops-loop-unit-init : goal.by_hops-loop-unit-init
 by_hops-loop-unit-init g t c = sifted_begun (g.Q.Quest.sought c.args.quest.now) c.args.stage.count (hops_view c.args.stage.chosen) c.as_slice-units.result.now (subst (λ (l : List ℕ). AreUnitsFrom (g.Q.Quest.sought c.args.quest.now).net 0 l) (sym c.as_slice-units.ensures.value) c.requires.stage.reach.units)
@@ -199,13 +205,12 @@ by_entry-returns g t c =
     (others s c.args.stage unit port y c.args.entry c.requires.output.through.stage c.requires.output.through.more c.requires.last c.requires.entry) (answered_input s count hops unit port y x found a))
     c.by_input.ensures
 
-pub by_entry-by_input-requires : goal.by_entry-by_input-requires
-by_entry-by_input-requires g t c =
+pub by_entry-by_input-requires-clause-chosen : goal.by_entry-by_input-requires-clause-chosen
+by_entry-by_input-requires-clause-chosen g t c =
     let same : c.request.result.size ≡ (g.Q.Quest.sought c.args.quest.now).request.size = ap (λ (r : Request). r.size) c.request.ensures in
     let agree = c.can_meet.ensures.agree c.if-not-can_meet.false in
     let within : c.args.entry.base + (g.Q.Quest.sought c.args.quest.now).request.size ≤ c.args.door.translator.now.slots * 2 ^ c.args.door.translator.now.page = omega (arith, c.can_meet.ensures.within c.if-not-can_meet.false, same) in
-    let usable = c.next_try-tried.ensures.usable c.if-next-x.false in
-    search rules
+    hop_chosen (g.Q.Quest.sought c.args.quest.now) c.args.stage c.args.door c.args.y c.args.entry.base c.requires.output agree within (c.next_try-tried.ensures.usable c.if-next-x.false)
 
 pub by_inputs-power-page-requires : goal.by_inputs-power-page-requires
 by_inputs-power-page-requires g t c = let f = c.requires.output.through.stage.ready.bounds c.args.door.unit c.args.door.translator.now c.requires.output.through.unit in omega (arith, f.page)
@@ -269,15 +274,19 @@ by_inputs-inputs-preserved-then-next-x g t c = rw c.power-page.ensures (record {
   below = inputs_leapt (g.Q.Quest.sought c.args.quest.now) c.args.stage.count (hops_view c.args.stage.chosen) c.args.door.unit c.args.door.port c.args.y c.inputs.x c.args.door.translator.now c.requires.output.through.more c.requires.output.through.unit c.inputs.invariant.agree c.inputs.invariant.below (rw c.in_default.is at (answered_input (g.Q.Quest.sought c.args.quest.now) c.args.stage.count (hops_view c.args.stage.chosen) c.args.door.unit c.args.door.port c.args.y c.inputs.x c.in_ok-placement.field-0 c.in_ok-placement.ensures));
 })
 
+pub by_inputs-by_input-requires-clause-chosen : goal.by_inputs-by_input-requires-clause-chosen
+by_inputs-by_input-requires-clause-chosen g t c =
+    let same : c.request-size.result.size ≡ (g.Q.Quest.sought c.args.quest.now).request.size = ap (λ (r : Request). r.size) c.request-size.ensures in
+    let within : c.inputs.x + c.request-size.result.size ≤ c.args.door.translator.now.slots * 2 ^ c.args.door.translator.now.page = subst (λ (n : ℕ). c.inputs.x + c.request-size.result.size ≤ c.args.door.translator.now.slots * n) c.power-page.ensures (subst (λ (n : ℕ). c.inputs.x + c.request-size.result.size ≤ n * c.power-page.result) c.from.ensures c.inputs-test.true) in
+    hop_chosen (g.Q.Quest.sought c.args.quest.now) c.args.stage c.args.door c.args.y c.inputs.x c.requires.output c.inputs.invariant.agree (omega (arith, within, same)) (c.next_try-tried.ensures.usable c.if-next-x.true)
+
 pub by_input-by_hops-requires : goal.by_input-by_hops-requires
 by_input-by_hops-requires g t c =
-    let next = chosen_on (g.Q.Quest.sought c.args.quest.now) c.args.stage.count (hops_view c.args.stage.chosen) c.args.hop.unit c.args.hop.port c.args.hop.y c.args.hop.x c.args.translator.now c.requires.stage.chosen c.requires.more c.requires.unit c.requires.port c.requires.agree c.requires.within c.requires.reached c.requires.usable c.requires.meets in
-    let chosen : IsChosen (g.Q.Quest.sought c.args.quest.now) c.args.stage.count (hops_view c.behind-chosen.result) = subst (λ (l : List Hop). IsChosen (g.Q.Quest.sought c.args.quest.now) c.args.stage.count l) (sym c.behind-chosen.ensures) next in
+    let chosen : IsChosen (g.Q.Quest.sought c.args.quest.now) c.args.stage.count (hops_view c.behind-chosen.result) = subst (λ (l : List Hop). IsChosen (g.Q.Quest.sought c.args.quest.now) c.args.stage.count l) (sym c.behind-chosen.ensures) c.requires.chosen in
     let longer : length (hops_view c.behind-chosen.result) ≡ suc (length (hops_view c.args.stage.chosen)) = ap length c.behind-chosen.ensures in
     search rules
 
 pub by_input-by_agent-requires-clause-chosen : goal.by_input-by_agent-requires-clause-chosen
 by_input-by_agent-requires-clause-chosen g t c =
-    let next = chosen_on (g.Q.Quest.sought c.args.quest.now) c.args.stage.count (hops_view c.args.stage.chosen) c.args.hop.unit c.args.hop.port c.args.hop.y c.args.hop.x c.args.translator.now c.requires.stage.chosen c.requires.more c.requires.unit c.requires.port c.requires.agree c.requires.within c.requires.reached c.requires.usable c.requires.meets in
-    let chosen : IsChosen (g.Q.Quest.sought c.args.quest.now) c.args.stage.count (hops_view c.behind-chosen.result) = subst (λ (l : List Hop). IsChosen (g.Q.Quest.sought c.args.quest.now) c.args.stage.count l) (sym c.behind-chosen.ensures) next in
+    let chosen : IsChosen (g.Q.Quest.sought c.args.quest.now) c.args.stage.count (hops_view c.behind-chosen.result) = subst (λ (l : List Hop). IsChosen (g.Q.Quest.sought c.args.quest.now) c.args.stage.count l) (sym c.behind-chosen.ensures) c.requires.chosen in
     subst (λ (n : ℕ). IsChosen (g.Q.Quest.sought c.args.quest.now) n (hops_view c.behind-chosen.result)) (sym c.if-count-stage.true ∙ c.count.ensures) chosen
