@@ -1,10 +1,10 @@
 //! The outputs of a unit whose blocks show no more than a buffer.
 
-ghost use Rattle.std.specs.Prelude.{◌≡◌, ◌≤◌, false, IfOk, Some, None};
+ghost use Rattle.std.specs.Prelude.{◌≡◌, IfOk, Some, None};
 ghost use Rattle.std.specs.List.{All};
 ghost use Rattle.dn_net.specs.Terms.{unit_at};
 ghost use Rattle.dn_view.specs.Terms.{IsSystem};
-ghost use Rattle.dn_place.specs.Terms.{AreLone, HasBlocks, HasUnitBounds, IsLone, IsRankedExit, IsSearchReady, no_slots};
+ghost use Rattle.dn_place.specs.Terms.{AreLone, HasUnitBounds, IsRankedExit, IsSearchReady, no_slots};
 
 use crate::OutOfMemory;
 use crate::blocks::{block_of, is_alone};
@@ -65,7 +65,7 @@ pub(crate) fn lone_exits<A: Aim>(
     keep_lone(alloc, &problem, unit, translator, exits)
 }
 
-/// The same, where what is looked for is asked.
+/// The same, where what is looked for is asked: an output is left out where its blocks are known to show more.
 fn keep_lone<Q: Quest>(
     alloc: Global,
     quest: &Q,
@@ -84,33 +84,13 @@ fn keep_lone<Q: Quest>(
 {
     let units = [unit];
     let block = block_of(quest, &units);
+    let size = quest.request().size;
     let mut lone = Vec::new(alloc);
     for exit in exits {
-        if is_lone(alloc, quest, translator, *exit, block)? {
+        let node = translator.ports.as_slice()[usize::from(exit.port)];
+        if is_alone(quest, alloc, node, exit.y, size, block)? {
             lone.push(*exit)?;
         }
     }
     Ok(lone)
-}
-
-/// Whether the blocks of an output are not known to show more than the buffer.
-fn is_lone<Q: Quest>(
-    alloc: Global,
-    quest: &Q,
-    translator: &Unit,
-    exit: Exit,
-    block: u8,
-) -> Result<bool, OutOfMemory>
-    requires consistent { Q.is_consistent quest.now }
-    requires ready { IsSearchReady (Q.sought quest.now) }
-    requires bounds { HasUnitBounds (Q.sought quest.now).net translator.now }
-    requires blocks { HasBlocks (Q.sought quest.now).net block }
-    requires few { block ≤ 40 }
-    requires gives { IsRankedExit (Q.sought quest.now).net
-        translator.now (Q.sought quest.now).request exit }
-    ensures { IfOk result (λ yes. yes ≡ false → IsLone (Q.sought quest.now).net
-        translator.now (Q.sought quest.now).request exit.port exit.y → ⊥) }
-{
-    let node = translator.ports.as_slice()[usize::from(exit.port)];
-    is_alone(quest, alloc, node, exit.y, quest.request().size, block)
 }
