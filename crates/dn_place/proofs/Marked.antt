@@ -1,7 +1,7 @@
 -- Marks as they are made.
 use Rattle.std.proofs.Common.{◌≡◌, ℕ, zero, suc, ◌+◌, ◌-◌, ◌<◌, ◌≤◌, ◌⊎◌, inl, inr, Bool, true, false, ◌||◌, nat_eq, List, [], ◌∷◌, ◌++◌, length, map, take, drop, get_or, slice_get, Option, Some, None, refl, sym, ap, ◌∙◌, subst, arith, IsTrue, add-one, eqb-true}
 use Rattle.std.specs.List.{Contains, list_any}
-use Rattle.std.proofs.lemmas.Bool.{cases_lt, false≢true, or_cases, or_left}
+use Rattle.std.proofs.lemmas.Bool.{cases_lt, cases_order, false≢true, or_cases, or_left}
 use Rattle.std.proofs.lemmas.Option.{slice_get_within, slice_get-get_or, get_or_from_slice_get}
 use Rattle.std.proofs.Math.Seq.{drop-cons}
 use Rattle.std.proofs.Math.ListN.{drop_of_length-le}
@@ -21,7 +21,7 @@ use Rattle.dn_place.specs.Sought.{HasUnitBounds, IsSearchReady, ReachOneStop, So
 use Rattle.dn_net.specs.declared.node.Unit.{Unit as UnitPart}
 use Rattle.dn_placement.specs.Placement.{Leads, Meets}
 use Rattle.dn_walk.specs.Ends.{end_of, name_of_end}
-use Rattle.dn_place.specs.Marks.{is_marked, mark_at, AreMarked, IsEntry, Keeps, MarkedBelow, Marks, MarksAfter, MarksAll, MarksListed}
+use Rattle.dn_place.specs.Marks.{is_marked, mark_at, AreMarked, AreUnitsFrom, IsEntry, Keeps, MarkedBefore, Marks, MarksAfter, MarksAll, MarksListed}
 use Rattle.dn_place.proofs.Pages.{unit_there}
 
 -- each node of a list is marked, or is one of the rest
@@ -93,20 +93,29 @@ ports_marked net items t u i k n marks x e f p l g done = subst (λ (m : ℕ). M
 pub port_there : (net : List NodeDecl) (u : UnitPart) (items : List ℕ) (i : ℕ) → HasUnitBounds net u → items ≡ u.ports → i < length items → get_or items i 0 < length net
 port_there net u items i f e l = f.there i (get_or items i 0) (ap (λ (m : List ℕ). slice_get m i) (sym e) ∙ slice_get-get_or items i 0 l)
 
--- marks after one more node
-
-pub below_on : (net : List NodeDecl) (from : List Bool) (i : ℕ) (old new : List Bool) → length new ≡ length old → Keeps old new → (is_marked from i ≡ true → (k n : ℕ) (u : UnitPart) → unit_at net i ≡ Some u → slice_get u.ports k ≡ Some n → Marks net n new) → MarkedBelow net from i old → MarkedBelow net from (i + 1) new
-below_on net from i old new same keeps here done = λ w k n u l m e p. go w k n u m e p l (cases_lt w i)
+-- marks after one more unit of a list
+pub before_on : (net : List NodeDecl) (from : List Bool) (units : List ℕ) (i : ℕ) (old new : List Bool) → length new ≡ length old → Keeps old new → (is_marked from (get_or units i 0) ≡ true → (k n : ℕ) (u : UnitPart) → unit_at net (get_or units i 0) ≡ Some u → slice_get u.ports k ≡ Some n → Marks net n new) → MarkedBefore net from units i old → MarkedBefore net from units (i + 1) new
+before_on net from units i old new same keeps here done = λ j w k n u l at m e p. go j w k n u at m e p l (cases_lt j i)
   where
-    go : (w k n : ℕ) (u : UnitPart) → is_marked from w ≡ true → unit_at net w ≡ Some u → slice_get u.ports k ≡ Some n → w < i + 1 → (w < i) ⊎ (i ≤ w) → Marks net n new
-    go w k n u m e p l (inl b) = marks_kept net n old new (sym same) keeps (done w k n u b m e p)
-    go w k n u m e p l (inr b) = let q : w ≡ i = omega arith in here (subst (λ (x : ℕ). is_marked from x ≡ true) q m) k n u (subst (λ (x : ℕ). unit_at net x ≡ Some u) q e) p
+    go : (j w k n : ℕ) (u : UnitPart) → w ≡ get_or units j 0 → is_marked from w ≡ true → unit_at net w ≡ Some u → slice_get u.ports k ≡ Some n → j < i + 1 → (j < i) ⊎ (i ≤ j) → Marks net n new
+    go j w k n u at m e p l (inl b) = marks_kept net n old new (sym same) keeps (done j w k n u b at m e p)
+    go j w k n u at m e p l (inr b) = let q : w ≡ get_or units i 0 = at ∙ ap (λ x. get_or units x 0) (omega arith) in here (subst (λ (x : ℕ). is_marked from x ≡ true) q m) k n u (subst (λ (x : ℕ). unit_at net x ≡ Some u) q e) p
 
-pub below_all : (net : List NodeDecl) (from : List Bool) (i : ℕ) (marks : List Bool) → length net ≤ i → MarkedBelow net from i marks → MarkedBelow net from (length net) marks
-below_all net from i marks l done = λ w k n u b m e p. done w k n u (omega arith) m e p
+pub before_all : (net : List NodeDecl) (from : List Bool) (units : List ℕ) (i : ℕ) (marks : List Bool) → length units ≤ i → MarkedBefore net from units i marks → MarkedBefore net from units (length units) marks
+before_all net from units i marks l done = λ j w k n u b. done j w k n u (omega arith)
 
-pub after_all : (net : List NodeDecl) (from marks : List Bool) → length marks ≡ length net → MarkedBelow net from (length net) marks → MarksAfter net from marks
-after_all net from marks long done = λ w k n u m e p. marks_all net n marks long (done w k n u (unit_there net w u e) m e p)
+-- a unit has a place in the list of all
+unit_listed : (net : List NodeDecl) (bound : ℕ) (units : List ℕ) → AreUnitsFrom net bound units → (n : ℕ) (u : UnitPart) → bound ≤ n → unit_at net n ≡ Some u → (i : ℕ) × (i < length units) × (n ≡ get_or units i 0)
+unit_listed net bound [] are n u l is = absurd (are n u l is)
+unit_listed net bound (m ∷ rest) are n u l is = by (cases_order n m) (λ k. unit_listed net (suc m) rest are.2 n u k is)
+  where
+    by : (n ≡ m) ⊎ ((n < m) ⊎ (m < n)) → (suc m ≤ n → (i : ℕ) × (i < length rest) × (n ≡ get_or rest i 0)) → (i : ℕ) × (i < suc (length rest)) × (n ≡ get_or (m ∷ rest) i 0)
+    by (inl e) later = (0, omega arith, e)
+    by (inr (inl k)) later = absurd (are.1 n u l k is)
+    by (inr (inr k)) later = let r = later (omega (arith, k)) in (suc r.0, (let s = r.1 in omega arith), r.2)
+
+pub after_all : (net : List NodeDecl) (from : List Bool) (units : List ℕ) (marks : List Bool) → AreUnitsFrom net 0 units → length marks ≡ length net → MarkedBefore net from units (length units) marks → MarksAfter net from marks
+after_all net from units marks are long done = λ w k n u m e p. marks_all net n marks long (let at = unit_listed net 0 units are w u (omega arith) e in done at.0 w k n u at.1 at.2 m e p)
 
 -- a list of the same length, written back
 pub written_back : (new old : List Bool) (len : ℕ) → length new ≡ length old → length old ≡ len → take len (new ++ drop (length new) old) ≡ new

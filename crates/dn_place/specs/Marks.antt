@@ -32,11 +32,11 @@ Marks net node marks = (a : ℕ) (z : Name) → a ≤ top →
     StopsAt net (record { node = node; addr = a }) z → z.node < length marks →
     is_marked marks z.node ≡ true
 
--- each node has a mark to which a port leads of a marked unit with a number below this one
-abbrev pub MarkedBelow : List NodeDecl → List Bool → ℕ → List Bool → Type 0
-MarkedBelow net from bound marks = (w k n : ℕ) (u : UnitPart) → w < bound →
-    is_marked from w ≡ true → unit_at net w ≡ Some u → slice_get u.ports k ≡ Some n →
-    Marks net n marks
+-- each node has a mark to which a port leads of a marked unit that a list has before this place
+abbrev pub MarkedBefore : List NodeDecl → List Bool → List ℕ → ℕ → List Bool → Type 0
+MarkedBefore net from units place marks = (i w k n : ℕ) (u : UnitPart) → i < place →
+    w ≡ slice_index_or units i 0 → is_marked from w ≡ true → unit_at net w ≡ Some u →
+    slice_get u.ports k ≡ Some n → Marks net n marks
 
 -- each node of a net in which an address of a node has a stop has a mark
 abbrev pub MarksAll : List NodeDecl → ℕ → List Bool → Type 0

@@ -3,7 +3,7 @@ pub use Rattle.dn_place.specs.Blocks.{HasBeside, HasBlocks, SendsBlocks, ShowsWi
 pub use Rattle.dn_place.specs.Candidates.{CanOwn, IsAddressed, IsChosen, IsFirstOrNone, NoneUnder, PagesBelow, PagesFrom, key_of_hops, to_address, to_output, to_page, to_port, to_unit}
 pub use Rattle.dn_place.specs.Exits.{AreExits, AreExitsTo, AreLone, IsExit, IsLone, IsRankedExit, exit_rank}
 pub use Rattle.dn_place.specs.Hops.{hops_view}
-pub use Rattle.dn_place.specs.Marks.{AreMarked, AreUnitsFrom, IsEntry, Keeps, MarkedBelow, Marks, MarksAfter, MarksAll, MarksListed, is_marked, mark_at}
+pub use Rattle.dn_place.specs.Marks.{AreMarked, AreUnitsFrom, IsEntry, Keeps, MarkedBefore, Marks, MarksAfter, MarksAll, MarksListed, is_marked, mark_at}
 pub use Rattle.dn_place.specs.Preimages.{ArePreimages, IsPreimage, IsTurned, IsWayTo, LeadsAlone}
 pub use Rattle.dn_place.specs.Reaches.{IsHopReach}
 pub use Rattle.dn_place.specs.Requests.{IsRequest}

@@ -5,7 +5,7 @@ ghost use Rattle.std.specs.Prelude.{◌≡◌, ◌<◌, ◌++◌, [], ◌∷◌,
 ghost use Rattle.dn_net.specs.declared.node.Unit.{Unit as UnitPart};
 ghost use Rattle.dn_net.specs.Terms.{unit_at};
 ghost use Rattle.dn_view.specs.Terms.{IsSystem};
-ghost use Rattle.dn_place.specs.Terms.{AreUnitsFrom, Keeps, MarkedBelow, Marks, MarksAfter, MarksAll, MarksListed, is_marked};
+ghost use Rattle.dn_place.specs.Terms.{AreUnitsFrom, Keeps, MarkedBefore, Marks, MarksAfter, MarksAll, MarksListed, is_marked};
 
 use crate::OutOfMemory;
 use crate::unit::unit_in;
@@ -66,37 +66,42 @@ pub(crate) fn has_mark(marks: &[bool], node: u16) -> bool
     }
 }
 
-/// The units that a port of a marked unit leads to.
-pub(crate) fn after(alloc: Global, system: System, from: &[bool]) -> Result<Vec<bool>, OutOfMemory>
+/// The units that a port of a marked unit leads to, where the units of the net are listed.
+pub(crate) fn after(
+    alloc: Global,
+    system: System,
+    units: &[u16],
+    from: &[bool],
+) -> Result<Vec<bool>, OutOfMemory>
     requires system { IsSystem meaning system }
+    requires units { AreUnitsFrom system.on.net.now 0 units.now }
     ensures { IfOk result (λ marks. MarksAfter system.entry.on.net.now from.now marks.items) }
 {
     let mut marks = vec![in alloc; false; usize::from(system.on.net.nodes())]?;
-    mark_after(system, from, &mut marks);
+    mark_after(system, units, from, &mut marks);
     Ok(marks)
 }
 
-/// Marks what the ports of marked units lead to.
-fn mark_after(system: System, from: &[bool], marks: &mut [bool])
+/// Marks what the ports of marked units of a list lead to.
+fn mark_after(system: System, units: &[u16], from: &[bool], marks: &mut [bool])
     requires system { IsSystem meaning system }
-    ensures { MarkedBelow system.entry.on.net.now from.now
-        (length system.entry.on.net.now) marks.new }
+    ensures { MarkedBefore system.entry.on.net.now from.now units.now (length units.now) marks.new }
 {
-    for node in 0..system.on.net.nodes() {
-        mark_after_node(system, from, node, marks);
+    for unit in units {
+        mark_after_unit(system, from, *unit, marks);
     }
 }
 
 /// Marks what the ports of a unit lead to, if it is marked.
-fn mark_after_node(system: System, from: &[bool], node: u16, marks: &mut [bool])
+fn mark_after_unit(system: System, from: &[bool], unit: u16, marks: &mut [bool])
     requires system { IsSystem meaning system }
     ensures keeps { Keeps marks.old marks.new }
-    ensures marks { is_marked from.now node ≡ true → (k n : ℕ) (u : UnitPart) →
-        unit_at system.entry.on.net.now node ≡ Some u → slice_get u.ports k ≡ Some n →
+    ensures marks { is_marked from.now unit ≡ true → (k n : ℕ) (u : UnitPart) →
+        unit_at system.entry.on.net.now unit ≡ Some u → slice_get u.ports k ≡ Some n →
         Marks system.entry.on.net.now n marks.new }
 {
-    if has_mark(from, node) {
-        mark_unit(system, node, marks);
+    if has_mark(from, unit) {
+        mark_unit(system, unit, marks);
     }
 }
 

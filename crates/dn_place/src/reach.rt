@@ -43,8 +43,8 @@ pub fn reach_of(
     let entry = entry_of(system, agent, at);
     let units = units_of(alloc, system.on.net)?;
     let first = from_agent(alloc, system, agent)?;
-    let second = after(alloc, system, &first)?;
-    let third = after(alloc, system, &second)?;
+    let second = after(alloc, system, &units, &first)?;
+    let third = after(alloc, system, &units, &second)?;
     Ok(ReachMarks {
         at,
         units,

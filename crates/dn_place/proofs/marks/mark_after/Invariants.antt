@@ -1,5 +1,5 @@
-use Rattle.dn_place.specs.Marks.{MarkedBelow}
+use Rattle.dn_place.specs.Marks.{MarkedBefore}
 use Rattle.dn_place.proofs.marks.mark_after.Given as goal
 
-abbrev pub invariant-loop-node : goal.invariant-loop-node
-invariant-loop-node g l = MarkedBelow l.system.on.net.now l.from l.node l.marks
+abbrev pub invariant-loop-unit : goal.invariant-loop-unit
+invariant-loop-unit g l = MarkedBefore l.system.on.net.now l.from l.units l.unit-index l.marks
