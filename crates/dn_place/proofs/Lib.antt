@@ -6,6 +6,7 @@ pub mod Crowds
 pub mod Levels
 pub mod Marked
 pub mod Meetings
+pub mod Named
 pub mod Nexts
 pub mod Openings
 pub mod Outputs

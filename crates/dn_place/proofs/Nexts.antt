@@ -7,16 +7,16 @@ use Rattle.std.proofs.Math.Nat.{mul-le-mul_left, mul-le-mul_right, add-mod_right
 use Rattle.dn_view.proofs.Pages.{power_below}
 use Rattle.dn_tables.specs.declared.placement.Hop.{Hop}
 use Rattle.dn_tables.specs.Placement.{Place}
-use Rattle.dn_place.specs.Sought.{HasUnitBounds, IsSearchReady, Sought}
+use Rattle.dn_place.specs.Sought.{HasUnitBounds, IsSearchReady, IsSeenStop, Sought}
 use Rattle.dn_net.specs.declared.node.Unit.{Unit as UnitPart}
 use Rattle.dn_placement.specs.Keys.{Begins}
 use Rattle.dn_placement.specs.Order.{IsAt, hop_page, hops_key, key_of}
 use Rattle.dn_placement.specs.Placement.{Joins, Leads, Meets, name_on}
 use Rattle.dn_placement.proofs.Hops.{numbers}
 use Rattle.dn_placement.proofs.Keys.{append_none, cancel, one_more}
-use Rattle.dn_flat.specs.Crowds.{IsAgentStop, IsCrowded}
+use Rattle.dn_flat.specs.Crowds.{IsCrowded}
 use Rattle.dn_place.specs.Blocks.{HasBlocks}
-use Rattle.dn_place.specs.Slots.{AreBarred, AreRun, AreShut, AreUsable, AreUseless, HasAgentStop, HasCrowd, IsUseless, slot_of}
+use Rattle.dn_place.specs.Slots.{AreBarred, AreRun, AreShut, AreUsable, AreUseless, HasCrowd, HasSeenStop, IsUseless, slot_of}
 use Rattle.dn_place.specs.Rows.{AreToward, wanted_name}
 use Rattle.dn_place.proofs.Stretches.{GivesOnly}
 use Rattle.dn_place.specs.Candidates.{IsUnder, NoneUnder, IsFirstOrNone, IsChosen, key_of_hops, to_unit, to_port, to_output}
@@ -406,8 +406,8 @@ crowd_bars s count hops unit port y x ready l one crowd = record { none = λ q v
         let is_other : c.other ≡ name_on s.request.agent q.v i = ready.alone q i (record { node = unit; addr = x + i }) c.other v.is crowd.1 stop c.other_agent c.other_stops in
         c.differ (is_one ∙ sym is_other)
 
--- an input of a later hop, of which an address of an agent reaches a name in a free slot
-pub stop_bars : (s : Sought) (count : ℕ) (hops : List Hop) (unit port y x : ℕ) (u : UnitPart) → IsSearchReady s → length hops < count → (count ≡ suc (length hops) → ⊥) → unit_at s.net unit ≡ Some u → HasAgentStop s u unit x → NoneUnder s (to_output count hops unit port y ++ x ∷ [])
+-- an input of a later hop, of which agents come to a name in a free slot
+pub stop_bars : (s : Sought) (count : ℕ) (hops : List Hop) (unit port y x : ℕ) (u : UnitPart) → IsSearchReady s → length hops < count → (count ≡ suc (length hops) → ⊥) → unit_at s.net unit ≡ Some u → HasSeenStop s u unit x → NoneUnder s (to_output count hops unit port y ++ x ∷ [])
 stop_bars s count hops unit port y x u ready l more e seen = record { none = λ q v. absurd (go q v) }
   where
     go : (q : Place) → IsUnder s (to_output count hops unit port y ++ x ∷ []) q → ⊥
@@ -419,8 +419,8 @@ stop_bars s count hops unit port y x u ready l more e seen = record { none = λ 
         hop : Hop
         hop = w.next.opens.hop
 
-        stop : IsAgentStop s.net (name_on hop.unit hop.x seen.0)
-        stop = subst (λ (n : ℕ). IsAgentStop s.net (name_on n hop.x seen.0)) (sym w.is_unit) (subst (λ (n : ℕ). IsAgentStop s.net (name_on unit n seen.0)) (sym w.is_input) seen.2)
+        stop : IsSeenStop s (name_on hop.unit hop.x seen.0)
+        stop = subst (λ (n : ℕ). IsSeenStop s (name_on n hop.x seen.0)) (sym w.is_unit) (subst (λ (n : ℕ). IsSeenStop s (name_on unit n seen.0)) (sym w.is_input) seen.2)
 
         free : IsTrue (s.slots.is_free hop.unit ((hop.x + seen.0) / 2 ^ u.page))
         free = subst (λ (n : ℕ). IsTrue (s.slots.is_free n ((hop.x + seen.0) / 2 ^ u.page))) (sym w.is_unit) (subst (λ (n : ℕ). IsTrue (s.slots.is_free unit ((n + seen.0) / 2 ^ u.page))) (sym w.is_input) seen.3)

@@ -1,5 +1,5 @@
 -- What the search asks holds of a request on a legal net.
-use Rattle.std.proofs.Common.{◌≡◌, ℕ, zero, suc, ◌+◌, ◌/◌, ◌^◌, ◌<◌, ◌≤◌, true, ◌&&◌, nat_lt, List, [], ◌∷◌, map, length, slice_get, Option, Some, None, IsTrue, refl, sym, ap, ◌∙◌, subst, arith, ltb-true, lt-ltb}
+use Rattle.std.proofs.Common.{◌≡◌, ℕ, zero, suc, ◌+◌, ◌/◌, ◌^◌, ◌<◌, ◌≤◌, inl, inr, true, ◌&&◌, nat_lt, List, [], ◌∷◌, map, length, slice_get, Option, Some, None, IsTrue, refl, sym, ap, ◌∙◌, subst, arith, ltb-true, lt-ltb}
 use Rattle.std.specs.List.{list_all}
 use Rattle.std.proofs.lemmas.Bool.{and_parts}
 use Rattle.dn_base.proofs.Lists.{list_all-at}
@@ -9,18 +9,20 @@ use Rattle.dn_net.specs.Decode.{top, is_agent_at, over_within, ports_within, ref
 use Rattle.dn_net.specs.Legal.{IsLegalNet}
 use Rattle.dn_net.proofs.Plain.{plain_at}
 use Rattle.dn_net.proofs.Stops.{agent_there}
+use Rattle.dn_kind.specs.declared.rights.Access.{Access}
 use Rattle.dn_kind.specs.Kind.{Meaning}
-use Rattle.dn_kind.specs.Rights.{are_rights}
+use Rattle.dn_kind.specs.Rights.{allows, are_rights}
 use Rattle.dn_kind.specs.Tables.{AreHeld}
 use Rattle.dn_tables.specs.declared.table.NodeTable.{NodeTable}
 use Rattle.dn_tables.specs.Set.{FitsNet, has_slot, has_slot_by, unit_in, units_of}
 use Rattle.dn_placement.specs.declared.request.Request.{Request}
 use Rattle.dn_placement.specs.Slots.{Slots}
 use Rattle.dn_book.proofs.Hops.{has_bounds}
+use Rattle.dn_view.proofs.AddedRights.{some_allowed}
 use Rattle.dn_view.proofs.Alone.{reached_alone}
 use Rattle.dn_view.proofs.Ways.{one_stop}
 use Rattle.dn_place.specs.Blocks.{HasBlocks}
-use Rattle.dn_place.proofs.WholeBlocks.{KeepsWhole, behind_at, not_beside, not_seen, whole_blocks}
+use Rattle.dn_place.proofs.WholeBlocks.{KeepsWhole, behind_at, not_beside, not_kept, not_seen, whole_blocks}
 use Rattle.dn_place.specs.Sought.{HaveUnitBounds, IsSearchReady, slot_count}
 
 -- the ports of a unit are nodes that are there
@@ -57,15 +59,21 @@ ready net slots rq at legal held empty rights agent some fits = record {
   alone = λ q i t w is l st there st'. reached_alone net slots rq q legal held rights empty agent is.is_placement is.admissible i l t w st there st';
   whole = λ q block before hop u node i a z is ends blocks e port few same beside r.
       let k = behind_at net slots rq q.hops before hop ends is.is_placement.leads rq.agent q.v node u e port in
-      whole_blocks net legal (one_stop net legal) slots rq q held rights empty agent is.is_placement is.admissible block (kept_whole net legal rq.agent block (agent_there net rq.agent agent) blocks) a i z few (same ∙ ap (λ n. (n + i) / 2 ^ block) (sym k.addr_is)) (λ j l f. beside j l (f ∙ ap (λ n. n + j) k.addr_is)) (subst (λ (n : ℕ). Resolves net (record { node = n; addr = a }) z) (sym k.node_is) r);
-  none_beside = λ q hop u node i a x z is split e port few same st beside r. not_beside net legal (one_stop net legal) slots rq q held rights empty agent is.is_placement is.admissible hop u node i a x z split e port few same st beside r;
-  leaves = λ q first hop ahead behind u i is split e few free seen. not_seen net legal (one_stop net legal) slots rq q held rights empty agent is.is_placement is.admissible first hop ahead behind u i split e few free seen;
+      whole_blocks net legal (one_stop net legal) slots rq q held rights any.0 any.1 empty agent is.is_placement is.admissible block (kept_whole net legal rq.agent block (agent_there net rq.agent agent) blocks) a i z few (same ∙ ap (λ n. (n + i) / 2 ^ block) (sym k.addr_is)) (λ j l f. beside j l (f ∙ ap (λ n. n + j) k.addr_is)) (subst (λ (n : ℕ). Resolves net (record { node = n; addr = a }) z) (sym k.node_is) r);
+  none_beside = λ q hop u node i a x z is split e port few same st beside r. not_beside net legal (one_stop net legal) slots rq q held rights any.0 any.1 empty agent is.is_placement is.admissible hop u node i a x z split e port few same st beside r;
+  leaves = λ q first hop ahead behind u i is split e few free seen. elim seen [
+    | inl a ↦ not_seen net legal (one_stop net legal) slots rq q held rights any.0 any.1 empty agent is.is_placement is.admissible first hop ahead behind u i split e few free a
+    | inr k ↦ not_kept net legal (one_stop net legal) slots rq q held rights k.0 k.1 empty agent is.is_placement is.admissible first hop ahead behind u i split e few free k.2
+  ];
   few = legal.is_net.few;
   agent = agent_there net rq.agent agent;
   is_agent = agent;
   some = some;
   fits = fits;
 }
+  where
+    any : (access : Access) × IsTrue (allows rq.rights access)
+    any = some_allowed rq.rights rights
 
 -- the units of tables that fit a net are those of the net
 units_same : (set : List NodeTable) (net : List NodeDecl) (n : ℕ) → units_of set ≡ map (λ (d : NodeDecl). d.unit) net → unit_in set n ≡ unit_at net n

@@ -1,6 +1,6 @@
 -- What an admissible placement gives: where windows keep blocks whole, nothing beside its buffer in the blocks of the
--- buffer; no name of a later hop, in a free slot, that an address of an agent reaches;
--- and through a lone hop nothing beside the buffer.
+-- buffer; no name of a later hop, in a free slot, that an address of an agent reaches, or to which another agent comes by
+-- the records in use; and through a lone hop nothing beside the buffer.
 use Rattle.std.proofs.Common.{◌≡◌, ℕ, zero, suc, ◌+◌, ◌-◌, ◌*◌, ◌/◌, ◌%◌, ◌^◌, ◌<◌, ◌≤◌, ◌⊎◌, inl, inr, Bool, true, false, if◌then◌else◌, ◌&&◌, nat_eq, nat_le, List, [], ◌∷◌, ◌++◌, length, slice_get, Option, Some, None, IsSome, IsTrue, refl, sym, ap, ◌∙◌, subst, arith, pow_pos, pow-add, mod-lt, le-leb, eq-eqb, eqb-true}
 use Rattle.std.proofs.Math.Nat.{add-mul, div-add-mod', div-lt_iff_lt-mul, mul-le-mul_right, mul_assoc, mul_comm}
 use Rattle.std.proofs.lemmas.Bool.{and_from}
@@ -10,11 +10,11 @@ use Rattle.dn_base.proofs.Members.{member_at, member_right}
 use Rattle.dn_net.specs.declared.node.Name.{Name}
 use Rattle.dn_net.specs.declared.node.NodeDecl.{NodeDecl}
 use Rattle.dn_net.specs.declared.node.Unit.{Unit as UnitPart}
-use Rattle.dn_net.specs.Chain.{IsChain, Member}
+use Rattle.dn_net.specs.Chain.{IsChain, Member, Reaches}
 use Rattle.dn_net.specs.Decode.{is_agent_at, is_stop, unit_at, Resolves, StopsAt}
 use Rattle.dn_net.specs.Legal.{IsLegalNet}
 use Rattle.dn_net.specs.UnitRules.{LeadsTo}
-use Rattle.dn_net.proofs.Chains.{chain_join}
+use Rattle.dn_net.proofs.Chains.{chain_join, chain_more}
 use Rattle.dn_flat.specs.Crowds.{IsAgentStop}
 use Rattle.dn_kind.specs.declared.rights.Access.{Access}
 use Rattle.dn_kind.specs.declared.rights.Rights.{Rights}
@@ -23,7 +23,7 @@ use Rattle.dn_kind.specs.Rights.{allows, are_rights, both_rights}
 use Rattle.dn_kind.specs.Tables.{AreHeld, Held, ResolvesUnder, StepUnder, allowing, name_at_port, output, record_allowing}
 use Rattle.dn_kind.proofs.Allowed.{both_allow}
 use Rattle.dn_kind.proofs.Bounds.{reach_under_is_within}
-use Rattle.dn_kind.proofs.Ways.{allowing_held}
+use Rattle.dn_kind.proofs.Ways.{allowing_held, allowing_more, step_more}
 use Rattle.dn_tables.specs.declared.placement.Hop.{Hop}
 use Rattle.dn_tables.specs.Placement.{Place}
 use Rattle.dn_placement.specs.declared.request.Request.{Request}
@@ -31,8 +31,9 @@ use Rattle.dn_placement.specs.Exposure.{Adds, IsAdmissible}
 use Rattle.dn_placement.specs.Placement.{IsFreeHop, IsPlacement, IsUsable, Joins, Leads, Meets, is_free, is_shared, name_on}
 use Rattle.dn_placement.specs.Records.{first_slot, hop_record, hop_record_by, hop_rights, hops_records, is_taken_by, joined_records, last_slot, or_record, placed_records, slot_record}
 use Rattle.dn_placement.specs.Slots.{Slots}
+use Rattle.dn_view.specs.KeptStops.{IsKeptStop}
 use Rattle.dn_view.specs.Passes.{outputs, outputs_by}
-use Rattle.dn_view.proofs.AddedRights.{some_allowed}
+use Rattle.dn_view.proofs.AddedRights.{joined_left}
 use Rattle.dn_view.proofs.Exposed.{placement_fits}
 use Rattle.dn_view.proofs.Newly.{blocked}
 use Rattle.dn_view.proofs.Pages.{offset_is, output_of_hop, page_is, pages_ascend}
@@ -432,13 +433,7 @@ passes_at net h hop u node x q r e port same holds =
 passes : (net : List NodeDecl) (h : Held) (hop : Hop) (u : UnitPart) (node i : ℕ) (r : Rights) → unit_at net hop.unit ≡ Some u → slice_get u.ports hop.port ≡ Some node → hop.x % 2 ^ u.page ≡ hop.y % 2 ^ u.page → h hop.unit ((hop.x + i) / 2 ^ u.page) ≡ Some (slot_record u r hop ((hop.x + i) / 2 ^ u.page)) → Member (name_on node hop.y i) (outputs net h (name_on hop.unit hop.x i))
 passes net h hop u node i r e port agree holds = subst (λ n. Member (record { node = node; addr = n }) (outputs net h (name_on hop.unit hop.x i))) (output_of_hop (2 ^ u.page) hop.x hop.y i (pow_pos u.page) agree) (passes_at net h hop u node (hop.x + i) ((hop.x + i) / 2 ^ u.page) r e port refl holds)
 
-module _ (net : List NodeDecl) (legal : IsLegalNet net) (one : ReachOneStop net) (slots : Slots) (rq : Request) (p : Place) (held : AreHeld net slots.held) (are : IsTrue (are_rights rq.rights)) (empty : (node slot : ℕ) → IsTrue (slots.is_free node slot) → slots.held node slot ≡ None) (agent : IsTrue (is_agent_at (slice_get net rq.agent))) (is : IsPlacement net slots rq p) (gives : IsAdmissible net slots.held rq p) where
-  abbrev access : Access
-  access = (some_allowed rq.rights are).0
-
-  allowed : IsTrue (allows rq.rights access)
-  allowed = (some_allowed rq.rights are).1
-
+module _ (net : List NodeDecl) (legal : IsLegalNet net) (one : ReachOneStop net) (slots : Slots) (rq : Request) (p : Place) (held : AreHeld net slots.held) (are : IsTrue (are_rights rq.rights)) (access : Access) (allowed : IsTrue (allows rq.rights access)) (empty : (node slot : ℕ) → IsTrue (slots.is_free node slot) → slots.held node slot ≡ None) (agent : IsTrue (is_agent_at (slice_get net rq.agent))) (is : IsPlacement net slots rq p) (gives : IsAdmissible net slots.held rq p) where
   abbrev before : Held
   before = allowing access slots.held
 
@@ -471,30 +466,29 @@ module _ (net : List NodeDecl) (legal : IsLegalNet net) (one : ReachOneStop net)
       by o f (is_free free) = (own.0, ap (λ a. record_allowing access (or_record a (placed_records net rq p hop.unit q))) (empty hop.unit q free) ∙ ap (record_allowing access) own.1 ∙ ap (λ c. if c then Some (slot_record u own.0 hop q) else None) own.2)
       by o f (is_shared holds unowned) = (both_rights, ap (λ a. record_allowing access (or_record a (placed_records net rq p hop.unit q))) holds ∙ ap (λ c. if c then Some (slot_record u both_rights hop q) else None) (both_allow access))
 
-  -- an address whose stop is a name of a hop comes to what the hop's output comes to
-  through : (x z : Name) (hop : Hop) (nearer : List Hop) (j : Joins net slots rq hop nearer) (i : ℕ) → i < rq.size → Member hop p.hops → StopsAt net x (name_on hop.unit hop.x i) → ResolvesUnder net after (name_on j.fits.node hop.y i) z → ResolvesUnder net after x z
-  through x z hop nearer j i few m st later =
+  -- an address that comes by the records to a name of a hop comes to what the hop's output comes to
+  through : (x z : Name) (hop : Hop) (nearer : List Hop) (j : Joins net slots rq hop nearer) (i : ℕ) → i < rq.size → Member hop p.hops → IsTrue (is_stop net (name_on hop.unit hop.x i)) → Reaches (StepUnder net after) x (name_on hop.unit hop.x i) → ResolvesUnder net after (name_on j.fits.node hop.y i) z → ResolvesUnder net after x z
+  through x z hop nearer j i few m stop first later =
       let s : Name = name_on hop.unit hop.x i in
       let t : Name = name_on j.fits.node hop.y i in
       let own = own_held hop m nearer j i few j.unit j.is_unit in
       let passed : Member t (outputs net after s) = passes net after hop j.unit j.fits.node i own.0 j.is_unit j.fits.is_port j.fits.agree own.1 in
-      let first = net_chain net legal after st.1.0 x s st.1.2 in
-      (later.0, reach_under_is_within net after legal after_held x z (st.1.0 + suc later.1.0, chain_join (StepUnder net after) st.1.0 (suc later.1.0) x s z first (t, stop_step net legal after s t st.0 passed, later.1.2)))
+      (later.0, reach_under_is_within net after legal after_held x z (first.0 + suc later.1.0, chain_join (StepUnder net after) first.0 (suc later.1.0) x s z first.1 (t, stop_step net legal after s t stop passed, later.1.2)))
 
   -- from where hops are met the buffer is come to
   onward : (hops : List Hop) → Leads net slots rq hops → ((k : Hop) → Member k hops → Member k p.hops) → (node addr i : ℕ) → i < rq.size → Meets net rq node addr hops → ResolvesUnder net after (name_on node addr i) (name_on rq.node rq.base i)
   onward [] l all node addr i few m =
       let r : Resolves net (name_on node addr i) (name_on rq.node rq.base i) = ((m i few).0 (name_on rq.node rq.base i)).1 refl in
       up_resolves net legal after after_held 0 (name_on node addr i) (name_on rq.node rq.base i) (inl r)
-  onward (hop ∷ hops) l all node addr i few m = through (name_on node addr i) (name_on rq.node rq.base i) hop hops l.0 i few (all hop (inl refl)) (m i few) (onward hops l.1 (λ k n. all k (inr n)) l.0.fits.node hop.y i few l.0.meets)
+  onward (hop ∷ hops) l all node addr i few m =
+      let st : StopsAt net (name_on node addr i) (name_on hop.unit hop.x i) = m i few in
+      through (name_on node addr i) (name_on rq.node rq.base i) hop hops l.0 i few (all hop (inl refl)) st.0 (st.1.0, net_chain net legal after st.1.0 (name_on node addr i) (name_on hop.unit hop.x i) st.1.2) (onward hops l.1 (λ k n. all k (inr n)) l.0.fits.node hop.y i few l.0.meets)
 
-  -- no hop after the first stands, in a free slot, at a name that an address of an agent reaches
-  pub not_seen : (first hop : Hop) (ahead behind : List Hop) (u : UnitPart) (i : ℕ) → p.hops ≡ first ∷ (ahead ++ (hop ∷ behind)) → unit_at net hop.unit ≡ Some u → i < rq.size → IsTrue (slots.is_free hop.unit ((hop.x + i) / 2 ^ u.page)) → IsAgentStop net (name_on hop.unit hop.x i) → ⊥
-  not_seen first hop ahead behind u i split e few free seen = by ((gives access w z seen.agent).0 there)
+  -- an address of an agent that comes, by the records that are in use, to a name of a hop after the first in a free slot
+  -- is one at which the placement gives the buffer
+  only_added : (first hop : Hop) (ahead behind : List Hop) (u : UnitPart) (i : ℕ) → p.hops ≡ first ∷ (ahead ++ (hop ∷ behind)) → unit_at net hop.unit ≡ Some u → i < rq.size → IsTrue (slots.is_free hop.unit ((hop.x + i) / 2 ^ u.page)) → (w : Name) → IsTrue (is_agent_at (slice_get net w.node)) → IsTrue (is_stop net (name_on hop.unit hop.x i)) → Reaches (StepUnder net before) w (name_on hop.unit hop.x i) → Adds rq p.v w (name_on rq.node rq.base i)
+  only_added first hop ahead behind u i split e few free w from stop comes = by ((gives access w z from).0 there)
     where
-      w : Name
-      w = seen.from
-
       t : Name
       t = name_on hop.unit hop.x i
 
@@ -507,22 +501,35 @@ module _ (net : List NodeDecl) (legal : IsLegalNet net) (one : ReachOneStop net)
       listed : (k : Hop) → Member k (hop ∷ behind) → Member k p.hops
       listed k m = subst (λ (hs : List Hop). Member k hs) (sym split) (member_right (first ∷ ahead) (hop ∷ behind) k m)
 
+      more : (x y : Name) → StepUnder net before x y → StepUnder net after x y
+      more = step_more net before after (allowing_more slots.held (joined_records slots.held (placed_records net rq p)) access (joined_left slots.held (placed_records net rq p)))
+
       there : ResolvesUnder net after w z
-      there = through w z hop behind last.0 i few (listed hop (inl refl)) seen.stops (onward behind last.1 (λ k m. listed k (inr m)) last.0.fits.node hop.y i few last.0.meets)
+      there = through w z hop behind last.0 i few (listed hop (inl refl)) stop (comes.0, chain_more (StepUnder net before) (StepUnder net after) more comes.0 w t comes.1) (onward behind last.1 (λ k m. listed k (inr m)) last.0.fits.node hop.y i few last.0.meets)
 
       none : (v : Name) → StepUnder net before t v → ⊥
       none v k =
           let out : Member v (outputs_by before t (Some u)) = subst (λ o. Member v (outputs_by before t o)) e (step_stop net legal before t v u e k).1 in
           absurd (subst (λ o. Member v (output u o t.addr)) (ap (record_allowing access) (empty hop.unit ((hop.x + i) / 2 ^ u.page) free)) out)
 
-      by : ResolvesUnder net before w z ⊎ (IsTrue (allows rq.rights access) × Adds rq p.v w z) → ⊥
-      by (inl old) = blocked slots.held (placed_records net rq p) access net legal after_held w t z seen.stops.0 (seen.stops.1.0, net_chain net legal before seen.stops.1.0 w t seen.stops.1.2) none old
-      by (inr k) =
-          let d : Adds rq p.v w z = k.1 in
-          let met : StopsAt net (name_on rq.agent p.v d.i) (name_on first.unit first.x d.i) = (subst (λ (hs : List Hop). Meets net rq rq.agent p.v hs) split is.meets) d.i d.below in
-          let same : t ≡ name_on first.unit first.x d.i = one w t (name_on first.unit first.x d.i) seen.stops (subst (λ (n : Name). StopsAt net n (name_on first.unit first.x d.i)) (sym d.from) met) in
-          let apart : Differ (first ∷ (ahead ++ (hop ∷ behind))) = subst (λ (hs : List Hop). Differ hs) split (differ net legal slots rq is.some p.hops is.most is.leads) in
-          apart.0 hop (member_right ahead (hop ∷ behind) hop (inl refl)) (ap (λ (n : Name). n.node) same)
+      by : ResolvesUnder net before w z ⊎ (IsTrue (allows rq.rights access) × Adds rq p.v w z) → Adds rq p.v w z
+      by (inl old) = absurd (blocked slots.held (placed_records net rq p) access net legal after_held w t z stop comes none old)
+      by (inr k) = k.1
+
+  -- so no hop after the first stands, in a free slot, at a name that an address of an agent reaches
+  pub not_seen : (first hop : Hop) (ahead behind : List Hop) (u : UnitPart) (i : ℕ) → p.hops ≡ first ∷ (ahead ++ (hop ∷ behind)) → unit_at net hop.unit ≡ Some u → i < rq.size → IsTrue (slots.is_free hop.unit ((hop.x + i) / 2 ^ u.page)) → IsAgentStop net (name_on hop.unit hop.x i) → ⊥
+  not_seen first hop ahead behind u i split e few free seen =
+      let w : Name = seen.from in
+      let t : Name = name_on hop.unit hop.x i in
+      let d : Adds rq p.v w (name_on rq.node rq.base i) = only_added first hop ahead behind u i split e few free w seen.agent seen.stops.0 (seen.stops.1.0, net_chain net legal before seen.stops.1.0 w t seen.stops.1.2) in
+      let met : StopsAt net (name_on rq.agent p.v d.i) (name_on first.unit first.x d.i) = (subst (λ (hs : List Hop). Meets net rq rq.agent p.v hs) split is.meets) d.i d.below in
+      let same : t ≡ name_on first.unit first.x d.i = one w t (name_on first.unit first.x d.i) seen.stops (subst (λ (n : Name). StopsAt net n (name_on first.unit first.x d.i)) (sym d.from) met) in
+      let apart : Differ (first ∷ (ahead ++ (hop ∷ behind))) = subst (λ (hs : List Hop). Differ hs) split (differ net legal slots rq is.some p.hops is.most is.leads) in
+      apart.0 hop (member_right ahead (hop ∷ behind) hop (inl refl)) (ap (λ (n : Name). n.node) same)
+
+  -- nor at one to which another agent comes by the records that are in use
+  pub not_kept : (first hop : Hop) (ahead behind : List Hop) (u : UnitPart) (i : ℕ) → p.hops ≡ first ∷ (ahead ++ (hop ∷ behind)) → unit_at net hop.unit ≡ Some u → i < rq.size → IsTrue (slots.is_free hop.unit ((hop.x + i) / 2 ^ u.page)) → IsKeptStop net before rq.agent (name_on hop.unit hop.x i) → ⊥
+  not_kept first hop ahead behind u i split e few free kept = kept.other (ap (λ (n : Name). n.node) (only_added first hop ahead behind u i split e few free kept.from kept.is_agent kept.stop kept.comes).from)
 
   -- the slot of an address of a lone hop is free
   lone_free : (hop : Hop) (u : UnitPart) (i : ℕ) → p.hops ≡ hop ∷ [] → unit_at net hop.unit ≡ Some u → i < rq.size → IsTrue (slots.is_free hop.unit ((hop.x + i) / 2 ^ u.page))

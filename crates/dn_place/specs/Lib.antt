@@ -2,6 +2,7 @@ pub mod Blocks
 pub mod Candidates
 pub mod Exits
 pub mod Hops
+pub mod KeptNames
 pub mod Marks
 pub mod Preimages
 pub mod Problems

@@ -4,7 +4,7 @@ use Rattle.dn_interval.specs.declared.row.End.{End}
 use Rattle.dn_net.specs.declared.node.NodeDecl.{NodeDecl}
 use Rattle.dn_net.specs.declared.node.Unit.{Unit as UnitPart}
 use Rattle.dn_net.specs.Decode.{unit_at}
-use Rattle.dn_flat.specs.Crowds.{IsAgentStop, IsCrowded}
+use Rattle.dn_flat.specs.Crowds.{IsCrowded}
 use Rattle.dn_kind.specs.declared.unit_kind.Record.{Record}
 use Rattle.dn_kind.specs.Rights.{both_rights}
 use Rattle.dn_tables.specs.declared.placement.Hop.{Hop}
@@ -12,7 +12,7 @@ use Rattle.dn_placement.specs.Slots.{Slots}
 use Rattle.dn_place.specs.declared.slots.Input.{Input}
 use Rattle.dn_place.specs.declared.slot_state.SlotState.{SlotState}
 use Rattle.dn_place.specs.declared.slot_state.SlotState.TheVariants.{Free, Shared, Barred}
-use Rattle.dn_place.specs.Sought.{Sought}
+use Rattle.dn_place.specs.Sought.{IsSeenStop, Sought}
 
 -- a slot that is not free: its record may be shared where it has both rights and the slot no owner
 abbrev pub shared_by : Bool → Option Record → SlotState
@@ -95,21 +95,22 @@ AreBarred s u hop to = (x : ℕ) → hop.x ≤ x → x < to → x % 2 ^ u.page �
 abbrev pub HasCrowd : Sought → ℕ → ℕ → Type 0
 HasCrowd s unit x = (i : ℕ) × (i < s.request.size) × IsCrowded s.net (record { node = unit; addr = x + i })
 
--- of so many names of a unit from an input on, one that is in a free slot is the stop of an address of an agent
-abbrev pub HasAgentStop : Sought → UnitPart → ℕ → ℕ → Type 0
-HasAgentStop s u unit x = (i : ℕ) × (i < s.request.size)
-    × IsAgentStop s.net (record { node = unit; addr = x + i })
+-- of so many names of a unit from an input on, one that is in a free slot is the stop of an address of an agent, or
+-- another agent than the one that asks comes to it by the records that are in use
+abbrev pub HasSeenStop : Sought → UnitPart → ℕ → ℕ → Type 0
+HasSeenStop s u unit x = (i : ℕ) × (i < s.request.size)
+    × IsSeenStop s (record { node = unit; addr = x + i })
     × IsTrue (s.slots.is_free unit ((x + i) / 2 ^ u.page))
 
 -- a hop with this input finds a slot that is not usable; or it is the first from the agent's end, and two
--- addresses of agents reach one of its names; or it is a later one, and an address of an agent reaches one of
--- its names, in a free slot
+-- addresses of agents reach one of its names; or it is a later one, and agents come to one of its names, in a free
+-- slot
 abbrev pub IsUseless : Sought → UnitPart → ℕ → Hop → ℕ → Type 0
 IsUseless s u place hop x =
     (AreUsable s.slots hop.unit (x / 2 ^ u.page) ((x + s.request.size - 1) / 2 ^ u.page) hop.port
     (hop.y / 2 ^ u.page) → ⊥)
     ⊎ (((place ≡ 1) × HasCrowd s hop.unit x)
-    ⊎ ((place ≡ 1 → ⊥) × HasAgentStop s u hop.unit x))
+    ⊎ ((place ≡ 1 → ⊥) × HasSeenStop s u hop.unit x))
 
 -- so is each input from the hop's on and before another, in its place in a slot
 abbrev pub AreUseless : Sought → UnitPart → ℕ → Hop → ℕ → Type 0

@@ -1,17 +1,20 @@
 -- What the search looks for and where, and what it asks of that.
-use Rattle.std.specs.Prelude.{◌≡◌, ℕ, ◌+◌, ◌-◌, ◌*◌, ◌/◌, ◌%◌, ◌^◌, ◌<◌, ◌≤◌, false, List, [], ◌∷◌, ◌++◌, length, slice_get, Option, Some, None, IsTrue}
+use Rattle.std.specs.Prelude.{◌≡◌, ℕ, ◌+◌, ◌-◌, ◌*◌, ◌/◌, ◌%◌, ◌^◌, ◌<◌, ◌≤◌, false, List, [], ◌∷◌, ◌++◌, length, slice_get, Option, Some, None, IsTrue, ◌⊎◌}
 use Rattle.dn_net.specs.declared.node.Name.{Name}
 use Rattle.dn_net.specs.declared.node.NodeDecl.{NodeDecl}
 use Rattle.dn_net.specs.declared.node.Unit.{Unit as UnitPart}
 use Rattle.dn_net.specs.Decode.{top, is_agent_at, unit_at, Resolves, StopsAt}
 use Rattle.dn_flat.specs.Crowds.{IsAgentStop}
-use Rattle.dn_kind.specs.Rights.{both_rights}
+use Rattle.dn_kind.specs.declared.rights.Access.{Access}
+use Rattle.dn_kind.specs.Rights.{allows, both_rights}
+use Rattle.dn_kind.specs.Tables.{Held, allowing}
 use Rattle.dn_placement.specs.declared.request.Request.{Request}
 use Rattle.dn_placement.specs.Order.{IsSuited}
 use Rattle.dn_placement.specs.Placement.{name_on}
 use Rattle.dn_placement.specs.Slots.{Slots}
 use Rattle.dn_tables.specs.declared.placement.Hop.{Hop}
 use Rattle.dn_tables.specs.Placement.{Place}
+use Rattle.dn_view.specs.KeptStops.{IsKeptStop}
 use Rattle.dn_place.specs.Blocks.{HasBlocks}
 
 -- a net with the slots of its units, a request, and the address that is asked for, where one is
@@ -70,14 +73,24 @@ ShowsNoneBeside s = (q : Place) (hop : Hop) (u : UnitPart) (node i a x : ℕ) (z
           + (x / 2 ^ u.page - hop.x / 2 ^ u.page)) * 2 ^ u.page + x % 2 ^ u.page;
     }) z → ⊥
 
--- no name of a hop after the first from the agent's end, in a slot that is free, is the stop of an address of an
--- agent, in a placement that is looked for
-abbrev pub LeavesAgentStops : Sought → Type 0
-LeavesAgentStops s = (q : Place) (first hop : Hop) (ahead behind : List Hop) (u : UnitPart) (i : ℕ) →
+-- an address of another agent than the one that asks comes to the name, in a unit, by the records, for an access that
+-- is asked for
+abbrev pub IsKeptName : List NodeDecl → Held → Request → Name → Type 0
+IsKeptName net h rq t = (access : Access) × IsTrue (allows rq.rights access)
+    × IsKeptStop net (allowing access h) rq.agent t
+
+-- the name is the stop of an address of an agent, or another agent comes to it by the records that are in use
+abbrev pub IsSeenStop : Sought → Name → Type 0
+IsSeenStop s t = IsAgentStop s.net t ⊎ IsKeptName s.net s.slots.held s.request t
+
+-- no name of a hop after the first from the agent's end, in a slot that is free, is one that agents come to so, in a
+-- placement that is looked for
+abbrev pub LeavesSeenStops : Sought → Type 0
+LeavesSeenStops s = (q : Place) (first hop : Hop) (ahead behind : List Hop) (u : UnitPart) (i : ℕ) →
     IsSuited s.net s.slots s.request s.at q → q.hops ≡ first ∷ (ahead ++ (hop ∷ behind)) →
     unit_at s.net hop.unit ≡ Some u → i < s.request.size →
     IsTrue (s.slots.is_free hop.unit ((hop.x + i) / 2 ^ u.page)) →
-    IsAgentStop s.net (name_on hop.unit hop.x i) → ⊥
+    IsSeenStop s (name_on hop.unit hop.x i) → ⊥
 
 -- what the search asks
 pub record IsSearchReady (s : Sought) : Type 0 where
@@ -86,7 +99,7 @@ pub record IsSearchReady (s : Sought) : Type 0 where
   pub alone : ReachAlone s
   pub whole : GivesWholeBlocks s
   pub none_beside : ShowsNoneBeside s
-  pub leaves : LeavesAgentStops s
+  pub leaves : LeavesSeenStops s
   pub few : length s.net ≤ 1024
   pub agent : s.request.agent < length s.net
   pub is_agent : IsTrue (is_agent_at (slice_get s.net s.request.agent))

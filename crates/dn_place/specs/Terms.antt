@@ -3,12 +3,13 @@ pub use Rattle.dn_place.specs.Blocks.{HasBeside, HasBlocks, SendsBlocks, ShowsWi
 pub use Rattle.dn_place.specs.Candidates.{CanOwn, IsAddressed, IsChosen, IsFirstOrNone, NoneUnder, PagesBelow, PagesFrom, key_of_hops, to_address, to_output, to_page, to_port, to_unit}
 pub use Rattle.dn_place.specs.Exits.{AreExits, AreExitsTo, AreLone, IsExit, IsLone, IsRankedExit, exit_rank}
 pub use Rattle.dn_place.specs.Hops.{hops_view}
+pub use Rattle.dn_place.specs.KeptNames.{AreKeptNames, IsNamed}
 pub use Rattle.dn_place.specs.Marks.{AreMarked, AreUnitsFrom, IsEntry, Keeps, MarkedBefore, Marks, MarksAfter, MarksAll, MarksListed, is_marked, mark_at}
 pub use Rattle.dn_place.specs.Preimages.{ArePreimages, IsPreimage, IsTurned, IsWayTo, LeadsAlone}
 pub use Rattle.dn_place.specs.Reaches.{IsHopReach}
 pub use Rattle.dn_place.specs.Requests.{IsRequest}
 pub use Rattle.dn_place.specs.Rows.{AreToward, GivesNone, GivesStops, InRow, IsClear, is_past, wanted_name}
-pub use Rattle.dn_place.specs.Slots.{AreBarred, AreFree, AreFreeTo, AreShut, AreUsable, AreUseless, HasAgentStop, HasCrowd, IsBarred, IsNextTry, IsSlotRun, IsWithin, MayTry, is_barred_slot, is_free_slot, is_usable_slot, shared_by, slot_of}
+pub use Rattle.dn_place.specs.Slots.{AreBarred, AreFree, AreFreeTo, AreShut, AreUsable, AreUseless, HasCrowd, HasSeenStop, IsBarred, IsNextTry, IsSlotRun, IsWithin, MayTry, is_barred_slot, is_free_slot, is_usable_slot, shared_by, slot_of}
 pub use Rattle.dn_place.specs.Sought.{HaveUnitBounds, HasUnitBounds, IsSearchReady, ReachOneStop, no_slots, slot_count}
 pub use Rattle.dn_place.specs.Stages.{IsDoor, IsOutput, IsSearchStage}
 pub use Rattle.dn_place.specs.Targets.{is_target_at, refused_address}

@@ -13,7 +13,7 @@ use crate::reach::{ReachMarks, can_enter, can_stand, entry_at};
 use crate::rows::{is_clear, lent_rows, made_rows, output, wanted_name};
 use crate::slots::power;
 use crate::whole::by_agent;
-use dn_interval::{End, Row};
+use dn_interval::{End, Row, Rows};
 use dn_net::node::Unit;
 use dn_tables::placement::Hop;
 use std::alloc::Global;
@@ -35,6 +35,8 @@ pub(crate) struct SearchStage<'a> {
     pub(crate) chosen: Hops,
     /// Blocks of 2 to this power addresses are kept whole.
     pub(crate) block: u8,
+    /// Names in units to which other agents come by the records in use, each at its own address.
+    pub(crate) kept: &'a Rows,
 }
 
 /// A port of a unit, through which the next hop is to lead.
@@ -195,7 +197,7 @@ fn by_entry<Q: Quest>(
         x,
         y,
     };
-    let tried = next_try(quest, 1, door.translator, hop, 0);
+    let tried = next_try(quest, 1, door.translator, hop, 0, stage.kept);
     let next = tried.x;
     if next != x {
         return Ok(None);
@@ -227,7 +229,7 @@ fn by_inputs<Q: Quest>(quest: &Q, stage: SearchStage, door: Door, y: u64) -> Fou
             x,
             y,
         };
-        let tried = next_try(quest, place, door.translator, hop, free);
+        let tried = next_try(quest, place, door.translator, hop, free, stage.kept);
         let next = tried.x;
         free = tried.free;
         if next == x {

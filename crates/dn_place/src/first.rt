@@ -11,6 +11,7 @@ use crate::OutOfMemory;
 use crate::blocks::block_of;
 use crate::chain::{SearchStage, by_hops};
 use crate::hops::Hops;
+use crate::kept::{kept_names, no_names};
 use crate::problem::{Aim, SearchProblem};
 use crate::quest::{FoundPlacement, Quest};
 use crate::reach::{ReachMarks, reach_of};
@@ -130,26 +131,52 @@ fn by_tables<A: Aim>(
         exact,
         aim: PhantomData,
     };
-    first_of(alloc, &problem, reach)
+    first_of(alloc, &problem, system, tables, reach)
 }
 
-/// The first placement that is looked for. `None` exactly where there is none.
-fn first_of<Q: Quest>(alloc: Global, quest: &Q, reach: &ReachMarks) -> FoundPlacement
+/// The first placement that is looked for. `None` exactly where there is none. Where other agents come by the records in
+/// use is made out once no placement of a single hop is found.
+fn first_of<Q: Quest>(
+    alloc: Global,
+    quest: &Q,
+    system: System,
+    tables: &TableSet,
+    reach: &ReachMarks,
+) -> FoundPlacement
     requires consistent { Q.is_consistent quest.now }
     requires ready { IsSearchReady (Q.sought quest.now) }
     requires reach { IsHopReach (Q.sought quest.now).net (Q.sought quest.now).request.agent
         reach.now }
     requires at { reach.now.at ≡ (Q.sought quest.now).at }
+    requires system { IsSystem meaning system }
+    requires fits { FitsNet system.on.net.now (kinds_of meaning system.on.kinds.now) tables.now }
+    requires rights { IsTrue (are_rights (Q.sought quest.now).request.rights) }
+    requires net { (Q.sought quest.now).net ≡ system.on.net.now }
+    requires held { (Q.sought quest.now).slots.held
+        ≡ record_kept (kinds_of meaning system.on.kinds.now) tables.now }
     ensures { IfOk result (λ found. IsFirstOrNone (Q.sought quest.now) [] found) }
 {
     let block = block_of(quest, reach.units.as_slice());
-    for count in 1..4 {
+    let none = no_names(alloc)?;
+    let lone = SearchStage {
+        alloc,
+        reach,
+        count: 1,
+        chosen: Hops::Zero,
+        block,
+        kept: &none,
+    };
+    if let Some(placement) = by_hops(quest, lone)? {
+        return Ok(Some(placement));
+    }
+    let request = quest.request();
+    let names = kept_names(alloc, system, tables, &request, reach)?;
+    for count in 2..4 {
+        let kept = &names;
         let stage = SearchStage {
-            alloc,
-            reach,
             count,
-            chosen: Hops::Zero,
-            block,
+            kept,
+            ..lone
         };
         if let Some(placement) = by_hops(quest, stage)? {
             return Ok(Some(placement));

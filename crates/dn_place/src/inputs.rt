@@ -3,10 +3,12 @@
 ghost use Rattle.std.specs.Prelude.{◌≡◌, ℕ, ◌+◌, ◌-◌, ◌*◌, ◌/◌, ◌%◌, ◌^◌, ◌<◌, ◌≤◌, Some, IsTrue};
 ghost use Rattle.dn_interval.specs.declared.span.TheConstants.{TOP};
 ghost use Rattle.dn_net.specs.Terms.{unit_at};
-ghost use Rattle.dn_place.specs.Terms.{HasAgentStop, HasCrowd, IsNextTry, IsSearchReady, IsWithin, MayTry};
+ghost use Rattle.dn_place.specs.Terms.{AreKeptNames, HasCrowd, HasSeenStop, IsNextTry, IsSearchReady, IsWithin, MayTry};
 
+use crate::kept::has_name;
 use crate::quest::Quest;
 use crate::slots::{Input, is_free_slot, next_input, power};
+use dn_interval::Rows;
 use dn_net::node::Unit;
 use dn_tables::placement::Hop;
 
@@ -20,9 +22,12 @@ pub(crate) fn next_try<Q: Quest>(
     translator: &Unit,
     hop: Hop,
     free: u32,
+    kept: &Rows,
 ) -> Input
     requires consistent { Q.is_consistent quest.now }
     requires ready { IsSearchReady (Q.sought quest.now) }
+    requires kept { AreKeptNames (Q.sought quest.now).net (Q.sought quest.now).slots.held
+        (Q.sought quest.now).request kept.now }
     requires may { MayTry (Q.sought quest.now) translator.now hop free }
     ensures { IsNextTry (Q.sought quest.now) translator.now place hop result }
 {
@@ -31,11 +36,27 @@ pub(crate) fn next_try<Q: Quest>(
         if past != hop.x {
             return Input { x: past, free };
         }
-    } else if is_agent_stop(quest, translator, hop) {
+    } else if is_seen(quest, translator, hop, kept) {
         let x = hop.x + power(translator.page);
         return Input { x, free };
     }
     next_input(quest, translator, hop, free)
+}
+
+/// Whether a name of a hop, in a free slot, is known to be the stop of an address of an agent, or to be one to which
+/// another agent comes by the records in use.
+fn is_seen<Q: Quest>(quest: &Q, translator: &Unit, hop: Hop, kept: &Rows) -> bool
+    requires consistent { Q.is_consistent quest.now }
+    requires ready { IsSearchReady (Q.sought quest.now) }
+    requires within { IsWithin (Q.sought quest.now) translator.now hop }
+    requires kept { AreKeptNames (Q.sought quest.now).net (Q.sought quest.now).slots.held
+        (Q.sought quest.now).request kept.now }
+    ensures { IsTrue result → HasSeenStop (Q.sought quest.now) translator.now hop.unit hop.x }
+{
+    if is_agent_stop(quest, translator, hop) {
+        return true;
+    }
+    has_name(kept, hop.unit, hop.x) && is_free_at(quest, translator, hop.unit, hop.x)
 }
 
 /// Whether a name of a hop is known to be the stop of an address of an agent, and in a free slot.
@@ -43,7 +64,7 @@ fn is_agent_stop<Q: Quest>(quest: &Q, translator: &Unit, hop: Hop) -> bool
     requires consistent { Q.is_consistent quest.now }
     requires ready { IsSearchReady (Q.sought quest.now) }
     requires within { IsWithin (Q.sought quest.now) translator.now hop }
-    ensures { IsTrue result → HasAgentStop (Q.sought quest.now) translator.now hop.unit hop.x }
+    ensures { IsTrue result → HasSeenStop (Q.sought quest.now) translator.now hop.unit hop.x }
 {
     match quest.agent_stop(hop.unit, hop.x, quest.request().size) {
         Some(span) => {

@@ -14,6 +14,7 @@ pub mod exits;
 pub mod first;
 mod hops;
 mod inputs;
+mod kept;
 mod lone;
 mod marks;
 mod preimages;

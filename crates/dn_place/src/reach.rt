@@ -55,6 +55,17 @@ pub fn reach_of(
     })
 }
 
+/// Whether a second hop from the agent's end can stand anywhere.
+pub(crate) fn has_second(reach: &ReachMarks) -> bool {
+    let marks = reach.second.as_slice();
+    for mark in marks {
+        if *mark {
+            return true;
+        }
+    }
+    false
+}
+
 /// Whether a hop at this place from the agent's end can stand in the unit.
 pub(crate) fn can_stand(reach: &ReachMarks, place: u8, unit: u16) -> bool
     ensures { result ≡ mark_at reach.now.first.items reach.now.second.items

@@ -5,6 +5,7 @@ use Rattle.dn_net.specs.Decode.{unit_at}
 use Rattle.dn_flat.specs.Levels.{AreFlats}
 use Rattle.dn_kind.specs.Kind.{Meaning}
 use Rattle.dn_kind.specs.Kinded.{kinds_of}
+use Rattle.dn_kind.specs.Rights.{are_rights}
 use Rattle.dn_placement.specs.Exposure.{IsAdmissible}
 use Rattle.dn_placement.specs.Placement.{IsPlacement}
 use Rattle.dn_place.specs.Hops.{hops_view}
@@ -36,3 +37,12 @@ first_of-requires-clause-reach g c = subst (λ (s : Sought). IsHopReach s.net s.
 
 pub first_of-requires-clause-at : goal.first_of-requires-clause-at
 first_of-requires-clause-at g c = sym (ap (λ (s : Sought). s.at) c.requires.aim)
+
+pub first_of-requires-clause-rights : goal.first_of-requires-clause-rights
+first_of-requires-clause-rights g c = subst (λ (s : Sought). IsTrue (are_rights s.request.rights)) (sym c.requires.aim) c.requires.rights
+
+pub first_of-requires-clause-net : goal.first_of-requires-clause-net
+first_of-requires-clause-net g c = ap (λ (s : Sought). s.net) c.requires.aim
+
+pub first_of-requires-clause-held : goal.first_of-requires-clause-held
+first_of-requires-clause-held g c = ap (λ (s : Sought). s.slots.held) c.requires.aim

@@ -1,4 +1,4 @@
-use Rattle.std.proofs.Common.{◌≡◌, ◌∙◌, ◌+◌, ◌-◌, ◌/◌, ◌^◌, ℕ, IsTrue, ap, sym, subst, arith}
+use Rattle.std.proofs.Common.{◌≡◌, ◌∙◌, ◌+◌, ◌-◌, ◌/◌, ◌^◌, ℕ, IsTrue, inl, ap, sym, subst, arith}
 use Rattle.dn_interval.proofs.Membership.{in_from}
 use Rattle.dn_flat.specs.Crowds.{IsAgentStop}
 use Rattle.dn_placement.specs.declared.request.Request.{Request}
@@ -18,6 +18,6 @@ returns-in-Some g c told =
     let at : c.args.hop.x + (name - c.args.hop.x) ≡ name = omega (arith, c.max-name.ensures) in (
       name - c.args.hop.x,
       omega (arith, c.max-name.ensures, c.in-Some.ensures.to, same, c.requires.ready.some),
-      subst (λ n. IsAgentStop s.net (record { node = c.args.hop.unit; addr = n })) (sym at) (c.in-Some.ensures.stopped name (in_from span name (omega (arith, c.max-name.ensures)) (omega (arith, c.max-name.ensures, c.in-Some.ensures.from, span.ordered)))),
+      inl (subst (λ n. IsAgentStop s.net (record { node = c.args.hop.unit; addr = n })) (sym at) (c.in-Some.ensures.stopped name (in_from span name (omega (arith, c.max-name.ensures)) (omega (arith, c.max-name.ensures, c.in-Some.ensures.from, span.ordered))))),
       subst (λ n. IsTrue (s.slots.is_free c.args.hop.unit (n / 2 ^ c.args.translator.now.page))) (sym at) (sym c.is_free_at.ensures ∙ told),
     )

@@ -1,6 +1,6 @@
 use Rattle.std.proofs.Common.{◌+◌, ◌%◌, ◌^◌, inl, inr, refl, ap, ◌∙◌, subst, arith}
 use Rattle.std.proofs.lemmas.Nat.{pow_pos}
-use Rattle.dn_place.specs.Slots.{HasAgentStop}
+use Rattle.dn_place.specs.Slots.{HasSeenStop}
 use Rattle.dn_place.proofs.Crowds.{own_input}
 use Rattle.dn_place.proofs.Nexts.{next_agrees}
 use Rattle.dn_place.proofs.Pages.{input_bound, page_few}
@@ -24,8 +24,8 @@ returns-then-past-hop g c = record {
   usable = λ e. absurd (c.if-past-hop.true e);
 }
 
-pub returns-then-is_agent_stop : goal.returns-then-is_agent_stop
-returns-then-is_agent_stop g c =
+pub returns-then-is_seen : goal.returns-then-is_seen
+returns-then-is_seen g c =
     let s = g.Q.Quest.sought c.args.quest.now in
     let f = c.requires.ready.bounds _ _ c.requires.may.within.unit in
     let page = c.args.translator.now.page in
@@ -35,7 +35,7 @@ returns-then-is_agent_stop g c =
       few = omega (arith, c.power.ensures, page_few page f.page, input_bound c.args.translator.now.slots page f.page f.few, c.requires.may.within.ends);
       useless = λ x a b e. inr (inr (
         (λ k. absurd (omega (arith, k, c.if-place-eq1.false))),
-        subst (λ n. HasAgentStop s c.args.translator.now c.args.hop.unit n) (own_input c.args.hop.x x page a (omega (arith, b, c.power.ensures)) e) (c.if-is_agent_stop.ensures refl),
+        subst (λ n. HasSeenStop s c.args.translator.now c.args.hop.unit n) (own_input c.args.hop.x x page a (omega (arith, b, c.power.ensures)) e) (c.if-is_seen.ensures refl),
       ));
       free = c.requires.may.free;
       usable = λ e. absurd (omega (arith, e, c.power.ensures, pow_pos page));
