@@ -22,30 +22,6 @@ use Rattle.dn_script.specs.declared.state.Session.{Session as Kept}
 use Rattle.dn_script.specs.State.{IsState}
 use Rattle.dn_script.specs.Viewed.{OwedRowsAreNormal, owed_rows}
 
--- the ends that an address of a node comes to
-abbrev ends_under : List NodeDecl → Held → ℕ → ℕ → List End
-ends_under net h n a = map end_of (resolved_names_under net h (record { node = n; addr = a }))
-
-resolved_end : (net : List NodeDecl) (h : Held) (n a : ℕ) (y : End) → EndIn y (ends_under net h n a) ↔ ResolvesFromUnder net h n a y
-resolved_end net h n a y =
-    let x : Name = record { node = n; addr = a } in
-    let in_list = end_in (resolved_names_under net h x) (name_of_end y) in
-    let law = end_names_are_ends (steps_under net h) (is_accepted net) step_limit_under x (name_of_end y) in
-    ((λ m. law.0 (in_list.0 m)), (λ r. in_list.1 (law.1 r)))
-
--- they ascend
-ends_under_ascend : (net : List NodeDecl) (h : Held) (n a : ℕ) → Ascending (ends_under net h n a)
-ends_under_ascend net h n a =
-    let x : Name = record { node = n; addr = a } in
-    ends_ascend (resolved_names_under net h x) (end_names_ascend (steps_under net h) (is_accepted net) step_limit_under x)
-
-rows_listed : (net : List NodeDecl) (h : Held) (n : ℕ) (rows : List Row) → AreNormal (ResolvesFromUnder net h n) rows → map seen_view rows ≡ listed_rows (ends_under net h n)
-rows_listed net h n rows normal =
-    normal_are_listed (ends_under net h n) (ends_under_ascend net h n) rows (record {
-      apart = normal.apart;
-      exact = λ a y l. ((λ m. (normal.exact a y l).0 ((resolved_end net h n a y).0 m)), (λ g. (resolved_end net h n a y).1 ((normal.exact a y l).1 g)));
-    })
-
 -- the records of a book for an access
 pub held_same : (net : List NodeDecl) (book : List Grant) (access : Access) (h : Held) → ((node slot : ℕ) → h node slot ≡ records_of net book node slot) → ◌≡◌ {A = Held} (allowing access h) (allowing access (records_of net book))
 held_same net book access h same = λ i node slot. ap (record_allowing access) (same node slot) i
