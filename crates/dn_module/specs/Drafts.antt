@@ -53,22 +53,9 @@ role_of plain_role = Plain
 role_of agent_role = Agent
 role_of vectors_role = Vectors
 
--- a node: the line of its declaration, its role and its name, what it accepts and maps, the node that it lies over, and its
--- parts where it is a unit
-abbrev pub draft_with : ℕ → Role → List ℕ → List Block → List DraftEntry → Option (List ℕ) → Option DraftUnit → Draft
-draft_with line role name accepts entries over parts = record {
-  line = line;
-  role = role;
-  name = name;
-  accepts = accepts;
-  entries = entries;
-  over = over;
-  unit = parts;
-}
-
--- a node that neither accepts nor maps anything
+-- a node that neither accepts nor maps anything: the line of its declaration, its role and its name, and its parts where it is a unit
 abbrev pub bare_draft : ℕ → Role → List ℕ → Option DraftUnit → Draft
-bare_draft line role name parts = draft_with line role name [] [] None parts
+bare_draft line role name parts = record { line = line; role = role; name = name; accepts = []; entries = []; over = None; unit = parts }
 
 -- a node, its expressions and the indices of its references taken from left to right
 abbrev pub node_draft : ℕ → RoleOf → List Part → Spec → Result Draft Flaw
@@ -77,7 +64,7 @@ node_draft line role name spec = do
   accepts ← each block_of spec.accepts
   entries ← each entry_of spec.entries
   over ← full_name_or_none spec.over
-  Ok (draft_with line (role_of role) text accepts entries over None)
+  Ok (record { line = line; role = role_of role; name = text; accepts = accepts; entries = entries; over = over; unit = None })
 
 -- the number of a kind, where it is there
 abbrev pub known_kind : Option ℕ → Result ℕ Flaw

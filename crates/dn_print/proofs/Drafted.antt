@@ -21,7 +21,7 @@ use Rattle.dn_module.specs.declared.draft.DraftDest.{DraftDest}
 use Rattle.dn_module.specs.declared.draft.DraftEntry.{DraftEntry}
 use Rattle.dn_module.specs.declared.draft.DraftUnit.{DraftUnit}
 use Rattle.dn_module.specs.Values.{each}
-use Rattle.dn_module.specs.Drafts.{draft_with, names, is_known, parts_of_draft, node_number_of, dests_known, over_known, ports_known, refers_to_known, dest_in, entry_in, unit_by_numbers, node_in, node_of, role_of}
+use Rattle.dn_module.specs.Drafts.{names, is_known, parts_of_draft, node_number_of, dests_known, over_known, ports_known, refers_to_known, dest_in, entry_in, unit_by_numbers, node_in, node_of, role_of}
 use Rattle.dn_print.specs.Names.{node_text}
 use Rattle.dn_print.specs.Spelled.{IsFull}
 use Rattle.dn_print.specs.Statement.{node_name}
@@ -47,7 +47,7 @@ abbrev unit_named : List NodeDecl → UnitPart → DraftUnit
 unit_named net u = record { kind = u.kind; page = u.page; slots = u.slots; reach = u.reach; ports = map (node_name net) u.ports }
 
 abbrev node_named : List NodeDecl → NodeDecl → Draft
-node_named net n = draft_with 0 n.role n.text n.accepts (map (entry_named net) n.entries) (option_map (node_name net) n.over) (option_map (unit_named net) n.unit)
+node_named net n = record { line = 0; role = n.role; name = n.text; accepts = n.accepts; entries = map (entry_named net) n.entries; over = option_map (node_name net) n.over; unit = option_map (unit_named net) n.unit }
 
 -- the names are those of the nodes
 names_named : (net ns : List NodeDecl) → names (map (node_named net) ns) ≡ texts ns
