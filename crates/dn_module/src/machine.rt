@@ -126,7 +126,7 @@ fn take<'a, 't>(
         Stmt::Decl { line, decl } => {
             let scope = &stack.inner.scope;
             let (recent, drafts) = (&mut made.recent, &mut made.drafts);
-            declare(alloc, kinds, recent, scope, drafts, *line, decl)
+            declare(kinds, recent, scope, drafts, *line, decl)
         }
         Stmt::Module {
             line,
@@ -145,7 +145,7 @@ fn take<'a, 't>(
             let found = made.modules.find(stack.inner.visible, title);
             let scope = &stack.inner.scope;
             let (args, prefix) = (args.as_slice(), prefix.as_slice());
-            let inner = new_use(alloc, &mut made.recent, scope, *line, found, args, prefix)?;
+            let inner = new_use(&mut made.recent, scope, *line, found, args, prefix)?;
             Ok(stack.enter(inner)?)
         }
         Stmt::Loop {
@@ -165,7 +165,6 @@ fn take<'a, 't>(
 
 /// Makes the node that a statement declares.
 fn declare(
-    alloc: Global,
     kinds: &Kinds,
     recent: &mut Recent,
     scope: &Scope,
@@ -177,8 +176,8 @@ fn declare(
     ensures { Answers (λ _. drafts.new) expand_fault_view result (with_declaration (kinds_of
         meaning kinds.now) drafts.old line (in_declaration scope.now (declaration_view decl.now))) }
 {
-    match draft_of(alloc, kinds, recent, scope, line, decl) {
-        Ok(draft) => drafts.add(alloc, draft),
+    match draft_of(kinds, recent, scope, line, decl) {
+        Ok(draft) => drafts.add(recent.alloc, draft),
         Err(fault) => Err(fault.at(line)),
     }
 }

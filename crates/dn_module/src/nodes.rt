@@ -1,7 +1,8 @@
 //! The nodes that declarations make.
 
-ghost use Rattle.std.specs.Prelude.{◌≡◌, ◌≤◌, length, map, option_map};
-ghost use Rattle.dn_parse.specs.Terms.{block_view, declaration_view, dest_view, entry_view, maybe_name_view, name_view, role_view, spec_view, unit_view};
+ghost use Rattle.std.specs.Prelude.{◌≡◌, ◌≤◌, List, length, map, option_map};
+ghost use Rattle.dn_parse.specs.Tree.{Block as BlockOf, Entry as EntryOf, Part};
+ghost use Rattle.dn_parse.specs.Terms.{block_view, declaration_view, dest_view, entry_view, maybe_name_view, name_view, role_view, spec_view};
 ghost use Rattle.dn_kind.specs.Terms.{kind_place, kinds_of};
 ghost use Rattle.dn_module.specs.Terms.{bare_draft, block_of, dest_of, draft_of, each, entry_of, flaw_fault_view, full_name, full_name_or_none, in_block, in_declaration, in_declared, in_dest, in_entry, in_reference, in_spec, known_kind, name_fault_view, node_draft, role_of};
 ghost use Rattle.dn_base.specs.Terms.{Answers};
@@ -15,12 +16,11 @@ use dn_base::items::Items;
 use dn_base::text::Text;
 use dn_kind::kinds::Kinds;
 use dn_net::node::{Block, Role};
-use dn_parse::syntax::{BlockExpr, Decl, DeclRole, DestExpr, EntryExpr, NameExpr, Spec, UnitExpr};
+use dn_parse::syntax::{BlockExpr, Decl, DeclRole, DestExpr, EntryExpr, NameExpr, Spec};
 use std::alloc::Global;
 
 /// The node that a declaration makes, with this line.
 pub fn draft_of(
-    alloc: Global,
     kinds: &Kinds,
     recent: &mut Recent,
     scope: &Scope,
@@ -32,40 +32,24 @@ pub fn draft_of(
         (kinds_of meaning kinds.now) line (in_declaration scope.now (declaration_view decl.now))) }
 {
     match decl {
-        Decl::Node { role, name, spec } => node_draft(
-            alloc, recent, scope, line, *role, name, spec,
-        ),
-        Decl::Unit(unit) => unit_of(alloc, kinds, recent, scope, line, unit),
+        Decl::Node { role, name, spec } => node_draft(recent, scope, line, *role, name, spec),
+        Decl::Unit(unit) => {
+            let name = shared_name(recent.alloc, scope, unit.name.as_slice())?;
+            let kind = kind_number(kinds, unit.kind)?;
+            let page = value_within(scope, 255, &unit.page)? as u8;
+            let slots = value_within(scope, 4_294_967_295, &unit.slots)? as u32;
+            let reach = value_within(scope, 255, &unit.reach)? as u8;
+            let ports = evaluate_all(recent, scope, unit.ports.as_slice())?;
+            let parts = DraftUnit {
+                kind,
+                page,
+                slots,
+                reach,
+                ports,
+            };
+            Ok(bare_draft(recent.alloc, line, Role::Unit, name, Some(parts)))
+        }
     }
-}
-
-/// The unit that a declaration makes.
-fn unit_of(
-    alloc: Global,
-    kinds: &Kinds,
-    recent: &mut Recent,
-    scope: &Scope,
-    line: u32,
-    unit: &UnitExpr,
-) -> Result<Draft, NameFault>
-    requires few_kinds { length kinds.now.list.items ≤ 255 }
-    ensures { Answers (λ x. x) name_fault_view result (draft_of
-        (kinds_of meaning kinds.now) line (in_declaration scope.now (unit_view unit.now))) }
-{
-    let name = shared_name(alloc, scope, unit.name.as_slice())?;
-    let kind = kind_number(kinds, unit.kind)?;
-    let page = value_within(scope, 255, &unit.page)? as u8;
-    let slots = value_within(scope, 4_294_967_295, &unit.slots)? as u32;
-    let reach = value_within(scope, 255, &unit.reach)? as u8;
-    let ports = references(alloc, recent, scope, unit.ports.as_slice())?;
-    let unit = DraftUnit {
-        kind,
-        page,
-        slots,
-        reach,
-        ports,
-    };
-    Ok(bare_draft(alloc, line, Role::Unit, name, Some(unit)))
 }
 
 /// The number of the kind with this name.
@@ -82,7 +66,6 @@ fn kind_number(kinds: &Kinds, name: &str) -> Result<u8, Flaw>
 
 /// A node with its parts.
 fn node_draft(
-    alloc: Global,
     recent: &mut Recent,
     scope: &Scope,
     line: u32,
@@ -94,13 +77,13 @@ fn node_draft(
         (node_draft line (role_view role) (in_declared scope.now (name_view name.now))
         (in_spec scope.now (spec_view spec.now))) }
 {
-    let name = shared_name(alloc, scope, name.as_slice())?;
+    let name = shared_name(recent.alloc, scope, name.as_slice())?;
     let Some(spec) = spec else {
-        return Ok(bare_draft(alloc, line, role_of(role), name, None));
+        return Ok(bare_draft(recent.alloc, line, role_of(role), name, None));
     };
-    let accepts = blocks(alloc, scope, spec.accepts.as_slice())?;
-    let entries = entries(alloc, recent, scope, spec.entries.as_slice())?;
-    let over = over(alloc, recent, scope, &spec.over)?;
+    let accepts = evaluate_all(recent, scope, spec.accepts.as_slice())?;
+    let entries = evaluate_all(recent, scope, spec.entries.as_slice())?;
+    let over = over(recent, scope, &spec.over)?;
     Ok(Draft {
         line,
         role: role_of(role),
@@ -139,7 +122,6 @@ fn role_of(role: DeclRole) -> Role
 
 /// The full name of the node that serves the rest, where there is one.
 fn over(
-    alloc: Global,
     recent: &mut Recent,
     scope: &Scope,
     name: &Option<NameExpr>,
@@ -150,10 +132,53 @@ fn over(
     match name {
         None => Ok(None),
         Some(name) => {
-            let name = reference(alloc, recent, scope, name.as_slice())?;
+            let name = reference(recent, scope, name.as_slice())?;
             Ok(Some(name))
         }
     }
+}
+
+/// A part of a declaration of which several may stand in a list.
+trait Evaluated {
+    ghost use Rattle.std.specs.Prelude.{Result};
+    ghost use Rattle.dn_base.specs.Answers.{Answers};
+    ghost use Rattle.dn_module.specs.Faults.{name_fault_view};
+    ghost use Rattle.dn_module.specs.Replace.{Replacement};
+    ghost use Rattle.dn_module.specs.Values.{Flaw};
+
+    /// What is made of it.
+    type Made: Drop;
+
+    /// What it is in the tree.
+    ghost Tree: { Type 0 };
+    /// The part in the tree.
+    ghost view: { Self → Tree };
+    /// The part with what stands for its words.
+    ghost replaced: { Replacement → Tree → Tree };
+    /// What the definition makes of it then, or its flaw.
+    ghost value_of: { Tree → Result Self.Made Flaw };
+
+    /// What is made of it in a scope.
+    fn evaluate(&self, recent: &mut Recent, scope: &Scope) -> Result<Self::Made, NameFault>
+        ensures { Answers (λ x. x) name_fault_view result
+            (value_of (replaced scope.now (view self.now))) };
+}
+
+/// What is made of each of the parts.
+fn evaluate_all<P: Evaluated>(
+    recent: &mut Recent,
+    scope: &Scope,
+    parts: &[P],
+) -> Result<Items<P::Made>, NameFault>
+    ensures { Answers (λ x. x) name_fault_view result
+        (each P.value_of (map (P.replaced scope.now) (map P.view parts.now))) }
+{
+    let mut made = Items::from_vec(Vec::with_capacity(recent.alloc, parts.len())?);
+    for part in parts {
+        let value = part.evaluate(recent, scope)?;
+        made.push(value)?;
+    }
+    Ok(made)
 }
 
 /// A block: one expression is its first and its last address.
@@ -166,21 +191,24 @@ fn block(scope: &Scope, range: &BlockExpr) -> Result<Block, Flaw>
     Ok(Block { lo, hi })
 }
 
-fn blocks(alloc: Global, scope: &Scope, ranges: &[BlockExpr]) -> Result<Items<Block>, NameFault>
-    ensures { Answers (λ x. x) name_fault_view result
-        (each block_of (map (in_block scope.now.numbers) (map block_view ranges.now))) }
-{
-    let mut made = Items::from_vec(Vec::with_capacity(alloc, ranges.len())?);
-    for range in ranges {
-        let block = block(scope, range)?;
-        made.push(block)?;
+impl Evaluated for BlockExpr<'_> {
+    type Made = Block;
+
+    ghost Tree = { BlockOf };
+
+    ghost view = { block_view };
+
+    ghost replaced = { λ r. in_block r.numbers };
+
+    ghost value_of = { block_of };
+
+    fn evaluate(&self, _recent: &mut Recent, scope: &Scope) -> Result<Block, NameFault> {
+        Ok(block(scope, self)?)
     }
-    Ok(made)
 }
 
 /// A destination of a block with this first address, which is its own where none is given.
 fn dest(
-    alloc: Global,
     recent: &mut Recent,
     scope: &Scope,
     lo: u64,
@@ -189,13 +217,12 @@ fn dest(
     ensures { Answers (λ x. x) name_fault_view result
         (dest_of lo (in_dest scope.now (dest_view dest.now))) }
 {
-    let to = reference(alloc, recent, scope, dest.name.as_slice())?;
+    let to = reference(recent, scope, dest.name.as_slice())?;
     let addr = value_or(scope, lo, &dest.addr)?;
     Ok(DraftDest { to, addr })
 }
 
 fn dests(
-    alloc: Global,
     recent: &mut Recent,
     scope: &Scope,
     lo: u64,
@@ -204,59 +231,45 @@ fn dests(
     ensures { Answers (λ x. x) name_fault_view result
         (each (dest_of lo) (map (in_dest scope.now) (map dest_view dests.now))) }
 {
-    let mut made = Items::from_vec(Vec::with_capacity(alloc, dests.len())?);
+    let mut made = Items::from_vec(Vec::with_capacity(recent.alloc, dests.len())?);
     for expr in dests {
-        let dest = dest(alloc, recent, scope, lo, expr)?;
+        let dest = dest(recent, scope, lo, expr)?;
         made.push(dest)?;
     }
     Ok(made)
 }
 
-fn entry(
-    alloc: Global,
-    recent: &mut Recent,
-    scope: &Scope,
-    mapping: &EntryExpr,
-) -> Result<DraftEntry, NameFault>
-    ensures { Answers (λ x. x) name_fault_view result
-        (entry_of (in_entry scope.now (entry_view mapping.now))) }
-{
-    let block = block(scope, &mapping.block)?;
-    let dests = dests(alloc, recent, scope, block.lo, mapping.dests.as_slice())?;
-    Ok(DraftEntry { block, dests })
+impl Evaluated for EntryExpr<'_> {
+    type Made = DraftEntry;
+
+    ghost Tree = { EntryOf };
+
+    ghost view = { entry_view };
+
+    ghost replaced = { in_entry };
+
+    ghost value_of = { entry_of };
+
+    fn evaluate(&self, recent: &mut Recent, scope: &Scope) -> Result<DraftEntry, NameFault> {
+        let block = block(scope, &self.block)?;
+        let dests = dests(recent, scope, block.lo, self.dests.as_slice())?;
+        Ok(DraftEntry { block, dests })
+    }
 }
 
-fn entries(
-    alloc: Global,
-    recent: &mut Recent,
-    scope: &Scope,
-    mappings: &[EntryExpr],
-) -> Result<Items<DraftEntry>, NameFault>
-    ensures { Answers (λ x. x) name_fault_view result
-        (each entry_of (map (in_entry scope.now) (map entry_view mappings.now))) }
-{
-    let mut made = Items::from_vec(Vec::with_capacity(alloc, mappings.len())?);
-    for mapping in mappings {
-        let entry = entry(alloc, recent, scope, mapping)?;
-        made.push(entry)?;
-    }
-    Ok(made)
-}
+/// A name comes to the full name to which it refers.
+impl Evaluated for NameExpr<'_> {
+    type Made = ScopedName;
 
-/// The full names to which names refer.
-fn references(
-    alloc: Global,
-    recent: &mut Recent,
-    scope: &Scope,
-    names: &[NameExpr],
-) -> Result<Items<ScopedName>, NameFault>
-    ensures { Answers (λ x. x) name_fault_view result
-        (each full_name (map (in_reference scope.now) (map name_view names.now))) }
-{
-    let mut made = Items::from_vec(Vec::with_capacity(alloc, names.len())?);
-    for name in names {
-        let text = reference(alloc, recent, scope, name.as_slice())?;
-        made.push(text)?;
+    ghost Tree = { List Part };
+
+    ghost view = { name_view };
+
+    ghost replaced = { in_reference };
+
+    ghost value_of = { full_name };
+
+    fn evaluate(&self, recent: &mut Recent, scope: &Scope) -> Result<ScopedName, NameFault> {
+        reference(recent, scope, self.as_slice())
     }
-    Ok(made)
 }

@@ -16,6 +16,8 @@ const ROOM: usize = 4_194_304;
 /// look for another longer, and what is kept is bounded.
 #[derive(Drop)]
 pub struct Recent {
+    /// The memory that the texts take, and what is made with them.
+    pub alloc: Global,
     texts: Vec<RcStr>,
     /// How many bytes were kept since the texts were last let go.
     bytes: usize,
@@ -25,13 +27,14 @@ impl Recent {
     /// No texts. It takes no memory.
     pub fn new(alloc: Global) -> Recent {
         Recent {
+            alloc,
             texts: Vec::new(alloc),
             bytes: 0,
         }
     }
 
     /// The text, which it shares with those who asked for it lately. `Err` is want of memory.
-    pub fn text(&mut self, alloc: Global, text: &str) -> Result<RcStr, AllocError>
+    pub fn text(&mut self, text: &str) -> Result<RcStr, AllocError>
         ensures { IfOk result (λ t. rc_str_bytes t ≡ text.now) }
     {
         let place = place_of(text);
@@ -40,7 +43,7 @@ impl Recent {
                 return kept.clone();
             }
         }
-        let new = RcStr::from_str(alloc, text)?;
+        let new = RcStr::from_str(self.alloc, text)?;
         self.keep(place, new.clone()?)?;
         Ok(new)
     }

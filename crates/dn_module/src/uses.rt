@@ -19,7 +19,6 @@ use std::alloc::Global;
 
 /// The use of a module that was found, with its number, from the statement's arguments and its prefix.
 pub fn new_use<'a, 't>(
-    alloc: Global,
     recent: &mut Recent,
     scope: &Scope,
     line: u32,
@@ -38,15 +37,19 @@ pub fn new_use<'a, 't>(
     if !fit(known.module.params, args) {
         return Err(ExpandFault::Arguments { line });
     }
-    match inner_scope(alloc, recent, scope, &known.titles, args, prefix) {
-        Ok(inner) => Ok(Use::new(alloc, inner, Visible::First(number), known.module.body)),
+    match inner_scope(recent, scope, &known.titles, args, prefix) {
+        Ok(inner) => Ok(Use::new(
+            recent.alloc,
+            inner,
+            Visible::First(number),
+            known.module.body,
+        )),
         Err(fault) => Err(fault.at(line)),
     }
 }
 
 /// What stands for the words of a module's body, with an argument for each parameter.
 fn inner_scope<'a>(
-    alloc: Global,
     recent: &mut Recent,
     scope: &Scope,
     titles: &Titles,
@@ -58,37 +61,27 @@ fn inner_scope<'a>(
         (replaced_by titles.now (map (in_arg scope.now) (map arg_view args.now))
         (in_declared scope.now (name_view prefix.now))) }
 {
-    let values = values_of(alloc, recent, scope, args)?;
-    let text = shared_name(alloc, scope, prefix)?;
+    let values = values_of(recent, scope, args)?;
+    let text = shared_name(recent.alloc, scope, prefix)?;
     let words = Bindings::new(titles.share()?, values);
-    Ok(Scope::of_use(alloc, text, words))
+    Ok(Scope::of_use(recent.alloc, text, words))
 }
 
 /// The values of arguments.
-fn values_of(
-    alloc: Global,
-    recent: &mut Recent,
-    scope: &Scope,
-    args: &[Arg],
-) -> Result<Items<Given>, NameFault>
+fn values_of(recent: &mut Recent, scope: &Scope, args: &[Arg]) -> Result<Items<Given>, NameFault>
     ensures { Answers (map given_view) name_fault_view result
         (each given_by (map (in_arg scope.now) (map arg_view args.now))) }
 {
-    let mut made = Items::from_vec(Vec::with_capacity(alloc, args.len())?);
+    let mut made = Items::from_vec(Vec::with_capacity(recent.alloc, args.len())?);
     for arg in args {
-        let value = value_of(alloc, recent, scope, arg)?;
+        let value = value_of(recent, scope, arg)?;
         made.push(value)?;
     }
     Ok(made)
 }
 
 /// The value of an argument.
-fn value_of(
-    alloc: Global,
-    recent: &mut Recent,
-    scope: &Scope,
-    arg: &Arg,
-) -> Result<Given, NameFault>
+fn value_of(recent: &mut Recent, scope: &Scope, arg: &Arg) -> Result<Given, NameFault>
     ensures { Answers given_view name_fault_view result
         (given_by (in_arg scope.now (arg_view arg.now))) }
 {
@@ -98,7 +91,7 @@ fn value_of(
             Ok(Given::Number(number))
         }
         Arg::Node(name) => {
-            let name = reference(alloc, recent, scope, name.as_slice())?;
+            let name = reference(recent, scope, name.as_slice())?;
             Ok(Given::Named(name))
         }
     }

@@ -204,7 +204,6 @@ pub fn shared_name(alloc: Global, scope: &Scope, name: &[PartExpr]) -> Result<Te
 
 /// The same full name, behind that of the use.
 fn scoped_name(
-    alloc: Global,
     recent: &mut Recent,
     scope: &Scope,
     name: &[PartExpr],
@@ -212,16 +211,16 @@ fn scoped_name(
     ensures { Answers (λ x. x) name_fault_view result
         (full_name (in_declared scope.now (name_view name.now))) }
 {
-    let mut text = String::new(alloc);
+    let mut text = String::new(recent.alloc);
     match scope.prefix() {
         Some(prefix) => {
             push_after_dots(&mut text, scope, name)?;
-            let own = recent.text(alloc, text.as_str())?;
+            let own = recent.text(text.as_str())?;
             Ok(ScopedName::within(prefix.share()?, own))
         }
         None => {
             push_dotted(&mut text, scope, name)?;
-            let own = recent.text(alloc, text.as_str())?;
+            let own = recent.text(text.as_str())?;
             Ok(ScopedName::outside(own))
         }
     }
@@ -230,7 +229,6 @@ fn scoped_name(
 /// The full name to which a name refers: one part without an index that spells a node parameter is the
 /// argument's, and any other is as a declared name.
 pub fn reference(
-    alloc: Global,
     recent: &mut Recent,
     scope: &Scope,
     name: &[PartExpr],
@@ -240,7 +238,7 @@ pub fn reference(
 {
     match argument(scope, name) {
         Some(known) => Ok(known.share()?),
-        None => scoped_name(alloc, recent, scope, name),
+        None => scoped_name(recent, scope, name),
     }
 }
 
