@@ -9,7 +9,8 @@ use Rattle.dn_module.specs.declared.draft.Draft.{Draft}
 use Rattle.dn_module.specs.declared.draft.DraftEntry.{DraftEntry}
 use Rattle.dn_module.specs.declared.draft.DraftDest.{DraftDest}
 use Rattle.dn_module.specs.declared.draft.DraftUnit.{DraftUnit}
-use Rattle.dn_module.specs.Drafts.{is_known, node_number_of, dest_in, entry_in, unit_by_numbers, node_in, dests_known, over_known, ports_known, refers_to_known}
+use Rattle.dn_scope.specs.Numbered.{is_known}
+use Rattle.dn_module.specs.Drafts.{node_number_of, dest_in, entry_in, unit_by_numbers, node_in, dests_known, over_known, ports_known, refers_to_known}
 use Rattle.dn_module.specs.Commands.{names_within}
 use Rattle.dn_module.specs.declared.command.Command.{Command}
 use Rattle.dn_base.proofs.Lists.{prefix_len-any}

@@ -8,10 +8,11 @@ use Rattle.std.specs.Str.{bytes_eq}
 use mir.Val.{bool_byte}
 use Rattle.dn_net.specs.Decode.{is_agent, is_unit}
 use Rattle.dn_module.specs.declared.draft.Draft.{Draft}
-use Rattle.dn_module.specs.Drafts.{agents_among, units_among, parts_of_draft, all_parts, limit_passed, with_draft, is_known, names}
+use Rattle.dn_module.specs.Drafts.{agents_among, units_among, parts_of_draft, all_parts, limit_passed, with_draft, names}
+use Rattle.dn_scope.specs.Numbered.{is_known}
 use Rattle.dn_module.specs.Machine.{limit_by}
-use Rattle.dn_module.proofs.Known.{is_known-Some, is_known-None}
-use Rattle.dn_module.specs.Faults.{is_duplicate, passes_limit}
+use Rattle.dn_scope.proofs.Known.{found_is}
+use Rattle.dn_scope.specs.Faults.{is_duplicate, passes_limit}
 
 abbrev pub one_if : Bool → ℕ
 one_if true = 1
@@ -101,10 +102,6 @@ within_step nodes agents units parts more a u few_agents few_units e =
 pub within_limits : (ds : List Draft) (d : Draft) → agents_among ds ≤ 64 → units_among ds ≤ 64 → limit_passed ds d ≡ None
     → AreWithin (length ds + 1) (agents_among ds + one_if (is_agent d.role)) (units_among ds + one_if (is_unit d.role)) (all_parts ds + parts_of_draft d)
 within_limits ds d few few_units none = within_step (length ds) (agents_among ds) (units_among ds) (all_parts ds) (parts_of_draft d) (is_agent d.role) (is_unit d.role) few few_units none
-
-pub found_is : (known : List (List ℕ)) (text : List ℕ) (r : Option ℕ) → r ≡ position (bytes_eq text) known → is_known known text ≡ is_some r
-found_is known text None e = is_known-None known text (sym e)
-found_is known text (Some n) e = is_known-Some known text n (sym e)
 
 -- whether a full name is there, by the table of names
 pub known_test : (now items : List Draft) (known : List (List ℕ)) (name text : List ℕ) (r : Option ℕ) → items ≡ now → known ≡ names items → text ≡ name → r ≡ position (bytes_eq text) known → is_known (names now) name ≡ is_some r

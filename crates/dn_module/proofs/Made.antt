@@ -5,9 +5,9 @@ use Rattle.std.specs.List.{list_all}
 use Rattle.dn_base.proofs.Lists.{list_all-last}
 use Rattle.dn_module.specs.declared.command.Command.{Command}
 use Rattle.dn_module.specs.Commands.{commands_or_none, makes_within, nodes_within}
-use Rattle.dn_module.specs.Values.{◌>>=◌, each}
-use Rattle.dn_module.specs.Faults.{ExpansionFault}
-use Rattle.dn_module.proofs.Each.{followed, after_one}
+use Rattle.dn_scope.specs.Values.{◌>>=◌, each}
+use Rattle.dn_scope.specs.Faults.{ExpansionFault}
+use Rattle.dn_scope.proofs.Each.{followed, after_one}
 
 -- what is made of a list of commands
 abbrev pub Making : Type 0

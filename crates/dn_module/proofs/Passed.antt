@@ -14,13 +14,15 @@ use Rattle.dn_module.specs.declared.draft.Draft.{Draft}
 use Rattle.dn_module.specs.declared.draft.DraftEntry.{DraftEntry}
 use Rattle.dn_module.specs.declared.draft.DraftUnit.{DraftUnit}
 use Rattle.dn_module.specs.declared.expansion.Expanded.{Expanded}
-use Rattle.dn_module.specs.declared.fault.ExpandFault.{ExpandFault}
-use Rattle.dn_module.specs.Values.{◌>>=◌, each, value_within, full_name, full_name_or_none}
-use Rattle.dn_module.specs.Drafts.{block_of, entry_of, role_of, known_kind, bare_draft, node_draft, unit_draft, draft_of_declaration, names, is_known, limit_passed, draft_by_limit, with_draft, refers_to_known, node_in, node_of}
+use Rattle.dn_scope.specs.declared.fault.ExpandFault.{ExpandFault}
+use Rattle.dn_scope.specs.Values.{◌>>=◌, each, value_within, full_name, full_name_or_none}
+use Rattle.dn_module.specs.Drafts.{block_of, entry_of, role_of, known_kind, bare_draft, node_draft, unit_draft, draft_of_declaration, names, limit_passed, draft_by_limit, with_draft, refers_to_known, node_in, node_of}
+use Rattle.dn_scope.specs.Numbered.{is_known}
 use Rattle.dn_module.specs.Commands.{commands_of}
-use Rattle.dn_module.specs.Expand.{ExpansionState, nothing_yet, Visibility, outside, Work, statement, turns, statements, with_module, usable_modules, module_from, use_rewriting, loop_of, item_rewriting, rewriting, all_rewritings, most_steps, expansion_of}
+use Rattle.dn_module.specs.Expand.{ExpansionState, nothing_yet, loop_of, item_rewriting, rewriting, all_rewritings, most_steps, expansion_of}
+use Rattle.dn_scope.specs.Uses.{Visibility, outside, Work, statement, turns, statements, with_module, usable_modules, module_from, use_rewriting}
 use Rattle.dn_module.specs.Finish.{outcome_of, outcome_view}
-use Rattle.dn_module.specs.Faults.{ExpansionFault, is_duplicate, is_unknown, expand_fault_view}
+use Rattle.dn_scope.specs.Faults.{ExpansionFault, is_duplicate, is_unknown, expand_fault_view}
 use Rattle.dn_base.proofs.Booleans.{and_parts}
 use Rattle.dn_base.proofs.Lists.{list_all-last}
 use Rattle.dn_module.proofs.Whole.{body_state, whole}

@@ -7,9 +7,9 @@ use Rattle.dn_parse.specs.Plain.{is_constant, is_constant_index, is_constant_nam
 use Rattle.dn_module.specs.declared.command.Command.{Command}
 use Rattle.dn_module.specs.declared.command.PieceTarget.{PieceTarget}
 use Rattle.dn_module.specs.declared.command.Target.{Target}
-use Rattle.dn_module.specs.Values.{◌>>=◌, Flaw, each, value, part_text, part_by, dotted_text}
-use Rattle.dn_module.specs.Drafts.{at_line, number_in}
-use Rattle.dn_module.specs.Faults.{ExpansionFault}
+use Rattle.dn_scope.specs.Values.{◌>>=◌, Flaw, each, value, part_text, part_by, dotted_text}
+use Rattle.dn_scope.specs.Faults.{at_line, ExpansionFault}
+use Rattle.dn_module.specs.Drafts.{number_in}
 use Rattle.dn_module.specs.Commands.{target_of, piece_of, command_of, commands_of, commands_or_none, node_within, pieces_within, nodes_within, makes_within}
 
 -- what follows a part that has no fault has none by itself

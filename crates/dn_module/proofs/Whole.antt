@@ -1,11 +1,12 @@
 -- The whole of expansion, in two parts.
 use Rattle.std.proofs.Common.{◌≡◌, ◌∙◌, ap, sym, refl, List, Option, Some, None, IfSome, Result, Ok, Err}
 use Rattle.dn_parse.specs.Tree.{Tree}
-use Rattle.dn_module.specs.Expand.{ExpansionState, Expansion, all_rewritings, most_steps, statements, outside, nothing_yet, expansion_of}
+use Rattle.dn_module.specs.Expand.{ExpansionState, Expansion, all_rewritings, most_steps, nothing_yet, expansion_of}
+use Rattle.dn_scope.specs.Uses.{statements, outside}
 use Rattle.dn_kind.specs.Kind.{Meaning}
 use Rattle.dn_module.specs.Finish.{outcome_of}
-use Rattle.dn_module.specs.Values.{◌>>=◌}
-use Rattle.dn_module.specs.Faults.{ExpansionFault}
+use Rattle.dn_scope.specs.Values.{◌>>=◌}
+use Rattle.dn_scope.specs.Faults.{ExpansionFault}
 
 -- what the statements make
 abbrev pub body_state : List Meaning → Tree → Result ExpansionState ExpansionFault

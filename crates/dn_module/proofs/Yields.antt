@@ -1,7 +1,7 @@
 -- What is made, where there is no fault, has a property.
 use Rattle.std.proofs.Common.{◌≡◌, subst, ℕ, Result, Ok, Err}
-use Rattle.dn_module.specs.Values.{Flaw, ◌>>=◌}
-use Rattle.dn_module.specs.Drafts.{at_line}
+use Rattle.dn_scope.specs.Values.{Flaw, ◌>>=◌}
+use Rattle.dn_scope.specs.Faults.{at_line}
 
 abbrev YieldsBy : {A E : Type 0} → (A → Type 0) → Result A E → Type 0
 YieldsBy P (Ok a) = P a

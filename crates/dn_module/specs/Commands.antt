@@ -6,9 +6,9 @@ use Rattle.dn_module.specs.declared.command.Command.{Command}
 use Rattle.dn_module.specs.declared.command.Command.TheVariants.{Resolve, Lookup, View, Grant, Route, Revoke, Dump, Split, Absorb, Radix, Gather}
 use Rattle.dn_module.specs.declared.command.Target.{Target}
 use Rattle.dn_module.specs.declared.command.PieceTarget.{PieceTarget}
-use Rattle.dn_module.specs.Values.{◌>>=◌, Flaw, each, value, full_name}
-use Rattle.dn_module.specs.Drafts.{at_line, number_in}
-use Rattle.dn_module.specs.Faults.{ExpansionFault}
+use Rattle.dn_scope.specs.Values.{◌>>=◌, Flaw, each, value, full_name}
+use Rattle.dn_scope.specs.Faults.{at_line, ExpansionFault}
+use Rattle.dn_module.specs.Drafts.{number_in}
 
 -- a node as a command names it, with its number where it is there
 abbrev pub target_of : List (List ℕ) → List Part → Result Target Flaw

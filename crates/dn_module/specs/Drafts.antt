@@ -1,7 +1,7 @@
 -- The nodes that declarations make, with the values of their expressions, and with the names of the nodes to which they refer.
 -- Of a unit the kind is known by its place in a list of kinds.
 use Rattle.std.specs.Prelude.{ℕ, ◌+◌, Bool, true, if◌then◌else◌, ◌&&◌, nat_lt, List, [], ◌∷◌, ◌++◌, map, length, sum, count_by, position, Option, Some, None, option_map, Result, Ok, Err}
-use Rattle.std.specs.List.{list_all, list_any, position_or_len}
+use Rattle.std.specs.List.{list_all, position_or_len}
 use Rattle.std.specs.Option.{is_some}
 use Rattle.std.specs.Str.{bytes_eq}
 use Rattle.dn_parse.specs.Tree.{Part, Block as BlockOf, Dest as DestOf, Entry as EntryOf, Role as RoleOf, plain_role, agent_role, vectors_role, Expression, Spec, Declaration, node, unit}
@@ -18,13 +18,9 @@ use Rattle.dn_module.specs.declared.draft.Draft.{Draft}
 use Rattle.dn_module.specs.declared.draft.DraftEntry.{DraftEntry}
 use Rattle.dn_module.specs.declared.draft.DraftDest.{DraftDest}
 use Rattle.dn_module.specs.declared.draft.DraftUnit.{DraftUnit}
-use Rattle.dn_module.specs.Values.{◌>>=◌, Flaw, unknown_word, each, value, value_or_default, value_within, full_name, full_name_or_none}
-use Rattle.dn_module.specs.Faults.{flaw_fault, ExpansionFault, is_duplicate, is_unknown, passes_limit}
-
--- a flaw is a fault of its statement
-abbrev pub at_line : {A : Type 0} → ℕ → Result A Flaw → Result A ExpansionFault
-at_line line (Ok a) = Ok a
-at_line line (Err f) = Err (flaw_fault line f)
+use Rattle.dn_scope.specs.Values.{◌>>=◌, Flaw, unknown_word, each, value, value_or_default, value_within, full_name, full_name_or_none}
+use Rattle.dn_scope.specs.Faults.{ExpansionFault, is_duplicate, is_unknown, passes_limit, at_line}
+use Rattle.dn_scope.specs.Numbered.{is_known}
 
 -- a block of one expression has that value as its first and its last address
 abbrev pub block_of : BlockOf → Result Block Flaw
@@ -98,10 +94,6 @@ draft_of_declaration kinds line d = at_line line (draft_of kinds line d)
 -- the names of the nodes, in order
 abbrev pub names : List Draft → List (List ℕ)
 names drafts = map (λ d. d.name) drafts
-
--- a name is among these
-abbrev pub is_known : List (List ℕ) → List ℕ → Bool
-is_known known text = list_any (bytes_eq text) known
 
 -- how many are agents
 abbrev pub agents_among : List Draft → ℕ

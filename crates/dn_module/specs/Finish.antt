@@ -6,8 +6,8 @@ use Rattle.dn_module.specs.declared.expansion.Expanded.{Expanded}
 use Rattle.dn_module.specs.Commands.{commands_of}
 use Rattle.dn_module.specs.Drafts.{names, node_of}
 use Rattle.dn_module.specs.Expand.{Expansion}
-use Rattle.dn_module.specs.Values.{◌>>=◌, each}
-use Rattle.dn_module.specs.Faults.{ExpansionFault}
+use Rattle.dn_scope.specs.Values.{◌>>=◌, each}
+use Rattle.dn_scope.specs.Faults.{ExpansionFault}
 
 -- the commands, and then the net of the drafts
 abbrev pub outcome_of : List Draft → List Command → Result Expansion ExpansionFault

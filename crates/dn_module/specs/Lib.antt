@@ -1,13 +1,6 @@
 pub mod Terms
-pub mod Values
-pub mod Faults
-pub mod Replace
 pub mod Drafts
 pub mod Commands
 pub mod Expand
-pub mod Words
-pub mod Flaws
-pub mod Stack
 pub mod Machine
-pub mod Numbered
 pub mod Finish

@@ -2,13 +2,14 @@
 
 ghost use Rattle.std.specs.Prelude.{◌≡◌, [], ◌∷◌, length, true, Ok, None, IfOk, IfErr, OnErr, MatchOption, is_ok};
 ghost use Rattle.dn_parse.specs.Terms.{script_view};
-ghost use Rattle.dn_module.specs.Terms.{commands_of, name_fault_view};
+ghost use Rattle.dn_module.specs.Terms.{commands_of};
+ghost use Rattle.dn_scope.specs.Terms.{name_fault_view};
 
 use crate::command::Command;
-use crate::names::NameTable;
 use crate::orders::command;
-use crate::values::NameFault;
 use dn_parse::script::Script;
+use dn_scope::names::NameTable;
+use dn_scope::values::NameFault;
 use std::alloc::{AllocError, Global};
 use std::marker::Model;
 

@@ -1,9 +1,9 @@
 //! The nodes that declarations make, before the nodes to which they refer have numbers.
 
-use crate::scoped::ScopedName;
 use dn_base::items::Items;
 use dn_base::text::Text;
 use dn_net::node::{Block, Role};
+use dn_scope::scoped::ScopedName;
 
 /// A node as it is declared, with the full names of the nodes to which it refers.
 #[derive(Drop)]

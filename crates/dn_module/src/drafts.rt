@@ -2,13 +2,14 @@
 
 ghost use Rattle.std.specs.Prelude.{◌≡◌, [], ◌∷◌, ◌++◌, ◌+◌, ◌<◌, ◌≤◌, length, false, OnOk, OnErr, IfSome, IfNone, None, Some, Err, option_map};
 ghost use Rattle.dn_net.specs.Terms.{is_agent, is_unit};
-ghost use Rattle.dn_module.specs.Terms.{expand_fault_view, has_twice, is_known, limit_by, limit_passed, names, parts_of_draft, with_draft};
+ghost use Rattle.dn_scope.specs.Terms.{expand_fault_view, has_twice, is_known};
+ghost use Rattle.dn_module.specs.Terms.{limit_by, limit_passed, names, parts_of_draft, with_draft};
 ghost use Rattle.dn_base.specs.Terms.{Answers};
 
 use crate::draft::Draft;
-use crate::fault::ExpandFault;
-use crate::names::NameTable;
 use dn_net::node::Role;
+use dn_scope::fault::ExpandFault;
+use dn_scope::names::NameTable;
 use std::alloc::{AllocError, Global};
 use std::marker::Model;
 
@@ -40,7 +41,7 @@ impl Model for Drafts {
     ghost use Rattle.std.specs.Prelude.{List, ◌≡◌, ◌≤◌, length, false};
     ghost use Rattle.dn_module.specs.declared.draft.Draft.{Draft};
     ghost use Rattle.dn_module.specs.Drafts.{names, agents_among, units_among, all_parts};
-    ghost use Rattle.dn_module.specs.Expand.{has_twice};
+    ghost use Rattle.dn_scope.specs.Uses.{has_twice};
 
     ghost Value = { List Draft };
 

@@ -5,19 +5,20 @@ ghost use Rattle.std.specs.List.{list_all};
 ghost use Rattle.dn_parse.specs.Terms.{script_view, tree_view};
 ghost use Rattle.dn_net.specs.Terms.{is_formed};
 ghost use Rattle.dn_kind.specs.Terms.{has_kind, kinds_of};
-ghost use Rattle.dn_module.specs.Terms.{expand_fault_view, expansion_of, names, node_in, outcome_of, outcome_view};
+ghost use Rattle.dn_scope.specs.Terms.{expand_fault_view};
+ghost use Rattle.dn_module.specs.Terms.{expansion_of, names, node_in, outcome_of, outcome_view};
 ghost use Rattle.dn_base.specs.Terms.{Answers};
 
 use crate::commands::Commands;
 use crate::drafts::Drafts;
 pub use crate::expansion::Expanded;
-use crate::fault::ExpandFault;
 use crate::link::linked_net;
 use crate::machine::expand_body;
 use crate::orders::check_commands;
 use dn_kind::kinds::Kinds;
 use dn_parse::script::Script;
 use dn_parse::syntax::Tree;
+use dn_scope::fault::ExpandFault;
 use std::alloc::Global;
 
 /// Expands a tree with these kinds of units, at most 255. The rules on nodes and on units are not

@@ -3,18 +3,19 @@
 ghost use Rattle.std.specs.Prelude.{◌≡◌, ◌≤◌, true, false, map, length, IfOk, IsTrue};
 ghost use Rattle.std.specs.List.{list_all};
 ghost use Rattle.dn_net.specs.Terms.{is_closed, is_formed};
-ghost use Rattle.dn_module.specs.Terms.{Links, each, expand_fault_view, has_twice};
-ghost use Rattle.dn_module.specs.Drafts.{names as names_in, node_number_of, is_known, dests_known, refers_to_known, dest_in, entry_in, unit_by_numbers, node_in, node_of};
+ghost use Rattle.dn_scope.specs.Terms.{Links, each, expand_fault_view, has_twice};
+ghost use Rattle.dn_module.specs.Drafts.{names as names_in, node_number_of, dests_known, refers_to_known, dest_in, entry_in, unit_by_numbers, node_in, node_of};
+ghost use Rattle.dn_scope.specs.Numbered.{is_known};
 ghost use Rattle.dn_base.specs.Terms.{Answers};
 
 use crate::draft::{Draft, DraftDest, DraftEntry, DraftUnit};
-use crate::fault::ExpandFault;
-use crate::names::NameTable;
-use crate::scoped::ScopedName;
-use crate::values::{Flaw, NameFault};
 use dn_base::items::Items;
 use dn_net::net::Net;
 use dn_net::node::{Block, Dest, Entry, NodeDecl, Unit};
+use dn_scope::fault::ExpandFault;
+use dn_scope::names::NameTable;
+use dn_scope::scoped::ScopedName;
+use dn_scope::values::{Flaw, NameFault};
 use std::alloc::{AllocError, Global};
 
 /// The net of the drafts, or the first fault: a draft refers to a node that does not exist. The names are
@@ -100,7 +101,7 @@ fn number_by_text(names: &NameTable, text: &str) -> Result<u16, NameFault>
 /// What refers to nodes by their full names, and comes to refer to them by their numbers.
 trait Named {
     ghost use Rattle.std.specs.Prelude.{ℕ, Bool, List, ◌≡◌, IfOk};
-    ghost use Rattle.dn_module.specs.Flaws.{Links};
+    ghost use Rattle.dn_scope.specs.Flaws.{Links};
 
     /// What it is with numbers.
     type Linked: Drop;

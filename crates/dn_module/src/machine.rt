@@ -2,21 +2,22 @@
 
 ghost use Rattle.std.specs.Prelude.{◌≡◌, ◌≤◌, None, length};
 ghost use Rattle.dn_parse.specs.Terms.{declaration_view, expr_view, item_view};
-ghost use Rattle.dn_module.specs.Terms.{Replacement, Visibility, all_rewritings, at_line, body_view, expand_fault_view, expansion_state_view, in_declaration, in_expression, in_item, in_items, item_rewriting, line_of_item, line_of_work, loop_of, most_steps, nothing_yet, outside, replacement_hiding, rewriting, stack_view, statements, turns_works, value, visibility_view, with_declaration, work_view, works_in_front};
+ghost use Rattle.dn_scope.specs.Terms.{Replacement, Visibility, at_line, body_view, expand_fault_view, in_declaration, in_expression, in_item, in_items, line_of_item, line_of_work, outside, replacement_hiding, stack_view, statements, turns_works, value, visibility_view, work_view};
+ghost use Rattle.dn_module.specs.Terms.{all_rewritings, expansion_state_view, item_rewriting, loop_of, most_steps, nothing_yet, rewriting, with_declaration, works_in_front};
 ghost use Rattle.dn_base.specs.Terms.{Answers};
 ghost use Rattle.dn_kind.specs.Terms.{kinds_of};
 
 use crate::drafts::Drafts;
-use crate::fault::ExpandFault;
-use crate::modules::{Module, Modules};
 use crate::nodes::draft_of;
-use crate::recent::Recent;
-use crate::scope::Scope;
-use crate::stack::{Stack, Turns, Work};
-use crate::uses::new_use;
-use crate::values::{NameFault, value};
 use dn_kind::kinds::Kinds;
 use dn_parse::syntax::{Decl, Expr, Stmt};
+use dn_scope::fault::ExpandFault;
+use dn_scope::modules::{Module, Modules};
+use dn_scope::recent::Recent;
+use dn_scope::scope::Scope;
+use dn_scope::stack::{Stack, Turns, Work};
+use dn_scope::uses::new_use;
+use dn_scope::values::{NameFault, value};
 use std::alloc::Global;
 
 /// The most steps: each statement that is reached is one, and each turn of a loop.

@@ -4,19 +4,20 @@ ghost use Rattle.std.specs.Prelude.{◌≡◌, ◌≤◌, List, length, map, opt
 ghost use Rattle.dn_parse.specs.Tree.{Block as BlockOf, Entry as EntryOf, Part};
 ghost use Rattle.dn_parse.specs.Terms.{block_view, declaration_view, dest_view, entry_view, maybe_name_view, name_view, role_view, spec_view};
 ghost use Rattle.dn_kind.specs.Terms.{kind_place, kinds_of};
-ghost use Rattle.dn_module.specs.Terms.{bare_draft, block_of, dest_of, draft_of, each, entry_of, flaw_fault_view, full_name, full_name_or_none, in_block, in_declaration, in_declared, in_dest, in_entry, in_reference, in_spec, known_kind, name_fault_view, node_draft, role_of};
+ghost use Rattle.dn_module.specs.Terms.{bare_draft, block_of, dest_of, draft_of, entry_of, known_kind, node_draft, role_of};
+ghost use Rattle.dn_scope.specs.Terms.{each, flaw_fault_view, full_name, full_name_or_none, in_block, in_declaration, in_declared, in_dest, in_entry, in_reference, in_spec, name_fault_view};
 ghost use Rattle.dn_base.specs.Terms.{Answers};
 
 use crate::draft::{Draft, DraftDest, DraftEntry, DraftUnit};
-use crate::recent::Recent;
-use crate::scope::Scope;
-use crate::scoped::ScopedName;
-use crate::values::{Flaw, NameFault, reference, shared_name, value, value_or, value_within};
 use dn_base::items::Items;
 use dn_base::text::Text;
 use dn_kind::kinds::Kinds;
 use dn_net::node::{Block, Role};
 use dn_parse::syntax::{BlockExpr, Decl, DeclRole, DestExpr, EntryExpr, NameExpr, Spec};
+use dn_scope::recent::Recent;
+use dn_scope::scope::Scope;
+use dn_scope::scoped::ScopedName;
+use dn_scope::values::{Flaw, NameFault, reference, shared_name, value, value_or, value_within};
 use std::alloc::Global;
 
 /// The node that a declaration makes, with this line.
@@ -142,9 +143,9 @@ fn over(
 trait Evaluated {
     ghost use Rattle.std.specs.Prelude.{Result};
     ghost use Rattle.dn_base.specs.Answers.{Answers};
-    ghost use Rattle.dn_module.specs.Faults.{name_fault_view};
-    ghost use Rattle.dn_module.specs.Replace.{Replacement};
-    ghost use Rattle.dn_module.specs.Values.{Flaw};
+    ghost use Rattle.dn_scope.specs.Faults.{name_fault_view};
+    ghost use Rattle.dn_scope.specs.Replace.{Replacement};
+    ghost use Rattle.dn_scope.specs.Values.{Flaw};
 
     /// What is made of it.
     type Made: Drop;

@@ -6,19 +6,20 @@ ghost use Rattle.dn_parse.specs.Tree.{view as asks_view, absorb as asks_absorb, 
 ghost use Rattle.dn_parse.specs.Terms.{expr_view, grant_view, name_view, order_view, piece_view, route_view, script_view};
 ghost use Rattle.dn_module.specs.declared.command.Command.{Command};
 ghost use Rattle.dn_module.specs.declared.command.Target.{Target};
-ghost use Rattle.dn_module.specs.Values.{Flaw as SpecFlaw};
-ghost use Rattle.dn_module.specs.Terms.{asked_of, at_line, command_of, commands_of, commands_or_none, each, expand_fault_view, flaw_fault_view, full_name, makes_within, name_fault_view, nodes_within, node_within, piece_of, pieces_within, target_of, value};
+ghost use Rattle.dn_scope.specs.Values.{Flaw as SpecFlaw};
+ghost use Rattle.dn_module.specs.Terms.{asked_of, command_of, commands_of, commands_or_none, makes_within, nodes_within, node_within, piece_of, pieces_within, target_of};
+ghost use Rattle.dn_scope.specs.Terms.{at_line, each, expand_fault_view, flaw_fault_view, full_name, name_fault_view, value};
 ghost use Rattle.dn_base.specs.Terms.{Answers};
 
 use crate::command::{Command, PieceTarget, Target};
-use crate::fault::ExpandFault;
-use crate::names::NameTable;
-use crate::scope::Scope;
-use crate::values::{Flaw, NameFault, declared_name, value};
 use dn_base::items::Items;
 use dn_base::text::Text;
 use dn_parse::script::Script;
 use dn_parse::syntax::{Cmd, Expr, GrantExpr, Mode, NameExpr, Order, PieceExpr, RouteExpr};
+use dn_scope::fault::ExpandFault;
+use dn_scope::names::NameTable;
+use dn_scope::scope::Scope;
+use dn_scope::values::{Flaw, NameFault, declared_name, value};
 use std::alloc::Global;
 
 /// Goes once over the commands of a script, and keeps none: `Ok` where each has its values, else the
@@ -120,7 +121,7 @@ fn target(alloc: Global, names: &NameTable, name: &NameExpr) -> Result<Target, N
 }
 
 /// The full name that a name spells.
-#[tactic(auto, using(crate::proofs::Outside::name_stays))]
+#[tactic(auto, using(dn_scope::proofs::Outside::name_stays))]
 fn full_name(alloc: Global, name: &NameExpr) -> Result<Text, NameFault>
     ensures { Answers (λ x. x) name_fault_view result (full_name (name_view name.now)) }
 {
@@ -128,7 +129,7 @@ fn full_name(alloc: Global, name: &NameExpr) -> Result<Text, NameFault>
 }
 
 /// The value of an expression.
-#[tactic(auto, using(crate::proofs::Outside::expression_stays))]
+#[tactic(auto, using(dn_scope::proofs::Outside::expression_stays))]
 fn number(alloc: Global, expr: &Expr) -> Result<u64, Flaw>
     ensures { Answers (λ x. x) flaw_fault_view result (value (expr_view expr.now)) }
 {

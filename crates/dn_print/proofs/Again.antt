@@ -14,9 +14,10 @@ use Rattle.dn_parse.proofs.Judge.{judge_step, judge_end}
 use Rattle.dn_net.specs.declared.node.NodeDecl.{NodeDecl}
 use Rattle.dn_kind.specs.Kind.{Meaning}
 use Rattle.dn_module.specs.declared.draft.Draft.{Draft}
-use Rattle.dn_module.specs.Values.{each, ◌>>=◌}
+use Rattle.dn_scope.specs.Values.{each, ◌>>=◌}
 use Rattle.dn_module.specs.Drafts.{names, refers_to_known, node_in, node_of, with_draft, draft_of_declaration}
-use Rattle.dn_module.specs.Expand.{outside, statements, all_rewritings, expansion_of, most_steps, nothing_yet}
+use Rattle.dn_scope.specs.Uses.{outside, statements}
+use Rattle.dn_module.specs.Expand.{all_rewritings, expansion_of, most_steps, nothing_yet}
 use Rattle.dn_print.specs.Names.{node_text}
 use Rattle.dn_print.specs.Statement.{statement_text, net_text}
 use Rattle.dn_print.proofs.Formed.{GoodDraft}
@@ -24,7 +25,7 @@ use Rattle.dn_print.proofs.Grown.{bare, reline, relined, names_relined, Grown, g
 use Rattle.dn_print.proofs.Nodes.{Said}
 use Rattle.dn_print.proofs.Units.{statement_said}
 use Rattle.dn_print.proofs.Pieces.{Named}
-use Rattle.dn_module.specs.Faults.{is_unknown}
+use Rattle.dn_scope.specs.Faults.{is_unknown}
 
 -- the node of a known name has that name
 named_from : (known : List (List ℕ)) (ds : List Draft) (t : List ℕ) → IsTrue (list_any (bytes_eq t) (names ds)) → node_text (slice_get (map (node_in known) ds) (prefix_len (λ x. not (bytes_eq t x)) (names ds))) ≡ t

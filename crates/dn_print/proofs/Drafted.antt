@@ -20,8 +20,9 @@ use Rattle.dn_module.specs.declared.draft.Draft.{Draft}
 use Rattle.dn_module.specs.declared.draft.DraftDest.{DraftDest}
 use Rattle.dn_module.specs.declared.draft.DraftEntry.{DraftEntry}
 use Rattle.dn_module.specs.declared.draft.DraftUnit.{DraftUnit}
-use Rattle.dn_module.specs.Values.{each}
-use Rattle.dn_module.specs.Drafts.{names, is_known, parts_of_draft, node_number_of, dests_known, over_known, ports_known, refers_to_known, dest_in, entry_in, unit_by_numbers, node_in, node_of, role_of}
+use Rattle.dn_scope.specs.Values.{each}
+use Rattle.dn_module.specs.Drafts.{names, parts_of_draft, node_number_of, dests_known, over_known, ports_known, refers_to_known, dest_in, entry_in, unit_by_numbers, node_in, node_of, role_of}
+use Rattle.dn_scope.specs.Numbered.{is_known}
 use Rattle.dn_print.specs.Names.{node_text}
 use Rattle.dn_print.specs.Spelled.{IsFull}
 use Rattle.dn_print.specs.Statement.{node_name}

@@ -3,8 +3,9 @@ use Rattle.std.proofs.Common.{◌≡◌, ◌∙◌, ap, ap₂, sym, refl, subst,
 use Rattle.std.proofs.lemmas.List.{length-map, map-append}
 use Rattle.dn_module.specs.declared.draft.Draft.{Draft}
 use Rattle.dn_net.specs.Decode.{is_agent, is_unit}
-use Rattle.dn_module.specs.Drafts.{names, is_known, agents_among, units_among, parts_of_draft, all_parts, limit_passed, draft_by_limit, with_draft}
-use Rattle.dn_module.specs.Faults.{is_duplicate}
+use Rattle.dn_module.specs.Drafts.{names, agents_among, units_among, parts_of_draft, all_parts, limit_passed, draft_by_limit, with_draft}
+use Rattle.dn_scope.specs.Numbered.{is_known}
+use Rattle.dn_scope.specs.Faults.{is_duplicate}
 
 -- a node without its line, and with another
 abbrev pub bare : Draft → Draft

@@ -3,7 +3,7 @@ use Rattle.std.proofs.Common.{inl, inr, ap, refl, ℕ, ◌<◌, ◌^◌, Bool, t
 use Rattle.std.proofs.lemmas.List.{length-map}
 use Rattle.dn_base.proofs.Lists.{Each}
 use Rattle.dn_parse.specs.Tree.{Expression, constant, variable, sum, product, minus, Expressions, no_expressions, and_expression, Part, Block, Dest, Entry, Spec, Arg, number_arg, node_arg, Declaration, node, unit, Item, declared, module_of, instance, loop, Items, no_items, and_item}
-use Rattle.dn_module.specs.Replace.{value_for_word, without_word, Naming, as_they_stand, under, Replacement, replacement_hiding, number_or, in_expression, in_expressions, in_option, in_part, prefixed_name, in_declared, word_of_name, node_by, named_or, in_reference, in_block, in_dest, in_entry, in_spec, in_arg, in_declaration, in_item, in_items}
+use Rattle.dn_scope.specs.Replace.{value_for_word, without_word, Naming, as_they_stand, under, Replacement, replacement_hiding, number_or, in_expression, in_expressions, in_option, in_part, prefixed_name, in_declared, word_of_name, node_by, named_or, in_reference, in_block, in_dest, in_entry, in_spec, in_arg, in_declaration, in_item, in_items}
 use Rattle.dn_print.proofs.Titles.{IsFull}
 use Rattle.dn_print.proofs.Formed.{Maybe}
 use Rattle.dn_print.proofs.Trees.{Small, AllSmall, GoodPart, Some1, GoodName, SmallBlock, NamedDest, NamedEntry, GoodSpec, GoodDeclaration, GoodArg, GoodItem, GoodItems, some_each}

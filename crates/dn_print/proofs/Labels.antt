@@ -5,7 +5,7 @@ use Rattle.dn_token.specs.declared.token.Sign.TheVariants.{OpenBracket, CloseBra
 use Rattle.dn_token.specs.Token.{Token, word, is_letter, begins_with}
 use Rattle.dn_parse.specs.Tree.{constant}
 use Rattle.dn_parse.specs.Descent.{one_more, after_sign, sign_at, word_at, row_at, factor_at, next_factor_at, factors_at, term_at, next_term_at, terms_at, expr_at, index_at, part_at, next_part_at, name_at}
-use Rattle.dn_module.specs.Values.{value, part_text, after_dots, full_name}
+use Rattle.dn_scope.specs.Values.{value, part_text, after_dots, full_name}
 use Rattle.dn_print.specs.Names.{address_text}
 use Rattle.dn_print.proofs.Titles.{Title, Label, label_by, label_text, IsSmall, IsLabel, AreLabels, IsFull}
 use Rattle.dn_print.proofs.Lexes.{word_token, number_token, sign_token, Closed, Quiet, closed_then, open_then, word_closed, decimal_closed, address_closed, bracket_open, close_open, dot_closed, as_closed}

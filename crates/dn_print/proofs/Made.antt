@@ -10,11 +10,13 @@ use Rattle.dn_net.specs.declared.node.NodeDecl.{NodeDecl}
 use Rattle.dn_kind.specs.Kind.{Meaning, kind_place}
 use Rattle.dn_module.specs.declared.draft.Draft.{Draft}
 use Rattle.dn_module.specs.declared.command.Command.{Command}
-use Rattle.dn_module.specs.Values.{out_of_range, ◌>>=◌, each, number_or_flaw, difference, value, values, value_or_default, value_within, sum_of, product_of, part_by, part_text, after_dots, dotted_text, full_name, full_name_or_none}
-use Rattle.dn_module.specs.Drafts.{at_line, block_of, dest_of, entry_of, node_draft, known_kind, unit_draft, draft_of, draft_of_declaration, names, with_draft, node_of, node_number_of}
+use Rattle.dn_scope.specs.Values.{out_of_range, ◌>>=◌, each, number_or_flaw, difference, value, values, value_or_default, value_within, sum_of, product_of, part_by, part_text, after_dots, dotted_text, full_name, full_name_or_none}
+use Rattle.dn_scope.specs.Faults.{at_line, ExpansionFault, is_duplicate, has_other_arguments, passes_limit}
+use Rattle.dn_module.specs.Drafts.{block_of, dest_of, entry_of, node_draft, known_kind, unit_draft, draft_of, draft_of_declaration, names, with_draft, node_of, node_number_of}
 use Rattle.dn_module.specs.Commands.{commands_of}
-use Rattle.dn_module.specs.Replace.{under, one_number, in_items}
-use Rattle.dn_module.specs.Expand.{Module, ExpansionState, nothing_yet, Visibility, outside, within_module, Work, statement, turns, statements, word_of_param, has_twice, is_module, with_module, usable_modules, module_from, arguments_fit, Given, number, named, given_by, number_pair, node_pair, numbers_of, nodes_of, used_body, use_rewriting, loop_of, turn_of, item_rewriting, rewriting, all_rewritings, most_steps, Expansion, expansion_of}
+use Rattle.dn_scope.specs.Replace.{under, one_number, in_items}
+use Rattle.dn_scope.specs.Uses.{Module, Visibility, outside, within_module, Work, statement, turns, statements, word_of_param, has_twice, is_module, with_module, usable_modules, module_from, arguments_fit, Given, number, named, given_by, number_pair, node_pair, numbers_of, nodes_of, used_body, use_rewriting, turn_of}
+use Rattle.dn_module.specs.Expand.{ExpansionState, nothing_yet, loop_of, item_rewriting, rewriting, all_rewritings, most_steps, Expansion, expansion_of}
 use Rattle.dn_module.proofs.Yields.{Yields, any, bind, given, at_yields}
 use Rattle.dn_print.specs.Statement.{kind_name, kind_text}
 use Rattle.dn_print.proofs.Titles.{Title, IsFull, full_one, full_both}
@@ -23,7 +25,6 @@ use Rattle.dn_print.proofs.Formed.{Maybe, GoodBlock, GoodDest, GoodEntry, GoodNo
 use Rattle.dn_print.proofs.Trees.{Small, GoodPart, Some1, GoodName, SmallBlock, NamedDest, NamedEntry, GoodSpec, GoodDeclaration, GoodArg, GoodItem, GoodItems}
 use Rattle.dn_print.proofs.Grown.{Grown, grown_more, added_fits}
 use Rattle.dn_print.proofs.Kept.{Standing, IsSmallNumber, items_kept}
-use Rattle.dn_module.specs.Faults.{ExpansionFault, is_duplicate, has_other_arguments, passes_limit}
 
 -- each item gives one
 each_yields : {A B E : Type 0} (P : A → Type 0) (Q : B → Type 0) (f : A → Result B E) → ((a : A) → P a → Yields Q (f a)) → (xs : List A) → Each P xs → Yields (λ ys. Each Q ys × (length ys ≡ length xs)) (each f xs)

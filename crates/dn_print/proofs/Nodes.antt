@@ -18,7 +18,7 @@ use Rattle.dn_module.specs.declared.draft.Draft.{Draft}
 use Rattle.dn_kind.specs.Kind.{Meaning}
 use Rattle.dn_module.specs.declared.draft.DraftEntry.{DraftEntry}
 use Rattle.dn_module.specs.declared.draft.DraftUnit.{DraftUnit}
-use Rattle.dn_module.specs.Values.{each, full_name, full_name_or_none}
+use Rattle.dn_scope.specs.Values.{each, full_name, full_name_or_none}
 use Rattle.dn_module.specs.Drafts.{block_of, entry_of, role_of, draft_of_declaration, over_known, ports_known, refers_to_known, node_number_of, entry_in, unit_by_numbers, node_in}
 use Rattle.dn_print.specs.Statement.{accept_text, map_text, over_text, role_text, body_text, statement_text}
 use Rattle.dn_base.proofs.Booleans.{and_parts}

@@ -11,8 +11,9 @@ use Rattle.dn_net.specs.declared.node.Block.{Block}
 use Rattle.dn_net.specs.declared.node.NodeDecl.{NodeDecl}
 use Rattle.dn_module.specs.declared.draft.DraftEntry.{DraftEntry}
 use Rattle.dn_module.specs.declared.draft.DraftDest.{DraftDest}
-use Rattle.dn_module.specs.Values.{each}
-use Rattle.dn_module.specs.Drafts.{block_of, dest_of, entry_of, is_known, dests_known, node_number_of, dest_in, entry_in}
+use Rattle.dn_scope.specs.Values.{each}
+use Rattle.dn_module.specs.Drafts.{block_of, dest_of, entry_of, dests_known, node_number_of, dest_in, entry_in}
+use Rattle.dn_scope.specs.Numbered.{is_known}
 use Rattle.dn_print.specs.Names.{address_text}
 use Rattle.dn_print.specs.Statement.{marked_texts, block_text, blocks_text, node_name, dest_text, dests_text, entry_text, entries_text}
 use Rattle.dn_base.proofs.Booleans.{and_parts}

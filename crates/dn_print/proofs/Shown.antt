@@ -4,7 +4,7 @@ use Rattle.dn_base.proofs.Lists.{Each}
 use Rattle.dn_token.specs.Token.{Token}
 use Rattle.dn_parse.specs.Descent.{and_then, Next, Reader, with_front, row, row_from, row_at, one_more, first_and, first_and_most}
 use Rattle.dn_parse.proofs.Series.{first_read, most_read}
-use Rattle.dn_module.specs.Values.{Flaw, each}
+use Rattle.dn_scope.specs.Values.{Flaw, each}
 use Rattle.dn_module.proofs.Yields.{Yields, any, bind, given, yielded}
 use Rattle.dn_print.proofs.Lexes.{Closed, Open, Quiet, closed_then, open_then, closed_none, quiet_none}
 

@@ -1,6 +1,6 @@
 -- Full names: words that are not reserved, each with or without an index, joined by dots.
 use Rattle.std.proofs.Common.{◌≡◌, ◌∙◌, ap, sym, refl, ℕ, List, [], ◌∷◌, ◌++◌, map, codes, append_assoc, append-nil}
-use Rattle.dn_module.specs.Values.{after_dots}
+use Rattle.dn_scope.specs.Values.{after_dots}
 pub use Rattle.dn_print.specs.Spelled.{Title, Label, label_by, label_text, IsSmall, IsLabel, AreLabels, IsFull}
 
 -- the full name of one part

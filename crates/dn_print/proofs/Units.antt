@@ -13,8 +13,9 @@ use Rattle.dn_net.specs.declared.node.Role.TheVariants.{Unit as UnitRole}
 use Rattle.dn_kind.specs.Kind.{Meaning, kind_place}
 use Rattle.dn_module.specs.declared.draft.Draft.{Draft}
 use Rattle.dn_module.specs.declared.draft.DraftUnit.{DraftUnit}
-use Rattle.dn_module.specs.Values.{each, full_name}
-use Rattle.dn_module.specs.Drafts.{is_known, draft_of_declaration, refers_to_known, node_number_of, unit_by_numbers, node_in}
+use Rattle.dn_scope.specs.Values.{each, full_name}
+use Rattle.dn_scope.specs.Numbered.{is_known}
+use Rattle.dn_module.specs.Drafts.{draft_of_declaration, refers_to_known, node_number_of, unit_by_numbers, node_in}
 use Rattle.dn_print.specs.Statement.{marked_texts, node_name, kind_text, ports_text, unit_text, statement_text}
 use Rattle.dn_base.proofs.Lists.{Each}
 use Rattle.dn_print.proofs.Titles.{IsFull}

@@ -3,7 +3,7 @@ use Rattle.std.specs.Prelude.{◌≡◌, ℕ, ◌<◌, ◌^◌, true, List, [], 
 use Rattle.std.specs.Fmt.{decimal}
 use Rattle.std.specs.List.{list_all}
 use Rattle.dn_token.specs.Token.{word, word_lexeme, is_letter, is_word_byte}
-use Rattle.dn_module.specs.Values.{after_dots}
+use Rattle.dn_scope.specs.Values.{after_dots}
 
 -- a word, reserved or not: a letter, and then letters, digits and `_`
 abbrev pub IsAnyWord : List ℕ → Type 0

@@ -5,7 +5,7 @@ ghost use Rattle.std.specs.Str.{bytes_eq};
 ghost use Rattle.dn_script.specs.Terms.{id_number, with_id};
 
 use crate::OutOfMemory;
-use dn_module::text_table::TextTable;
+use dn_scope::text_table::TextTable;
 use std::alloc::Global;
 use std::marker::Model;
 

@@ -10,9 +10,9 @@ use Rattle.dn_net.specs.Rules.{BrokenNode, node_fault}
 use Rattle.dn_net.specs.WalkRules.{Broken, walk_fault}
 use Rattle.dn_kind.specs.Kind.{Meaning}
 use Rattle.dn_kind.specs.Units.{shape_fault}
-use Rattle.dn_module.specs.declared.fault.ExpandFault.{ExpandFault}
+use Rattle.dn_scope.specs.declared.fault.ExpandFault.{ExpandFault}
 use Rattle.dn_module.specs.Expand.{Expansion, expansion_of}
-use Rattle.dn_module.specs.Faults.{ExpansionFault, expand_fault_view}
+use Rattle.dn_scope.specs.Faults.{ExpansionFault, expand_fault_view}
 use Rattle.dn_tool.specs.declared.refusal.Refusal.{Refusal}
 use Rattle.dn_tool.specs.Refused.{refusal_of, text_refusal, expand_refusal, node_refusal, unit_refusal, walk_refusal}
 use Rattle.dn_tool.specs.Compiled.{Compilation, broken_rule, by_node_rules, by_unit_rule, by_walk_rules, compilation, expansion_compilation, reading_compilation, with_refusal}

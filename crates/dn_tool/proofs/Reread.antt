@@ -17,8 +17,7 @@ use Rattle.dn_net.specs.declared.node.Role.{Role}
 use Rattle.dn_net.specs.declared.node.Role.TheVariants.{Plain}
 use Rattle.dn_net.specs.Decode.{top, is_agent, is_unit}
 use Rattle.dn_net.specs.Legal.{IsLegalNet, node_limit}
-use Rattle.dn_net.specs.Rules.{block_in_range, dest_in_range, entry_in_range, KeepsRules}
-use Rattle.dn_net.specs.Rules.{BrokenNode, node_fault}
+use Rattle.dn_net.specs.Rules.{block_in_range, dest_in_range, entry_in_range, KeepsRules, BrokenNode, node_fault}
 use Rattle.dn_net.specs.WalkRules.{Broken, walk_fault}
 use Rattle.dn_walk.proofs.Legal.{legal_breaks_no_rule}
 use Rattle.dn_kind.specs.Kind.{Meaning}
@@ -27,7 +26,7 @@ use Rattle.dn_kind.proofs.Shapes.{shape_fault_is_first, shaped_plain}
 use Rattle.dn_parse.specs.Tree.{Tree}
 use Rattle.dn_parse.specs.Whole.{TextFault, text_reading}
 use Rattle.dn_net.specs.Parts.{parts_of_node}
-use Rattle.dn_module.specs.Faults.{ExpansionFault}
+use Rattle.dn_scope.specs.Faults.{ExpansionFault}
 use Rattle.dn_module.specs.Expand.{Expansion, expansion_of}
 use Rattle.dn_print.specs.Spelled.{IsFull}
 use Rattle.dn_print.specs.Printable.{IsPrintableBlock, IsPrintableEntry, HasPrintableUnit, IsPrintableNode, IsPrintable}

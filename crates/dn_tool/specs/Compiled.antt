@@ -6,7 +6,7 @@ use Rattle.dn_net.specs.Rules.{BrokenNode, node_fault}
 use Rattle.dn_net.specs.WalkRules.{Broken, walk_fault}
 use Rattle.dn_kind.specs.Kind.{Meaning}
 use Rattle.dn_kind.specs.Units.{shape_fault}
-use Rattle.dn_module.specs.Faults.{ExpansionFault}
+use Rattle.dn_scope.specs.Faults.{ExpansionFault}
 use Rattle.dn_module.specs.Expand.{Expansion, expansion_of}
 use Rattle.dn_tool.specs.declared.compile.CompileFault.{CompileFault}
 use Rattle.dn_tool.specs.declared.compile.CompileFault.TheVariants.{Refused, OutOfMemory}

@@ -8,7 +8,7 @@ use Rattle.dn_net.specs.declared.node.NodeDecl.{NodeDecl}
 use Rattle.dn_net.specs.Rules.{BrokenNode, out_of_range, overlapping, repeating, past_space}
 use Rattle.dn_net.specs.WalkRules.{Broken, is_wide, has_loop, is_deep, has_fork, has_chain}
 use Rattle.dn_kind.specs.Levels.{are_there}
-use Rattle.dn_module.specs.Faults.{ExpansionFault, is_duplicate, is_unknown, has_other_arguments, has_no_value, passes_limit}
+use Rattle.dn_scope.specs.Faults.{ExpansionFault, is_duplicate, is_unknown, has_other_arguments, has_no_value, passes_limit}
 use Rattle.dn_print.specs.Names.{name_text}
 use Rattle.dn_print.specs.Statement.{node_name, joined_texts}
 use Rattle.dn_tool.specs.declared.refusal.Refusal.{Refusal}

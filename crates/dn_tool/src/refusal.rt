@@ -3,7 +3,7 @@
 ghost use Rattle.std.specs.Prelude.{◌≡◌, ◌<◌, length, nat_lt, option_map, Some, IfOk, IfSome, IsTrue};
 ghost use Rattle.std.specs.List.{list_all};
 ghost use Rattle.dn_parse.specs.Terms.{parse_fault_view};
-ghost use Rattle.dn_module.specs.Terms.{expand_fault_view};
+ghost use Rattle.dn_scope.specs.Terms.{expand_fault_view};
 ghost use Rattle.dn_net.specs.Terms.{node_fault_view};
 ghost use Rattle.dn_kind.specs.Terms.{are_there, unit_fault_view};
 ghost use Rattle.dn_walk.specs.Terms.{walk_fault_view};
@@ -13,7 +13,7 @@ ghost use Rattle.dn_tool.specs.Terms.{AreNodesWithin, IsNodeWithin, by_limit, by
 use crate::OutOfMemory;
 use dn_base::text::Text;
 use dn_kind::units::UnitFault;
-use dn_module::fault::ExpandFault;
+use dn_scope::fault::ExpandFault;
 use dn_net::net::Net;
 use dn_net::node::Name;
 use dn_net::rules::NodeFault;

@@ -1,6 +1,6 @@
 //! The words by which the faults of a text are named.
 
-use dn_module::fault::ExpandFault;
+use dn_scope::fault::ExpandFault;
 use dn_parse::reader::ParseFault;
 use dn_tool::compile::CompileFault;
 use dn_tool::refusal::{Refusal, Rule};

@@ -4,11 +4,12 @@ use Rattle.std.proofs.lemmas.Result.{err_from_is_err_and}
 use Rattle.dn_base.specs.Answers.{Answers}
 use Rattle.dn_parse.specs.Views.{tree_view}
 use Rattle.dn_kind.specs.Kinded.{kinds_of}
-use Rattle.dn_module.specs.Expand.{all_rewritings, most_steps, nothing_yet, outside, statements}
+use Rattle.dn_module.specs.Expand.{all_rewritings, most_steps, nothing_yet}
+use Rattle.dn_scope.specs.Uses.{outside, statements}
 use Rattle.dn_module.specs.Finish.{outcome_view}
 use Rattle.dn_module.specs.Machine.{expansion_state_view}
-use Rattle.dn_module.specs.Stack.{body_view}
-use Rattle.dn_module.specs.Faults.{expand_fault_view}
+use Rattle.dn_scope.specs.Stack.{body_view}
+use Rattle.dn_scope.specs.Faults.{expand_fault_view}
 use Rattle.dn_module.proofs.Whole.{body_fault, body_made}
 use Rattle.dn_module.proofs.Passed.{drafts_formed, kinds_of_answer}
 use Rattle.dn_module.proofs.expand.expand.Goals as goal

@@ -5,8 +5,8 @@ use Rattle.std.specs.List.{list_all}
 use Rattle.dn_net.specs.declared.node.NodeDecl.{NodeDecl}
 use Rattle.dn_module.specs.declared.draft.Draft.{Draft}
 use Rattle.dn_module.specs.Drafts.{node_in, node_of, refers_to_known}
-use Rattle.dn_module.proofs.Each.{made_next}
-use Rattle.dn_module.proofs.Known.{new_name, formed_at}
+use Rattle.dn_scope.proofs.Each.{made_next}
+use Rattle.dn_module.proofs.NewNames.{new_name, formed_at}
 use Rattle.dn_module.proofs.Closed.{closed}
 use Rattle.dn_module.proofs.link.linked_net.Goals as goal
 

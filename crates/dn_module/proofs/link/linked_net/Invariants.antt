@@ -1,8 +1,8 @@
 use Rattle.std.proofs.Common.{◌≡◌, map, take, drop, true}
 use Rattle.std.specs.List.{list_all}
-use Rattle.dn_module.specs.Values.{each}
+use Rattle.dn_scope.specs.Values.{each}
 use Rattle.dn_module.specs.Drafts.{node_in, refers_to_known, node_of}
-use Rattle.dn_module.proofs.Each.{followed}
+use Rattle.dn_scope.proofs.Each.{followed}
 use Rattle.dn_module.proofs.link.linked_net.Given as goal
 
 abbrev pub invariant-loop-draft : goal.invariant-loop-draft

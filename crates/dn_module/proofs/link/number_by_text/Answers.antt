@@ -1,5 +1,5 @@
 use Rattle.std.proofs.Common.{refl, sym}
-use Rattle.dn_module.proofs.Known.{is_known-Some, is_known-None}
+use Rattle.dn_scope.proofs.Known.{is_known-Some, is_known-None}
 use Rattle.dn_module.proofs.link.number_by_text.Goals as goal
 
 pub returns-in-Some-clause-links : goal.returns-in-Some-clause-links

@@ -1,11 +1,12 @@
 use Rattle.std.proofs.Common.{◌∙◌, sym, arith, ◌<◌}
 use Rattle.std.proofs.lemmas.Result.{err_from_is_err_and}
 use Rattle.dn_kind.specs.Kinded.{kinds_of}
-use Rattle.dn_module.specs.Expand.{most_steps, statements, outside, nothing_yet}
+use Rattle.dn_module.specs.Expand.{most_steps, nothing_yet}
+use Rattle.dn_scope.specs.Uses.{statements, outside}
 use Rattle.dn_module.specs.Machine.{expansion_state_view}
-use Rattle.dn_module.specs.Faults.{expand_fault_view}
-use Rattle.dn_module.specs.Stack.{body_view, stack_view}
-use Rattle.dn_module.proofs.Works.{most_steps_are, begun, work_first, step_on, fault_on}
+use Rattle.dn_scope.specs.Faults.{expand_fault_view}
+use Rattle.dn_scope.specs.Stack.{body_view, stack_view}
+use Rattle.dn_module.proofs.Steps.{most_steps_are, begun, work_first, step_on, fault_on}
 use Rattle.dn_module.proofs.machine.expand_body.Goals as goal
 
 pub loop-work-init : goal.loop-work-init

@@ -1,7 +1,8 @@
 use Rattle.std.proofs.Common.{◌≡◌}
 use Rattle.dn_kind.specs.Kinded.{kinds_of}
-use Rattle.dn_module.specs.Expand.{all_rewritings, most_steps, statements, outside, nothing_yet}
-use Rattle.dn_module.specs.Stack.{body_view, stack_view}
+use Rattle.dn_module.specs.Expand.{all_rewritings, most_steps, nothing_yet}
+use Rattle.dn_scope.specs.Uses.{statements, outside}
+use Rattle.dn_scope.specs.Stack.{body_view, stack_view}
 use Rattle.dn_module.specs.Machine.{expansion_state_view}
 use Rattle.dn_module.proofs.machine.expand_body.Given as goal
 

@@ -1,10 +1,10 @@
 use Rattle.std.proofs.Common.{rules, ap, ◌∙◌}
 use Rattle.dn_parse.specs.Views.{declaration_view, item_view}
 use Rattle.dn_kind.specs.Kinded.{kinds_of}
-use Rattle.dn_module.specs.Replace.{in_declaration, in_item}
-use Rattle.dn_module.specs.Stack.{visibility_view, stack_view}
+use Rattle.dn_scope.specs.Replace.{in_declaration, in_item}
+use Rattle.dn_scope.specs.Stack.{visibility_view, stack_view}
 use Rattle.dn_module.specs.Machine.{expansion_state_view}
-use Rattle.dn_module.proofs.Works.{declaration_item, declaration_taken}
+use Rattle.dn_module.proofs.Steps.{declaration_item, declaration_taken}
 use Rattle.dn_module.proofs.machine.take.Goals as goal
 
 pub returns-in-Decl : goal.returns-in-Decl

@@ -1,9 +1,9 @@
 use Rattle.std.proofs.Common.{◌≡◌, map, drop}
 use Rattle.dn_parse.specs.Views.{dest_view}
 use Rattle.dn_module.specs.Drafts.{dest_of}
-use Rattle.dn_module.specs.Values.{each}
-use Rattle.dn_module.specs.Replace.{in_dest}
-use Rattle.dn_module.proofs.Each.{followed}
+use Rattle.dn_scope.specs.Values.{each}
+use Rattle.dn_scope.specs.Replace.{in_dest}
+use Rattle.dn_scope.proofs.Each.{followed}
 use Rattle.dn_module.proofs.nodes.dests.Given as goal
 
 abbrev pub invariant-loop-expr : goal.invariant-loop-expr

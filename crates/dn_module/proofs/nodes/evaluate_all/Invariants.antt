@@ -1,6 +1,6 @@
 use Rattle.std.proofs.Common.{◌≡◌, map, drop}
-use Rattle.dn_module.specs.Values.{each}
-use Rattle.dn_module.proofs.Each.{followed}
+use Rattle.dn_scope.specs.Values.{each}
+use Rattle.dn_scope.proofs.Each.{followed}
 use Rattle.dn_module.proofs.nodes.evaluate_all.Given as goal
 
 abbrev pub invariant-loop-part : goal.invariant-loop-part

@@ -2,7 +2,7 @@ use Rattle.std.proofs.Common.{◌≡◌, [], ◌∷◌, subst, MatchOption, leng
 use Rattle.dn_parse.specs.Script.{script_view}
 use Rattle.dn_parse.specs.Views.{command_view}
 use Rattle.dn_module.specs.Commands.{command_of, commands_of}
-use Rattle.dn_module.specs.Drafts.{at_line}
+use Rattle.dn_scope.specs.Faults.{at_line}
 use Rattle.dn_module.proofs.Made.{made_more}
 use Rattle.dn_module.proofs.PlainMade.{made_is, plain_list}
 use Rattle.dn_module.proofs.orders.check_commands.Goals as goal

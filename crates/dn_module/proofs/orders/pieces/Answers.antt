@@ -3,8 +3,8 @@ use Rattle.dn_base.proofs.Lists.{drop_at, list_all-last}
 use Rattle.dn_parse.specs.Views.{piece_view}
 use Rattle.dn_module.specs.declared.command.PieceTarget.{PieceTarget}
 use Rattle.dn_module.specs.Commands.{node_within, piece_of, pieces_within}
-use Rattle.dn_module.specs.Values.{◌>>=◌, each}
-use Rattle.dn_module.proofs.Each.{after_one, followed}
+use Rattle.dn_scope.specs.Values.{◌>>=◌, each}
+use Rattle.dn_scope.proofs.Each.{after_one, followed}
 use Rattle.dn_module.proofs.orders.pieces.Goals as goal
 
 -- one more piece is made, of which the list is seen

@@ -1,8 +1,8 @@
 use Rattle.std.proofs.Common.{◌≡◌, IsTrue, length, map, drop}
 use Rattle.dn_parse.specs.Views.{piece_view}
 use Rattle.dn_module.specs.Commands.{piece_of, pieces_within}
-use Rattle.dn_module.specs.Values.{each}
-use Rattle.dn_module.proofs.Each.{followed}
+use Rattle.dn_scope.specs.Values.{each}
+use Rattle.dn_scope.proofs.Each.{followed}
 use Rattle.dn_module.proofs.orders.pieces.Given as goal
 
 abbrev pub invariant-loop-expr : goal.invariant-loop-expr

@@ -2,9 +2,10 @@ use Rattle.std.proofs.Common.{◌≡◌, ◌∙◌, sym, ap, ◌+◌, ◌≤◌,
 use Rattle.std.proofs.lemmas.List.{map-append}
 use Rattle.dn_net.specs.Decode.{is_agent, is_unit}
 use Rattle.dn_module.specs.declared.draft.Draft.{Draft}
-use Rattle.dn_module.specs.Drafts.{is_known, names, limit_passed, parts_of_draft, agents_among, units_among, all_parts}
-use Rattle.dn_module.specs.Expand.{has_twice}
-use Rattle.dn_module.proofs.Known.{new_stays}
+use Rattle.dn_scope.specs.Numbered.{is_known}
+use Rattle.dn_module.specs.Drafts.{names, limit_passed, parts_of_draft, agents_among, units_among, all_parts}
+use Rattle.dn_scope.specs.Uses.{has_twice}
+use Rattle.dn_scope.proofs.Known.{new_stays}
 use Rattle.dn_module.proofs.Limits.{agents_more, units_more, parts_more, within_limits, one_if, as_number}
 use Rattle.dn_base.proofs.Lists.{length-last}
 use Rattle.dn_module.proofs.drafts.Drafts.add.Goals as goal

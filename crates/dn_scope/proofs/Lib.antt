@@ -1,0 +1,12 @@
+pub mod Each
+pub mod Known
+pub mod Outside
+pub mod Totals
+pub mod Bindings
+pub mod Replaced
+pub mod Scopes
+pub mod Naming
+pub mod Numbers
+pub mod Unreplaced
+pub mod Works
+pub mod Places

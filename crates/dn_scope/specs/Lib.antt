@@ -1,0 +1,9 @@
+pub mod Terms
+pub mod Values
+pub mod Faults
+pub mod Replace
+pub mod Words
+pub mod Flaws
+pub mod Stack
+pub mod Numbered
+pub mod Uses
