@@ -13,6 +13,7 @@ ghost use Rattle.dn_place.specs.Terms.{AreKeptNames, IsNamed};
 
 use crate::OutOfMemory;
 use crate::reach::{ReachMarks, has_second};
+use crate::unit::unit_in;
 use dn_interval::onward::last_out;
 use dn_interval::{End, Rows, Seg, Span};
 use dn_kind::rights::{Access, Rights};
@@ -22,8 +23,11 @@ use dn_view::kept::kept_stops;
 use dn_view::system::System;
 use std::alloc::Global;
 
+/// The list is made where so many words in use are gone through at most, each once for each agent.
+const MOST_WORDS: u64 = 2048;
+
 /// The names in units to which agents other than the one that asks come by the records of the tables, for an access that
-/// is asked for: as rows, in which each name stands at its own address. None where no second hop can stand.
+/// is asked for: as rows, in which each name stands at its own address. None where the list is not due.
 pub(crate) fn kept_names(
     alloc: Global,
     system: System,
@@ -37,13 +41,47 @@ pub(crate) fn kept_names(
     ensures { IfOk result (λ rows. AreKeptNames system.entry.on.net.now
         (record_kept (kinds_of meaning system.entry.on.kinds.now) tables.now) request.now rows) }
 {
-    if !has_second(reach) {
+    if !is_due(system, tables, reach) {
         return no_names(alloc);
     }
     let access = asked_access(request.rights);
     let stops = kept_stops(alloc, system, tables, request.agent, access)?;
     let own = named(alloc, stops.as_slice())?;
     Rows::normal(alloc, own.as_slice())
+}
+
+/// Whether the list is due: a second hop can stand somewhere, and few words are in use in the units that lead on, times
+/// the agents that see names of these. A search that makes the list in vain then loses little.
+fn is_due(system: System, tables: &TableSet, reach: &ReachMarks) -> bool
+    requires system { IsSystem meaning system }
+    requires fits { FitsNet system.on.net.now (kinds_of meaning system.on.kinds.now) tables.now }
+{
+    if !has_second(reach) {
+        return false;
+    }
+    let seers = system.flats.seers();
+    let units = reach.units.as_slice();
+    let mut words: u64 = 0;
+    for unit in units {
+        if seers.leads_on(*unit) {
+            words = words.saturating_add(words_in_use(system, tables, *unit));
+        }
+    }
+    words.saturating_mul(seers.onward().len() as u64) <= MOST_WORDS
+}
+
+/// How many words of a unit may be in use, if it is one: no more than it has slots.
+fn words_in_use(system: System, tables: &TableSet, unit: u16) -> u64
+    requires system { IsSystem meaning system }
+    requires fits { FitsNet system.on.net.now (kinds_of meaning system.on.kinds.now) tables.now }
+{
+    match unit_in(system, unit) {
+        Some(translator) => {
+            let words = tables.words(unit).zeros_from() as u64;
+            words.min(u64::from(translator.slots))
+        }
+        None => 0,
+    }
 }
 
 /// No names.

@@ -205,12 +205,13 @@ by_entry-returns g t c =
     (others s c.args.stage unit port y c.args.entry c.requires.output.through.stage c.requires.output.through.more c.requires.last c.requires.entry) (answered_input s count hops unit port y x found a))
     c.by_input.ensures
 
-pub by_entry-by_input-requires-clause-chosen : goal.by_entry-by_input-requires-clause-chosen
-by_entry-by_input-requires-clause-chosen g t c =
+pub by_entry-by_input-requires : goal.by_entry-by_input-requires
+by_entry-by_input-requires g t c =
     let same : c.request.result.size ≡ (g.Q.Quest.sought c.args.quest.now).request.size = ap (λ (r : Request). r.size) c.request.ensures in
     let agree = c.can_meet.ensures.agree c.if-not-can_meet.false in
     let within : c.args.entry.base + (g.Q.Quest.sought c.args.quest.now).request.size ≤ c.args.door.translator.now.slots * 2 ^ c.args.door.translator.now.page = omega (arith, c.can_meet.ensures.within c.if-not-can_meet.false, same) in
-    hop_chosen (g.Q.Quest.sought c.args.quest.now) c.args.stage c.args.door c.args.y c.args.entry.base c.requires.output agree within (c.next_try-tried.ensures.usable c.if-next-x.false)
+    let chosen = hop_chosen (g.Q.Quest.sought c.args.quest.now) c.args.stage c.args.door c.args.y c.args.entry.base c.requires.output agree within (c.next_try-tried.ensures.usable c.if-next-x.false) in
+    search rules
 
 pub by_inputs-power-page-requires : goal.by_inputs-power-page-requires
 by_inputs-power-page-requires g t c = let f = c.requires.output.through.stage.ready.bounds c.args.door.unit c.args.door.translator.now c.requires.output.through.unit in omega (arith, f.page)
@@ -274,11 +275,12 @@ by_inputs-inputs-preserved-then-next-x g t c = rw c.power-page.ensures (record {
   below = inputs_leapt (g.Q.Quest.sought c.args.quest.now) c.args.stage.count (hops_view c.args.stage.chosen) c.args.door.unit c.args.door.port c.args.y c.inputs.x c.args.door.translator.now c.requires.output.through.more c.requires.output.through.unit c.inputs.invariant.agree c.inputs.invariant.below (rw c.in_default.is at (answered_input (g.Q.Quest.sought c.args.quest.now) c.args.stage.count (hops_view c.args.stage.chosen) c.args.door.unit c.args.door.port c.args.y c.inputs.x c.in_ok-placement.field-0 c.in_ok-placement.ensures));
 })
 
-pub by_inputs-by_input-requires-clause-chosen : goal.by_inputs-by_input-requires-clause-chosen
-by_inputs-by_input-requires-clause-chosen g t c =
+pub by_inputs-by_input-requires : goal.by_inputs-by_input-requires
+by_inputs-by_input-requires g t c =
     let same : c.request-size.result.size ≡ (g.Q.Quest.sought c.args.quest.now).request.size = ap (λ (r : Request). r.size) c.request-size.ensures in
     let within : c.inputs.x + c.request-size.result.size ≤ c.args.door.translator.now.slots * 2 ^ c.args.door.translator.now.page = subst (λ (n : ℕ). c.inputs.x + c.request-size.result.size ≤ c.args.door.translator.now.slots * n) c.power-page.ensures (subst (λ (n : ℕ). c.inputs.x + c.request-size.result.size ≤ n * c.power-page.result) c.from.ensures c.inputs-test.true) in
-    hop_chosen (g.Q.Quest.sought c.args.quest.now) c.args.stage c.args.door c.args.y c.inputs.x c.requires.output c.inputs.invariant.agree (omega (arith, within, same)) (c.next_try-tried.ensures.usable c.if-next-x.true)
+    let chosen = hop_chosen (g.Q.Quest.sought c.args.quest.now) c.args.stage c.args.door c.args.y c.inputs.x c.requires.output c.inputs.invariant.agree (omega (arith, within, same)) (c.next_try-tried.ensures.usable c.if-next-x.true) in
+    search rules
 
 pub by_input-by_hops-requires : goal.by_input-by_hops-requires
 by_input-by_hops-requires g t c =

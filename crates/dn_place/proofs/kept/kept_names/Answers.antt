@@ -9,8 +9,8 @@ use Rattle.dn_place.specs.KeptNames.{AreKeptNames, IsNamed}
 use Rattle.dn_place.proofs.Named.{rows_kept}
 use Rattle.dn_place.proofs.kept.kept_names.Goals as goal
 
-pub returns-then-not-has_second : goal.returns-then-not-has_second
-returns-then-not-has_second g c =
+pub returns-then-not-is_due : goal.returns-then-not-is_due
+returns-then-not-is_due g c =
     let net = c.args.system.on.net.now in
     let h : Held = record_kept (kinds_of (λ k. (goal.UnitKind-dyn g k).meaning k.1) c.args.system.on.kinds.now) c.args.tables.now in
     IfOk-weaker c.no_names.result _ (λ rows. AreKeptNames net h c.args.request.now rows) (λ rows k. k net h c.args.request.now) c.no_names.ensures

@@ -10,8 +10,8 @@ pub returns-clause-reach : goal.returns-clause-reach
 returns-clause-reach g c = record {
   marked = record {
     firsts = c.in_ok-first.ensures;
-    seconds = subst (λ (m : List Bool). MarksAfter c.args.system.on.net.now m c.in_ok-second.second.items) c.deref.ensures.value c.in_ok-second.ensures;
-    thirds = subst (λ (m : List Bool). MarksAfter c.args.system.on.net.now m c.in_ok-third.third.items) c.deref-2.ensures.value c.in_ok-third.ensures;
+    seconds = subst (λ (m : List Bool). MarksAfter c.args.system.on.net.now m c.in_ok-second.second.items) c.deref-2.ensures.value c.in_ok-second.ensures;
+    thirds = subst (λ (m : List Bool). MarksAfter c.args.system.on.net.now m c.in_ok-third.third.items) c.deref-4.ensures.value c.in_ok-third.ensures;
   };
   entry = c.entry_of-entry.ensures;
   units = c.in_ok-units.ensures;
