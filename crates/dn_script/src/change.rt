@@ -248,11 +248,7 @@ fn revoked_reply(alloc: Global, id: &str) -> Result<Items<u8>, OutOfMemory>
 }
 
 /// The reply that names an id and a refusal.
-pub fn refused_reply(
-    alloc: Global,
-    id: &str,
-    refusal: &str,
-) -> Result<Items<u8>, OutOfMemory>
+pub fn refused_reply(alloc: Global, id: &str, refusal: &str) -> Result<Items<u8>, OutOfMemory>
     ensures { IfOk result (λ text. text ≡ refused_text id.now refusal.now) }
 {
     let text = format!(in alloc; "{id} refused: {refusal}\n")?;

@@ -14,15 +14,15 @@ use crate::{OutOfMemory, refusal};
 use dn_kind::kinds::Kinds;
 use dn_kind::units;
 use dn_module::commands::Commands;
-use dn_module::expand::Expanded;
 use dn_module::expand;
+use dn_module::expand::Expanded;
 use dn_net::net::Net;
 use dn_parse::reader;
-use dn_walk::walks::WalkTable;
 use dn_walk::walks;
+use dn_walk::walks::WalkTable;
 use std::alloc::Global;
-use std::fmt::{Debug, Formatter, Write};
 use std::fmt;
+use std::fmt::{Debug, Formatter, Write};
 use std::marker::Model;
 use thiserror::Error;
 
