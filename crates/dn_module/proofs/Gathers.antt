@@ -10,7 +10,7 @@ use Rattle.dn_parse.specs.Script.{script_view}
 use Rattle.dn_parse.proofs.Gathers.{FewOrder, script_few}
 use Rattle.dn_module.specs.declared.command.Command.{Command}
 use Rattle.dn_module.specs.declared.command.PieceTarget.{PieceTarget}
-use Rattle.dn_scope.specs.Values.{◌>>=◌, each, value}
+use Rattle.dn_scope.specs.Values.{each, value}
 use Rattle.dn_scope.specs.Faults.{ExpansionFault, at_line}
 use Rattle.dn_module.specs.Commands.{target_of, piece_of, command_of, commands_of, commands_or_none, nodes_within, has_few_pieces, names_within}
 use Rattle.dn_module.proofs.Yields.{Yields, any, bind, given, at_yields}

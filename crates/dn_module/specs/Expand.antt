@@ -1,5 +1,5 @@
 -- Expansion by substitution: a list of statements is rewritten, the first one at a time, until none is left.
-use Rattle.std.specs.Prelude.{ℕ, zero, suc, ◌+◌, if◌then◌else◌, nat_le, List, [], ◌∷◌, ◌++◌, Result, Ok, Err}
+use Rattle.std.specs.Prelude.{ℕ, zero, suc, if◌then◌else◌, nat_le, List, [], ◌∷◌, ◌++◌, Result, Ok, Err}
 use Rattle.dn_parse.specs.Tree.{Expression, Item, declared, module_of, instance, loop, Items, Tree}
 use Rattle.dn_net.specs.declared.node.NodeDecl.{NodeDecl}
 use Rattle.dn_kind.specs.Kind.{Meaning}

@@ -13,13 +13,13 @@ ghost use Rattle.dn_tool.specs.Terms.{AreNodesWithin, IsNodeWithin, by_limit, by
 use crate::OutOfMemory;
 use dn_base::text::Text;
 use dn_kind::units::UnitFault;
-use dn_scope::fault::ExpandFault;
 use dn_net::net::Net;
 use dn_net::node::Name;
 use dn_net::rules::NodeFault;
 use dn_parse::reader::ParseFault;
 use dn_print::joined::write_joined;
 use dn_print::names;
+use dn_scope::fault::ExpandFault;
 use dn_walk::fault::WalkFault;
 use std::alloc::Global;
 
