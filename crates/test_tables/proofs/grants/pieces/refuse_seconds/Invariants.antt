@@ -1,6 +1,0 @@
--- The book keeps its grants from one call to the next.
-use Rattle.test_tables.specs.Desk.{IsDesk}
-use Rattle.test_tables.proofs.grants.pieces.refuse_seconds.Given as goal
-
-abbrev pub invariant-loop-row : goal.invariant-loop-row
-invariant-loop-row g l = IsDesk (λ k. (goal.UnitKind-dyn g k).meaning k.1) l.desk
