@@ -16,9 +16,9 @@ use Rattle.dn_kind.specs.Kind.{Meaning, is_plain_unit_shape}
 use Rattle.dn_kind.specs.Tables.{slot_words}
 use Rattle.dn_kind.specs.Units.{KeepsUnitShape, fits_shape, unit_shape}
 use Rattle.dn_tables.specs.declared.table.NodeTable.{NodeTable}
-use Rattle.dn_tables.specs.Set.{IsEmpty, IsOnDevice, IsPackableIn, IsSet, has_slot, has_slot_by, is_sized, table_on_device, tables_from, tables_of_set, unit_in, units_of, width_in, width_of_table, with_use, words_in, words_of_table}
+use Rattle.dn_tables.specs.Set.{IsEmpty, IsOnDevice, IsPackableIn, IsSet, has_slot, has_slot_by, is_sized, table_on_device, tables_from, tables_of_set, unit_in, units_of, width_in, width_of_table, words_in, words_of_table}
 use Rattle.dn_tables.proofs.Fresh.{zero_words}
-use Rattle.dn_tables.proofs.Kept.{map_changed, sized_of, slot_room, table_of_unit, unit_of_slot}
+use Rattle.dn_tables.proofs.Kept.{sized_of, slot_room, table_of_unit, unit_of_slot}
 use Rattle.dn_image.specs.Image.{are_filled, is_filled}
 use Rattle.dn_image.proofs.Places.{unit_of_net}
 use Rattle.test_tables.specs.Slots.{IsHoldable}
@@ -70,10 +70,6 @@ packable kinds set net i r shaped e holds = λ u kind is at.
       within = h.within;
       rights = h.rights;
     }
-
--- a use leaves the units
-pub use_keeps_units : (set : List NodeTable) (i slot : ℕ) (use' : _) → units_of (with_use set i slot use') ≡ units_of set
-use_keeps_units set i slot use' = map_changed (λ t. t.unit) set i _ (λ t. refl)
 
 -- words for each node of a net
 pub filled_long : (kinds : List Meaning) (net : List NodeDecl) (words : List (List ℕ)) → IsTrue (are_filled kinds net words) → length words ≡ length net

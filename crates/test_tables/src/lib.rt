@@ -1,12 +1,13 @@
-//! Tests of nets and of what is seen in them (`nets`), of tables, of their images and of lookups in these (`tables`),
-//! and of the grants and routes that fill tables (`grants`).
+//! Tests of nets (`nets`), of tables, of their images and of lookups in these (`tables`), and of the grants and routes that
+//! fill tables (`grants`); `words` has the words by which faults are named.
 //!
-//! The nets are made by calls. A call asks much of its arguments, so it is made by a function that tests this
-//! first. On a slot of a set these functions are in `slots`: they test that the slot is there, and for some calls
-//! that it is empty and that a record fits. On a book of grants they are in `desk`. The wanted words, events, bytes
-//! and names are worked out by hand.
+//! The nets are made by calls. A call asks much of its arguments, so it is made by a function that tests this first. On a
+//! slot of a set these functions are in `slots`: they test that the slot is there and empty, and that a record fits. On a
+//! book of grants they are in `at_desk`. The wanted words, events, bytes and names are worked out by hand.
 #![tactic(auto)]
 
+#[cfg(test)]
+mod at_desk;
 pub mod bench;
 #[cfg(test)]
 mod calls;
@@ -15,8 +16,13 @@ pub mod desk;
 mod grants;
 #[cfg(test)]
 mod nets;
+#[cfg(test)]
 mod own;
 #[cfg(test)]
 mod slots;
 #[cfg(test)]
 mod tables;
+#[cfg(test)]
+mod tests;
+#[cfg(test)]
+mod words;

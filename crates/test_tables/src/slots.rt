@@ -6,8 +6,8 @@ ghost use Rattle.dn_kind.specs.Terms.{AreKinds, are_rights, unit_shape};
 ghost use Rattle.dn_tables.specs.Terms.{IsEmpty, has_slot, unit_in, units_of};
 ghost use Rattle.test_tables.specs.Terms.{IsHoldable, IsHoldableIn, IsBench};
 
+use crate::at_desk::are_rights;
 use crate::bench::Bench;
-use crate::desk::are_rights;
 use dn_base::device::{DeviceFault, Tables};
 use dn_base::filled::Filled;
 use dn_base::memory_tables::MemTables;
@@ -194,47 +194,4 @@ pub fn are_words(words: Option<&Filled<u64>>, wanted: &[u64]) -> bool {
         }
         None => wanted.is_empty(),
     }
-}
-
-/// How many live grants use a slot, and the one that owns it. `None` where the slot is not there.
-pub fn use_of(net: &Net, set: &TableSet, at: Place) -> Option<(u32, Option<u32>)>
-    requires { units_of set.now ≡ map (λ n. n.unit) net.now }
-{
-    if !is_there(net, set, at) {
-        return None;
-    }
-    Some((
-        set.uses_at(at.unit, at.slot),
-        set.owner_at(at.unit, at.slot),
-    ))
-}
-
-/// Adds a use of a slot. Answers false, and nothing is done, where the slot is not there, or has an
-/// owner, or too many uses, or uses beside an owner that is given.
-pub fn add_use(net: &Net, set: &mut TableSet, at: Place, owner: Option<u32>) -> bool
-    requires { units_of set.old ≡ map (λ n. n.unit) net.now }
-    ensures { units_of set.new ≡ map (λ n. n.unit) net.now }
-{
-    if !is_there(net, set, at) || set.owner_at(at.unit, at.slot).is_some() {
-        return false;
-    }
-    let uses = set.uses_at(at.unit, at.slot);
-    if uses >= 4096 || (owner.is_some() && uses != 0) {
-        return false;
-    }
-    set.add_use(at.unit, at.slot, owner);
-    true
-}
-
-/// Ends a use of a slot. Answers false, and nothing is done, where the slot is not there or not
-/// used.
-pub fn end_use(net: &Net, set: &mut TableSet, at: Place) -> bool
-    requires { units_of set.old ≡ map (λ n. n.unit) net.now }
-    ensures { units_of set.new ≡ map (λ n. n.unit) net.now }
-{
-    if !is_there(net, set, at) || set.uses_at(at.unit, at.slot) == 0 {
-        return false;
-    }
-    set.end_use(at.unit, at.slot);
-    true
 }

@@ -2,6 +2,7 @@
 
 ghost use Rattle.test_tables.specs.Terms.{IsDesk};
 
+use crate::at_desk::{grant_on, revoke_on, route_on};
 use crate::desk::Desk;
 use crate::grants::boards::{chain_plan, row_plan, vector_plan};
 use dn_book::book::RevokeFault;
@@ -43,15 +44,15 @@ pub fn made(alloc: Global, desk: &mut Desk<'_>, command: Command) -> Option<Outc
 {
     match command {
         Command::Grant(id, request) => {
-            let given = desk.grant(alloc, id, &request)?;
+            let given = grant_on(desk, alloc, id, &request)?;
             Some(granted(given))
         }
         Command::Route(id, line, node) => {
-            let given = desk.route(alloc, id, line, node)?;
+            let given = route_on(desk, alloc, id, line, node)?;
             Some(granted(given))
         }
         Command::Revoke(id) => {
-            let given = desk.revoke(id)?;
+            let given = revoke_on(desk, id)?;
             Some(revoked(given))
         }
     }

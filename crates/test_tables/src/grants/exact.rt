@@ -4,6 +4,7 @@
 ghost use Rattle.dn_kind.specs.Terms.{AreKinds};
 ghost use Rattle.test_tables.specs.Terms.{IsDesk};
 
+use crate::at_desk::{first_on, grant_on, is_exact_on, with_own};
 use crate::calls::{board_of, desk_of, system_of};
 use crate::desk::Desk;
 use crate::grants::boards::{chain_plan, port_plan, row_plan};
@@ -53,7 +54,7 @@ fn request_of(asked: Asked) -> Request {
 fn first_of(rt: &impl Abort, alloc: Global, desk: &Desk<'_>, asked: Asked) -> Option<Placement>
     requires { IsDesk meaning desk.now }
 {
-    let found = desk.first(alloc, &request_of(asked), asked.5);
+    let found = first_on(desk, alloc, &request_of(asked), asked.5);
     found.expect(rt, "an answer")
 }
 
@@ -113,10 +114,10 @@ fn is_shown(
     requires { IsDesk meaning desk.now }
 {
     let request = request_of(asked);
-    let found = desk.first(alloc, &request, asked.5).expect(rt, "an answer");
+    let found = first_on(desk, alloc, &request, asked.5).expect(rt, "an answer");
     let placement = found.expect(rt, "a placement");
-    let other = desk.with_own(alloc, &request, &placement, own)?;
-    let given = desk.is_exact(alloc, &request, &other, size, rights_of(wish));
+    let other = with_own(desk, alloc, &request, &placement, own)?;
+    let given = is_exact_on(desk, alloc, &request, &other, size, rights_of(wish));
     given.expect(rt, "an answer")
 }
 
@@ -163,7 +164,7 @@ fn grant_before(rt: &impl Abort, alloc: Global, desk: &mut Desk<'_>, site: Site)
     ensures { IsDesk meaning desk.new }
 {
     if let Some(asked) = granted_on(site) {
-        let given = desk.grant(alloc, 0, &request_of(asked));
+        let given = grant_on(desk, alloc, 0, &request_of(asked));
         assert!(rt; matches!(&given, Some(Ok(_))));
     }
 }

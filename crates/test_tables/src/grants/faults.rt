@@ -4,6 +4,7 @@ ghost use Rattle.dn_kind.specs.Terms.{AreKinds};
 ghost use Rattle.dn_view.specs.Terms.{IsSystem};
 ghost use Rattle.test_tables.specs.Terms.{IsDesk};
 
+use crate::at_desk::resolved_on;
 use crate::calls::{board_of, desk_of, system_of};
 use crate::desk::Desk;
 use crate::grants::commands::{Choice, Command, Dice, Outcome, Small, made};
@@ -65,7 +66,7 @@ fn views_of(rt: &impl Abort, alloc: Global, desk: &Desk<'_>, asked: &[Asked]) ->
 {
     let mut views = Vec::new(alloc);
     for each in asked {
-        let names = desk.resolved(alloc, each.name, each.access);
+        let names = resolved_on(desk, alloc, each.name, each.access);
         views.push(names.expect(rt, "names")).expect(rt, "memory");
     }
     views
@@ -127,9 +128,7 @@ fn compare_tables(
     requires { IsDesk meaning desk.now }
 {
     for ((each, before), after) in asked.iter().zip(before.iter()).zip(after.iter()) {
-        let given = desk
-            .resolved(alloc, each.name, each.access)
-            .expect(rt, "names");
+        let given = resolved_on(desk, alloc, each.name, each.access).expect(rt, "names");
         let names = given.list();
         assert!(rt; names == before.list() || names == after.list());
     }

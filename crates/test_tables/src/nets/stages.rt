@@ -2,11 +2,13 @@
 
 ghost use Rattle.std.specs.Prelude.{◌<◌, length};
 ghost use Rattle.dn_flat.specs.Terms.{IsStage};
+ghost use Rattle.dn_kind.specs.Terms.{AreKinds};
 ghost use Rattle.dn_net.specs.Terms.{IsLegalNet};
 
 use crate::nets::made::legal;
 use dn_flat::stage::Stage;
-use dn_interval::Rows;
+use dn_interval::{End, Rows};
+use dn_kind::kinds::Kinds;
 use dn_net::names::Names;
 use dn_net::net::Net;
 use dn_net::node::{Dest, Name, Role};
@@ -136,14 +138,42 @@ fn compare_stages(rt: &impl Abort, alloc: Global, net: &Net, addresses: u64)
     compare_all(rt, alloc, net, &stage, addresses);
 }
 
-/// The same over the net of a plan.
-fn compare_plan(rt: &impl Abort, alloc: Global, plan: Plan, addresses: u64) {
-    let net = legal(rt, alloc, plan);
-    compare_stages(rt, alloc, &net, addresses);
+/// The same over a net whose stages are compared.
+fn compare_net(rt: &impl Abort, alloc: Global, kinds: &Kinds, staged: Staged)
+    requires { AreKinds meaning kinds.now }
+{
+    let net = legal(rt, alloc, kinds, plan_of(rt, alloc, staged));
+    compare_stages(rt, alloc, &net, addresses_of(staged));
+}
+
+/// A net whose stages are compared with chains of steps.
+#[derive(Clone, Copy)]
+enum Staged {
+    Chain,
+    Fork,
+    Block,
+}
+
+/// Its plan.
+fn plan_of(rt: &impl Abort, alloc: Global, staged: Staged) -> Plan {
+    match staged {
+        Staged::Chain => chain_plan(rt, alloc),
+        Staged::Fork => fork_plan(rt, alloc),
+        Staged::Block => block_plan(rt, alloc),
+    }
+}
+
+/// How many addresses of its nodes are looked at.
+fn addresses_of(staged: Staged) -> u64 {
+    match staged {
+        Staged::Chain => 66,
+        Staged::Fork => 16,
+        Staged::Block => 32,
+    }
 }
 
 /// Each address goes to the next, up to 64, and another node comes in at some.
-fn chain_plan(rt: &impl Abort, alloc: Global) -> Plan {
+pub fn chain_plan(rt: &impl Abort, alloc: Global) -> Plan {
     sure_plan!(
         rt, alloc;
         accepting("a", Role::Plain, 64, 64);
@@ -194,10 +224,65 @@ fn block_plan(rt: &impl Abort, alloc: Global) -> Plan {
     )
 }
 
-#[test]
-fn gives_chains_of_steps(rt: HostRuntime) {
-    let alloc = rt.alloc();
-    compare_plan(&rt, alloc, chain_plan(&rt, alloc), 66);
-    compare_plan(&rt, alloc, fork_plan(&rt, alloc), 16);
-    compare_plan(&rt, alloc, block_plan(&rt, alloc), 32);
+/// Two nodes a level, 18 levels, each of which sends all of its addresses to both of the next: 1,048,500 live walks.
+fn crowd_plan(rt: &impl Abort, alloc: Global) -> Plan {
+    let mut plan = Plan::new(alloc);
+    for number in 0..36u16 {
+        let title = format!(in alloc; "n{number}").expect(rt, "memory");
+        plan.node(title.as_str(), Role::Plain).expect(rt, "a plan");
+        if number < 34 {
+            let next = (number | 1).wrapping_add(1);
+            let dests = [to(next, 0), to(next.wrapping_add(1), 0)];
+            plan.maps(0, 0xff, &dests).expect(rt, "a plan");
+        } else {
+            plan.accepts(0, 0xff).expect(rt, "a plan");
+        }
+    }
+    plan
+}
+
+/// Compares where the first node's addresses go in sixteen steps.
+fn compare_sixteen(rt: &impl Abort, alloc: Global, net: &Net)
+    requires { IsLegalNet net.now }
+{
+    let two = Stage::start(alloc, net).expect(rt, "memory");
+    let two = two.doubled(alloc, net).expect(rt, "memory");
+    let four = two.doubled(alloc, net).expect(rt, "memory");
+    let eight = four.doubled(alloc, net).expect(rt, "memory");
+    let stage = eight.doubled(alloc, net).expect(rt, "memory");
+    assert!(rt; net.nodes() > 0);
+    assert!(rt; stage.done(0).accepts.rows().is_empty());
+    // The nodes of the last level but one are these.
+    compare_one(rt, stage.go(0), &[first_end(32), first_end(33)]);
+}
+
+/// The end of a row that goes on from a node's first address.
+fn first_end(node: u16) -> End {
+    End { node, base: 0 }
+}
+
+/// Compares rows with the one that leads the addresses from 0 to 0xff to these ends.
+fn compare_one(rt: &impl Abort, rows: &Rows, ends: &[End]) {
+    let rows = rows.rows();
+    assert!(rt; rows.len() == 1);
+    let span = rows[0].span();
+    assert!(rt; (span.lo, span.hi) == (0, 0xff));
+    assert!(rt; rows[0].ends() == ends);
+}
+
+/// Goes on for sixteen steps past very many walks.
+pub fn go_on_past_many_walks(rt: &impl Abort, alloc: Global, kinds: &Kinds)
+    requires { AreKinds meaning kinds.now }
+{
+    let net = legal(rt, alloc, kinds, crowd_plan(rt, alloc));
+    compare_sixteen(rt, alloc, &net);
+}
+
+/// Stages give chains of steps.
+pub fn compare_chains(rt: &impl Abort, alloc: Global, kinds: &Kinds)
+    requires { AreKinds meaning kinds.now }
+{
+    for staged in [Staged::Chain, Staged::Fork, Staged::Block] {
+        compare_net(rt, alloc, kinds, staged);
+    }
 }

@@ -89,6 +89,18 @@ fn compare_words(rt: &impl Abort, alloc: Global, on: KindedNet, image: &[u8], wa
     assert!(rt; is_read(alloc, on, image, wanted) == Ok(true));
 }
 
+/// Compares what is read of the images of both versions of the board with pages whose first word is this.
+fn compare_versions(rt: &impl Abort, alloc: Global, on: KindedNet, word: u64)
+    requires { IsKinded meaning on }
+{
+    let words = page_words(word);
+    let (first, second) = (page_image(1, word), page_image(2, word));
+    compare_words(rt, alloc, on, &first, with_words(1, 5, &words));
+    compare_words(rt, alloc, on, &second, with_words(2, 5, &words));
+    // The bus has no words.
+    compare_words(rt, alloc, on, &first, with_words(1, 2, &[]));
+}
+
 /// What is looked up in images of the board with pages.
 pub fn look_up_pages(rt: &impl Abort, alloc: Global, on: KindedNet)
     requires { IsKinded meaning on }
@@ -113,9 +125,8 @@ fn follow_records(rt: &impl Abort, alloc: Global, on: KindedNet)
         (0x8000400, None),
         (0, None),
     ] {
-        let image = page_image(2, word);
-        compare_words(rt, alloc, on, &image, with_words(2, 5, &page_words(word)));
-        compare_both(rt, alloc, on, &image, wanted, wanted);
+        compare_versions(rt, alloc, on, word);
+        compare_both(rt, alloc, on, &page_image(2, word), wanted, wanted);
     }
 }
 

@@ -1,5 +1,5 @@
 use Rattle.test_tables.proofs.Keeping.{desk_after, granted_keeps}
-use Rattle.test_tables.proofs.desk.Desk.route.Goals as goal
+use Rattle.test_tables.proofs.at_desk.route_on.Goals as goal
 
 pub returns : goal.returns
 returns g c =
