@@ -2,7 +2,7 @@
 //!
 //! The crates whose tests use them know no texts of the language. A [`plan::Plan`] has nodes with
 //! their parts, and gives a net once all rules are kept, so that whoever has that net may ask what its
-//! calls require. The kinds of its units are those of [`program_kinds`].
+//! calls require. The kinds of its units are those of [`sure_kinds`].
 //!
 //! Under test alone stand the tests of what lies below tables and texts.
 #![tactic(auto)]
@@ -24,24 +24,8 @@ pub const REMAP: u8 = 1;
 /// The number of the kind `vectors`.
 pub const VECTORS: u8 = 2;
 
-/// The number of the kind `radix`.
-pub const RADIX: u8 = 3;
-
-/// The kinds of the program: `pages`, `remap`, `vectors` and `radix`. Want of memory leaves the function.
-#[macro_export]
-macro_rules! program_kinds {
-    ($alloc:expr) => {{
-        dn_kinds::listed::listed_are_lawful();
-        let mut kinds = dn_kind::kinds::Kinds::none($alloc);
-        kinds.add(Box::new($alloc, dn_kinds::listed::Pages)?)?;
-        kinds.add(Box::new($alloc, dn_kinds::listed::Remap)?)?;
-        kinds.add(Box::new($alloc, dn_kinds::listed::Vectors)?)?;
-        kinds.add(Box::new($alloc, dn_kinds::listed::Radix)?)?;
-        kinds
-    }};
-}
-
-/// The same kinds, in a test: want of memory ends it, which leaves no way out of the function that is to be proved.
+/// The kinds of the program, `pages`, `remap`, `vectors` and `radix`, in a test: want of memory ends it, which leaves no way
+/// out of the function that is to be proved.
 #[macro_export]
 macro_rules! sure_kinds {
     ($rt:expr, $alloc:expr) => {{

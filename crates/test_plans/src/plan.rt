@@ -161,15 +161,6 @@ impl Plan {
         let _walks = walks(alloc, &net)?;
         Ok(net)
     }
-
-    /// Whether the net of the nodes keeps the rule on the shape of each unit, whatever other rules it breaks.
-    #[cfg(test)]
-    pub(crate) fn check_shapes(self, alloc: Global, kinds: &Kinds) -> Result<(), Unmade>
-        requires { AreKinds meaning kinds.now }
-    {
-        let net = closed_net(alloc, self.nodes, kinds.len())?;
-        Ok(check_units(&net, kinds)?)
-    }
 }
 
 /// A destination.

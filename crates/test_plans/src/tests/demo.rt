@@ -1,8 +1,6 @@
-//! Tests of the demonstration: the text that is made for so many agents, and the line that sums it up; and of
-//! the words of a command line.
+//! Tests of the demonstration: the text that is made for so many agents, and the line that sums it up.
 //!
 //! The wanted texts follow the description of the demonstration, and none comes from the program.
 
 mod summary;
 mod text;
-mod words;

@@ -1,8 +1,8 @@
-//! Tests of the kinds of units: the records that words spell in each layout and the words of records, the shapes
-//! that each kind fits, the list of kinds, the rule on the shape of each unit, and the record that a slot holds.
+//! Tests of the kinds of units: the records that words spell in each layout and the words of records, and the shapes that
+//! each kind fits.
 //!
-//! The wanted values are worked out by hand from the layouts and the limits. No text with a unit is taken, so the
-//! nets are made by calls.
+//! The wanted values are worked out by hand from the layouts and the limits. The rule on the shape of each unit is shown by
+//! texts of `answers/node_rules`, and the records that slots hold by texts of `answers/audits`.
 
 ghost use Rattle.std.specs.Prelude.{◌≡◌};
 ghost use Rattle.dn_kind.specs.Terms.{unit_shape};
@@ -14,8 +14,6 @@ use std::alloc::Global;
 use std::process::Abort;
 
 mod layouts;
-mod slots;
-mod units;
 
 /// A shape of page, slots, reach and ports.
 pub fn shape(page: u8, slots: u32, reach: u8, ports: u8) -> Shape

@@ -1,14 +1,15 @@
-//! The layouts of the kinds, and the shapes that they fit.
+//! The layouts of the kinds, and the shapes that they fit. What words of the other kinds spell is shown by texts of
+//! `answers/audits` (`words_of_pages`, `words_of_remap`, `words_of_radix`).
 
 ghost use Rattle.std.specs.Prelude.{◌≡◌};
-ghost use Rattle.dn_kinds.specs.Terms.{shipped};
 
-use crate::tests::kinds::shape;
+use crate::PAGES;
+use crate::tests::kinds::{shape, unit_of};
 use dn_kind::rights::Rights;
 use dn_kind::shape::Shape;
 use dn_kind::unit_kind::{Record, UnitKind};
-use dn_kinds::shipped::ShippedKind;
 use dn_kinds::shipped::ShippedKind::{Pages, Radix, Remap, Vectors};
+use std::alloc::Global;
 use std::process::Abort;
 
 /// A record.
@@ -16,6 +17,11 @@ fn to(port: u8, page: u64, rights: Rights) -> Record
     ensures { result ≡ record { port = port; page = page; rights = rights } }
 {
     Record { port, page, rights }
+}
+
+/// Whether a unit of this shape has a shape that a unit may have, whatever its kind.
+fn is_plain(rt: &impl Abort, alloc: Global, shape: Shape) -> bool {
+    unit_of(rt, alloc, PAGES, shape).has_plain_shape()
 }
 
 /// A record that is there.
@@ -28,45 +34,6 @@ fn wide(page: u8, ports: u8) -> Shape
     ensures { result ≡ record { page = page; slots = 16; reach = 56; ports = ports } }
 {
     shape(page, 16, 56, ports)
-}
-
-/// Compares the records that these words spell, each alone, in a kind of one word.
-fn spells(rt: &impl Abort, kind: ShippedKind, rows: &[(u64, Option<Record>)])
-    requires { (shipped kind).words ≡ 1 }
-{
-    for (word, wanted) in rows {
-        assert!(rt; kind.unpack(&[*word]) == *wanted, "{kind:?} {word:x}");
-    }
-}
-
-#[test]
-fn reads_words_of_pages(rt: HostRuntime) {
-    let rows = [
-        (0x8000401, spelled(0, 0x80004, Rights::both())),
-        (0x8000421, spelled(0, 0x80004, Rights::READ)),
-        (0x8000411, spelled(0, 0x80004, Rights::WRITE)),
-        (0x8000431, None),
-        (0x8000400, None),
-        (0x8000403, None),
-        (0x8000441, None),
-        (0x8000481, None),
-        (
-            0xffff_ffff_ffff_ff01,
-            spelled(0, 0xff_ffff_ffff_ffff, Rights::both()),
-        ),
-    ];
-    spells(&rt, Pages, &rows);
-}
-
-#[test]
-fn reads_words_of_remap(rt: HostRuntime) {
-    let rows = [
-        (0x8000407, spelled(3, 0x80004, Rights::both())),
-        (0x8000417, spelled(3, 0x80004, Rights::WRITE)),
-        (0x4f, None),
-        (0x180, None),
-    ];
-    spells(&rt, Remap, &rows);
 }
 
 #[test]
@@ -83,24 +50,6 @@ fn reads_words_of_vectors(rt: HostRuntime) {
         let given = Vectors.unpack(&[address, gate]);
         assert!(rt; given == wanted, "{address:x} {gate:x}");
     }
-}
-
-#[test]
-fn reads_words_of_radix(rt: HostRuntime) {
-    let last = 0x00ff_ffff_ffff_f001;
-    let rows = [
-        (0x80004001, spelled(0, 0x80004, Rights::both())),
-        (0x8000401f, spelled(7, 0x80004, Rights::WRITE)),
-        (0x80004027, spelled(3, 0x80004, Rights::READ)),
-        (last, spelled(0, 0xfff_ffff_ffff, Rights::both())),
-        (0x80004031, None),
-        (0x80004000, None),
-        (0x80004041, None),
-        (0x80004801, None),
-        (0x0100_0000_8000_4001, None),
-        (0x8000_0000_8000_4001, None),
-    ];
-    spells(&rt, Radix, &rows);
 }
 
 #[test]
@@ -139,5 +88,7 @@ fn fits_shapes(rt: HostRuntime) {
         assert!(rt; Remap.fits(shape) == remap, "remap, {page}, {ports}");
         assert!(rt; Vectors.fits(shape) == vectors, "vectors, {page}, {ports}");
         assert!(rt; Radix.fits(shape) == radix, "radix, {page}, {ports}");
+        let is_few = 1 <= ports && ports <= 8;
+        assert!(rt; is_plain(&rt, rt.alloc(), shape) == is_few, "{ports}");
     }
 }
