@@ -1,9 +1,11 @@
-//! Tests of audits: how much is read, what comes of a read, a write or a call of the device that fails, and that no unit
-//! is made.
+//! Tests of audits: how much is read, how an input is parted, what comes of a read, a write or a call of the device that
+//! fails, and that no unit is made.
 
 use crate::failing::{Failing, failing_calls, failing_reads, failing_writes};
 use crate::tests::outcome::{Outcome, answer};
 use crate::tests::rows::{comes_to, keeps_limit};
+use dn_audit::input::{image_part, read_up_to, text_part};
+use dn_base::memory::MemSource;
 use dn_tool::run::{DONE, READ_FAULT, REFUSED, WRITE_FAULT};
 use std::alloc::Global;
 use std::process::Abort;
@@ -95,4 +97,37 @@ fn takes_the_longest_input_of_an_audit(rt: HostRuntime) {
     let none = failing_reads(&[]);
     let line = "refused: Length\n";
     comes_to(&rt, &["audit"], text.as_str(), 65_536, none, REFUSED, line);
+}
+
+/// Compares the text and the image of what is read of seven bytes up to a limit.
+fn compare_parts(rt: &impl Abort, alloc: Global, limit: usize, image: Option<&str>) {
+    let bytes = b"a//\0b\0c".to_vec(alloc).expect(rt, "memory");
+    let mut source = MemSource::new(bytes, 2, Vec::new(alloc));
+    let input = read_up_to(alloc, &mut source, limit).expect(rt, "an input");
+    assert!(rt; text_part(input.as_slice()) == "a//".as_bytes());
+    match image_part(input.as_slice()) {
+        Some(given) => compare_image(rt, given, image),
+        None => assert!(rt; image.is_none()),
+    }
+}
+
+/// Compares an image that was given.
+fn compare_image(rt: &impl Abort, given: &[u8], wanted: Option<&str>) {
+    match wanted {
+        Some(wanted) => assert!(rt; given == wanted.as_bytes()),
+        None => assert!(rt; false),
+    }
+}
+
+#[test]
+fn parts_an_input_at_its_first_byte_0(rt: HostRuntime) {
+    // The limit is before the first byte 0, at it, past it, and past the end.
+    for (limit, image) in [
+        (3, None),
+        (4, Some("")),
+        (6, Some("b\0")),
+        (9, Some("b\0c")),
+    ] {
+        compare_parts(&rt, rt.alloc(), limit, image);
+    }
 }

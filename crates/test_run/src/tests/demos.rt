@@ -4,7 +4,6 @@
 use crate::failing::Failing;
 use crate::tests::outcome::{Outcome, answer};
 use crate::tests::rows::front;
-use dn_base::source::Source;
 use dn_tool::run::{DEVICE_FAULT, DONE, WRITE_FAULT};
 use std::alloc::Global;
 use std::process::Abort;
@@ -39,27 +38,6 @@ fn sums_up_demonstrations(rt: HostRuntime) {
         assert!(rt; shown.sink.written() == line.as_bytes(), "{agents}");
         assert!(rt; shown.device.log().len() == calls as usize, "{agents}");
     }
-}
-
-#[test]
-fn reads_nothing_for_a_demonstration(rt: HostRuntime) {
-    let failing = Failing {
-        reads: &[0],
-        writes: &[],
-        device: &[],
-    };
-    let mut outcome = answer(
-        &rt,
-        rt.alloc(),
-        &["demo", "4"],
-        b"a is; a is;",
-        4096,
-        failing,
-    );
-    assert!(rt; outcome.status == DONE);
-    assert!(rt; outcome.sink.written() == FOUR.as_bytes());
-    // The first read, which fails, is this one.
-    assert!(rt; outcome.source.read(&mut [0; 1]).is_err());
 }
 
 #[test]

@@ -1,7 +1,7 @@
-//! Tests of runs in which a read or a write fails, of those calls that no run makes, and of words with which nothing is
-//! read.
+//! Tests of runs in which a read or a write fails, and of those calls that no run makes. That a first write fails, that
+//! a second one does, and that other words read nothing, is shown by `answers/check`.
 
-use crate::failing::{Failing, failing_reads, failing_writes};
+use crate::failing::{Failing, failing_reads};
 use crate::tests::outcome::answer;
 use crate::tests::rows::{comes_to, keeps_limit};
 use dn_base::sink::Sink;
@@ -16,9 +16,6 @@ const SHORT: &str = "a is; begin; resolve a 1; resolve b 2;";
 /// What `run` answers, which is two writes.
 const ANSWERED: &str = "a@0x1: nothing\nb@0x2: no such node\n";
 
-/// The usage line, which is written with other words than `run` alone or `check` alone.
-const USAGE: &str = "usage: netconf COMMAND [N]\n";
-
 #[test]
 fn writes_nothing_where_a_read_fails(rt: HostRuntime) {
     for call in 0..4u32 {
@@ -30,44 +27,6 @@ fn writes_nothing_where_a_read_fails(rt: HostRuntime) {
     // The text is read in four reads; a fifth is not made.
     let fifth = failing_reads(&[4]);
     comes_to(&rt, &["run"], SHORT, 16, fifth, DONE, ANSWERED);
-}
-
-#[test]
-fn stops_where_a_write_fails(rt: HostRuntime) {
-    let first = failing_writes(&[0]);
-    for (word, text) in [
-        ("run", SHORT),
-        ("check", SHORT),
-        ("run", "?"),
-        ("frob", SHORT),
-    ] {
-        comes_to(&rt, &[word], text, 4096, first, WRITE_FAULT, "");
-    }
-    let second = failing_writes(&[1]);
-    let front = "a@0x1: nothing\n";
-    for (word, status, output) in [("run", WRITE_FAULT, front), ("check", DONE, "a is;\n")] {
-        comes_to(&rt, &[word], SHORT, 4096, second, status, output);
-    }
-    // A third write is not made.
-    let third = failing_writes(&[2]);
-    comes_to(&rt, &["run"], SHORT, 4096, third, DONE, ANSWERED);
-}
-
-#[test]
-fn reads_nothing_with_words_of_no_form(rt: HostRuntime) {
-    let first = failing_reads(&[0]);
-    let lists: [&[&str]; 4] = [&[], &["frob"], &["run", "extra"], &["check", "run"]];
-    for list in lists {
-        comes_to(&rt, list, SHORT, 16, first, WRONG_WORDS, USAGE);
-    }
-}
-
-#[test]
-fn makes_no_write_of_an_empty_output(rt: HostRuntime) {
-    let first = failing_writes(&[0]);
-    for (word, text) in [("run", ""), ("run", "a is; begin;"), ("check", "")] {
-        comes_to(&rt, &[word], text, 16, first, DONE, "");
-    }
 }
 
 #[test]

@@ -5,9 +5,7 @@ ghost use Rattle.dn_kind.specs.Terms.{AreKinds};
 
 use crate::tests::boards::Board;
 use crate::tests::flying::flights::{clear_before_a_read, follow_two_units, put_before_a_lookup};
-use crate::tests::flying::played::{
-    FOR_ENGINE, FOR_PHI, play_one_unit, play_two_units, run_commands,
-};
+use crate::tests::flying::played::{FOR_ENGINE, FOR_PHI, play_one_unit, play_run, play_two_units};
 use crate::tests::flying::playing::{play_all, sky_of, system_of};
 use crate::tests::flying::worlds::{
     ask_for_rights, begin_too_many, refuse_by_the_first_in_flight, refuse_what_is_not_there,
@@ -40,9 +38,8 @@ fn fly_over_one_unit(rt: &impl Abort, alloc: Global, kinds: &Kinds)
     play_all(rt, alloc, system, &[], &refuse_by_the_first_in_flight());
     play_all(rt, alloc, system, &[], &ask_for_rights());
     play_all(rt, alloc, system, &[], &begin_too_many());
-    let device = run_commands(rt, alloc, kinds, Board::Engine, FOR_ENGINE);
-    assert!(rt; device.log().len() == 5);
-    play_all(rt, alloc, system, device.log(), &play_one_unit());
+    let run = (Board::Engine, FOR_ENGINE, 5);
+    play_run(rt, alloc, system, kinds, run, &play_one_unit());
 }
 
 /// All that is looked up behind two units in a row.
@@ -52,9 +49,8 @@ fn fly_over_two_units(rt: &impl Abort, alloc: Global, kinds: &Kinds)
     let sky = sky_of(rt, alloc, kinds, two_unit_plan(rt, alloc));
     let system = system_of(&sky, kinds);
     play_all(rt, alloc, system, &[], &follow_two_units());
-    let device = run_commands(rt, alloc, kinds, Board::Phi, FOR_PHI);
-    assert!(rt; device.log().len() == 9);
-    play_all(rt, alloc, system, device.log(), &play_two_units());
+    let run = (Board::Phi, FOR_PHI, 9);
+    play_run(rt, alloc, system, kinds, run, &play_two_units());
 }
 
 /// The bus, and behind it an agent `phi`, node 4, whose addresses go through `smpt`, node 5, then over

@@ -44,7 +44,7 @@ pub fn answer(
 }
 
 /// The words, as the program has them after its name.
-fn words_of(rt: &impl Abort, alloc: Global, list: &[&str]) -> Words {
+pub(crate) fn words_of(rt: &impl Abort, alloc: Global, list: &[&str]) -> Words {
     let mut words = Words::new(alloc);
     for word in list {
         words.push(word).expect(rt, "memory");
@@ -53,7 +53,7 @@ fn words_of(rt: &impl Abort, alloc: Global, list: &[&str]) -> Words {
 }
 
 /// The same with the kinds that are handed in.
-fn answer_with(
+pub(crate) fn answer_with(
     rt: &impl Abort,
     alloc: Global,
     words: &Words,

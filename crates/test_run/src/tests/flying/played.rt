@@ -1,15 +1,16 @@
 //! The logs of runs, played event by event with lookups between.
 
 ghost use Rattle.dn_kind.specs.Terms.{AreKinds};
+ghost use Rattle.dn_view.specs.Terms.{IsSystem};
 
+use crate::failing::failing_calls;
 use crate::tests::boards::{Board, text_of};
-use crate::tests::flying::playing::{Act, begin, name, read};
-use dn_base::memory::{MemSink, MemSource};
-use dn_base::memory_tables::MemTables;
+use crate::tests::flying::playing::{Act, begin, name, play_all, read};
+use crate::tests::outcome::{answer_with, words_of};
 use dn_flight::event::{Event, FlightFault};
 use dn_kind::kinds::Kinds;
-use dn_tool::run;
-use dn_tool::words::Words;
+use dn_tool::run::DONE;
+use dn_view::system::System;
 use std::alloc::Global;
 use std::process::Abort;
 
@@ -25,27 +26,28 @@ revoke a;
 grant b phi dram 0x6000 0x1000;
 ";
 
-/// Runs the commands for a board over a device in memory, which keeps the log.
-pub(crate) fn run_commands(
+/// Plays the log of a run of commands for a board, which has so many events.
+pub(crate) fn play_run(
     rt: &impl Abort,
     alloc: Global,
+    system: System,
     kinds: &Kinds,
-    board: Board,
-    commands: &str,
-) -> MemTables
-    requires { AreKinds meaning kinds.now }
+    run: (Board, &str, usize),
+    acts: &[Act],
+)
+    requires system { IsSystem meaning system }
+    requires kinds { AreKinds meaning kinds.now }
 {
+    let (board, commands, count) = run;
     assert!(rt; kinds.len() <= 255);
-    let mut words = Words::new(alloc);
-    words.push("run").expect(rt, "memory");
+    let words = words_of(rt, alloc, &["run"]);
     let text = text_of(rt, alloc, board, commands);
-    let bytes = text.as_bytes().to_vec(alloc).expect(rt, "memory");
-    let mut source = MemSource::new(bytes, 4096, Vec::new(alloc));
-    let mut sink = MemSink::new(alloc, Vec::new(alloc));
-    let mut device = MemTables::new(alloc, 100, Vec::new(alloc)).expect(rt, "a device");
-    let status = run::run(alloc, &words, kinds, &mut source, &mut sink, &mut device);
-    assert!(rt; status == run::DONE);
-    device
+    let none = failing_calls(&[]);
+    let outcome = answer_with(rt, alloc, &words, kinds, text.as_bytes(), 4096, none);
+    assert!(rt; outcome.status == DONE);
+    let log = outcome.device.log();
+    assert!(rt; log.len() == count);
+    play_all(rt, alloc, system, log, acts);
 }
 
 /// Lookups before, inside and after a revoke, behind one unit. The log has five events: unit 5 is made, the first
