@@ -22,27 +22,26 @@ fn compare(rt: &impl Abort, printed: Result<String, AllocError>, wanted: &str) {
 
 #[test]
 fn names_each_refusal_of_a_grant(rt: HostRuntime) {
-    use GrantRefusal::{BookFull, IdUsed, NoAgent, NoPlacement, NoTarget};
+    use GrantRefusal::{BookFull, IdUsed, NoAgent, NoTarget};
     let first = GrantRefusal::NotAccepted { first: 0x1000 };
-    let tested = format!(in rt.alloc(); "{IdUsed} {NoAgent} {NoTarget} {first} {BookFull}");
+    let printed = format!(in rt.alloc(); "{IdUsed} {NoAgent} {NoTarget} {BookFull} {first}");
     compare(
         &rt,
-        tested,
-        "IdUsed NoAgent NoTarget NotAccepted 0x1000 BookFull",
+        printed,
+        "IdUsed NoAgent NoTarget BookFull NotAccepted 0x1000",
     );
-    let searched = format!(in rt.alloc(); "{NoPlacement}");
-    compare(&rt, searched, "NoPlacement");
 }
 
 #[test]
 fn names_each_fault_of_a_grant(rt: HostRuntime) {
-    let refused = GrantFault::Refused(GrantRefusal::IdUsed);
+    let whole = GrantFault::Refused(GrantRefusal::NoPlacement);
+    let pieces = GrantFault::Refused(GatherRefusal::NoPlacement);
     let (failed, short) = (
         GrantFault::<GrantRefusal>::Device,
         GrantFault::<GrantRefusal>::OutOfMemory,
     );
-    let printed = format!(in rt.alloc(); "{refused} {failed} {short}");
-    compare(&rt, printed, "IdUsed Device OutOfMemory");
+    let printed = format!(in rt.alloc(); "{whole} {pieces} {failed} {short}");
+    compare(&rt, printed, "NoPlacement NoPlacement Device OutOfMemory");
 }
 
 #[test]
@@ -62,18 +61,16 @@ fn names_each_fault_of_a_book(rt: HostRuntime) {
 
 #[test]
 fn names_each_refusal_of_pieces(rt: HostRuntime) {
-    use GatherRefusal::{BookFull, IdUsed, NoAgent, NoPlacement, NoTarget, NotAccepted};
+    use GatherRefusal::{BookFull, IdUsed, NoAgent, NoTarget, NotAccepted};
     let (used, none) = (IdUsed { piece: 1 }, NoTarget { piece: 2 });
     let (piece, first) = (7, 0x1000);
     let past = NotAccepted { piece, first };
-    let printed = format!(in rt.alloc(); "{used} {NoAgent} {none} {past} {BookFull}");
+    let printed = format!(in rt.alloc(); "{used} {NoAgent} {none} {BookFull} {past}");
     compare(
         &rt,
         printed,
-        "IdUsed 1 NoAgent NoTarget 2 NotAccepted 7 0x1000 BookFull",
+        "IdUsed 1 NoAgent NoTarget 2 BookFull NotAccepted 7 0x1000",
     );
-    let last = format!(in rt.alloc(); "{NoPlacement}");
-    compare(&rt, last, "NoPlacement");
 }
 
 #[test]
