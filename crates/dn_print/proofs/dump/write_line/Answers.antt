@@ -1,4 +1,4 @@
-use Rattle.std.proofs.Common.{◌≡◌, ◌∙◌, ◌++◌, List, ℕ, ap, refl}
+use Rattle.std.proofs.Common.{◌∙◌, ◌++◌, List, ℕ, ap, refl}
 use Rattle.dn_print.proofs.Dumped.{zero_line}
 use Rattle.dn_print.proofs.dump.write_line.Goals as goal
 
