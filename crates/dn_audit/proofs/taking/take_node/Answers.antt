@@ -1,9 +1,7 @@
 use Rattle.std.proofs.Common.{◌≡◌, ◌∙◌, ◌+◌, ◌<◌, ◌≤◌, ◌++◌, is_some, List, [], Some, None, slice_index_or, ap, sym, append-nil, arith, rules}
-use Rattle.std.specs.List.{All}
 use Rattle.std.specs.Option.{option_copied}
 use Rattle.dn_net.specs.Decode.{unit_at}
 use Rattle.dn_net.proofs.Steps.{unit_is}
-use Rattle.dn_kind.specs.Kind.{IsLawful}
 use Rattle.dn_kind.specs.Kinded.{kinds_of}
 use Rattle.dn_kind.specs.Tables.{AreHeld}
 use Rattle.dn_tables.proofs.Slots.{all_of_map}
