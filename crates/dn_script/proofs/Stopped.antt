@@ -1,5 +1,5 @@
 -- What a device tells of the tables: those of a book, and those that a fault left inside a turn.
-use Rattle.std.proofs.Common.{◌≡◌, ◌∙◌, ap, sym, subst, refl, ℕ, inl, Bool, true, false, List, [], ◌∷◌, ◌++◌, length, Option, Some, Result, Ok, Err}
+use Rattle.std.proofs.Common.{◌≡◌, ◌∙◌, ap, sym, subst, refl, ℕ, inl, Bool, true, false, List, [], ◌∷◌, ◌++◌, length, Option, Some, Result, Ok, Err, IfOk}
 use Rattle.std.specs.Option.{IfSome}
 use Rattle.dn_base.specs.declared.device.TableEvent.{TableEvent}
 use Rattle.dn_base.specs.declared.device.UnitWords.{UnitWords}
@@ -35,7 +35,7 @@ use Rattle.dn_script.specs.declared.halt.RunHalt.{RunHalt}
 use Rattle.dn_script.specs.declared.halt.RunHalt.TheVariants.{DeviceFault, NoMemory}
 use Rattle.dn_script.specs.Asked.{numbered}
 use Rattle.dn_script.specs.Changed.{gathered_text, granted_text, revoked_text, routed_text}
-use Rattle.dn_script.specs.Halt.{HaltsByDevice, is_device_halt, refusal_or_halt}
+use Rattle.dn_script.specs.Halt.{HaltsByDevice, is_device_halt, refusal_or_halt, reply_or_halt}
 use Rattle.dn_script.specs.Ids.{id_number, with_id}
 use Rattle.dn_script.specs.declared.machine.Machine.{Machine}
 use Rattle.dn_script.specs.declared.state.Session.{Session as Kept}
@@ -90,18 +90,16 @@ module _ (kinds : List Meaning) (net : List NodeDecl) (s : State) (id : List ℕ
 pub done_as : {A K : Type 0} {V : K → Type 0} (means : (k : K) × V k → Meaning) (m : Machine K V) (P : A → Turn → Type 0) (a b : A) (r : Result (List ℕ) RunHalt) (k k' : Kept) (log log' : Option (List TableEvent)) (units : List UnitSize) (words : Option (List UnitWords)) (x y : Faults) → a ≡ b → IsChangeDone means m (P a) r k k' log log' units words x y → IsChangeDone means m (P b) r k k' log log' units words x y
 done_as {A} means m P a b r k k' log log' units words x y e = subst (λ (c : A). IsChangeDone means m (P c) r k k' log log' units words x y) e
 
--- a change that was gone through, and its reply
-pub done_said : {K : Type 0} {V : K → Type 0} (means : (k : K) × V k → Meaning) (m : Machine K V) (P : Turn → Type 0) (reply text : List ℕ) (k k' : Kept) (log log' : Option (List TableEvent)) (units : List UnitSize) (words : Option (List UnitWords)) (x y : Faults) → text ≡ reply → IsChanged P (state_view k') reply log log' → IsReadyOn means m k' units words → IsCounted x y false → IsChangeDone means m P (Ok text) k k' log log' units words x y
-done_said means m P reply text k k' log log' units words x y is changed ready counted = record {
-  changed = subst (λ (t : List ℕ). IsChanged P (state_view k') t log log') (sym is) changed;
-  caught = λ f. cc;
-  ready = ready;
-  halted = record { no_write = refl; counted = counted };
-}
-
--- a change that was made, and for whose reply there was no memory
-pub done_unsaid : {K : Type 0} {V : K → Type 0} (means : (k : K) × V k → Meaning) (m : Machine K V) (P : Turn → Type 0) (r : Result (List ℕ) RunHalt) (reply : List ℕ) (k k' : Kept) (log log' : Option (List TableEvent)) (units : List UnitSize) (words : Option (List UnitWords)) (x y : Faults) → r ≡ Err NoMemory → IsChanged P (state_view k') reply log log' → IsCounted x y false → IsChangeDone means m P r k k' log log' units words x y
-done_unsaid means m P r reply k k' log log' units words x y e changed counted =
+-- a change that was gone through, and its reply, or no memory for that
+pub done_replied : {K : Type 0} {V : K → Type 0} {E : Type 0} (means : (k : K) × V k → Meaning) (m : Machine K V) (P : Turn → Type 0) (made : Result (List ℕ) E) (r : Result (List ℕ) RunHalt) (reply : List ℕ) (k k' : Kept) (log log' : Option (List TableEvent)) (units : List UnitSize) (words : Option (List UnitWords)) (x y : Faults) → r ≡ reply_or_halt made → IfOk made (λ t. t ≡ reply) → IsChanged P (state_view k') reply log log' → IsReadyOn means m k' units words → IsCounted x y false → IsChangeDone means m P r k k' log log' units words x y
+done_replied means m P (Ok text) r reply k k' log log' units words x y e is changed ready counted =
+    subst (λ (q : Result (List ℕ) RunHalt). IsChangeDone means m P q k k' log log' units words x y) (sym e) (record {
+      changed = subst (λ (t : List ℕ). IsChanged P (state_view k') t log log') (sym is) changed;
+      caught = λ f. cc;
+      ready = ready;
+      halted = record { no_write = refl; counted = counted };
+    })
+done_replied means m P (Err none) r reply k k' log log' units words x y e is changed ready counted =
     subst (λ (q : Result (List ℕ) RunHalt). IsChangeDone means m P q k k' log log' units words x y) (sym e) (record {
       changed = halted_after P (Err NoMemory) (state_view k') (state_view k') reply log log' refl changed;
       caught = λ f. cc;
@@ -123,10 +121,10 @@ abbrev pub refused_state : Kept → BookState → List (List ℕ) → Option Fla
 refused_state k book ids flats = record { book = book; ids = ids; image = k.image; first = k.first; flats = flats; unmade = k.unmade }
 
 -- a change that was refused: the book and the device are as they were
-pub done_refused : {K : Type 0} {V : K → Type 0} (means : (k : K) × V k → Meaning) (m : Machine K V) (P : Turn → Type 0) (text : List ℕ) (k : Kept) (book : BookState) (ids named : List (List ℕ)) (flats : Option FlatsView) (log log' : Option (List TableEvent)) (units : List UnitSize) (words : Option (List UnitWords)) (x y : Faults) → IsMachine means m → IsState (kinds_of means m.on.kinds.now) m.on.net.now k → book ≡ k.book → ids ≡ named → IfSome flats (AreFlats m.on.net.now) → IsOnDevice book.set units words → y ≡ x → (record { book = k.book.grants; cleared = k.book.cleared; ids = named } ≡ state_view (refused_state k book ids flats) → IsChanged P (state_view (refused_state k book ids flats)) text log log') → IsChangeDone means m P (Ok text) k (refused_state k book ids flats) log log' units words x y
-done_refused means m P text k book ids named flats log log' units words x y machine state same is reach on unfailed changed =
+pub done_refused : {K : Type 0} {V : K → Type 0} {E : Type 0} (means : (k : K) × V k → Meaning) (m : Machine K V) (P : Turn → Type 0) (made : Result (List ℕ) E) (r : Result (List ℕ) RunHalt) (text : List ℕ) (k : Kept) (book : BookState) (ids named : List (List ℕ)) (flats : Option FlatsView) (log log' : Option (List TableEvent)) (units : List UnitSize) (words : Option (List UnitWords)) (x y : Faults) → r ≡ reply_or_halt made → IfOk made (λ t. t ≡ text) → IsMachine means m → IsState (kinds_of means m.on.kinds.now) m.on.net.now k → book ≡ k.book → ids ≡ named → IfSome flats (AreFlats m.on.net.now) → IsOnDevice book.set units words → y ≡ x → (record { book = k.book.grants; cleared = k.book.cleared; ids = named } ≡ state_view (refused_state k book ids flats) → IsChanged P (state_view (refused_state k book ids flats)) text log log') → IsChangeDone means m P r k (refused_state k book ids flats) log log' units words x y
+done_refused means m P made r text k book ids named flats log log' units words x y e said machine state same is reach on unfailed changed =
     let after : Kept = refused_state k book ids flats in
-    done_said means m P text text k after log log' units words x y refl
+    done_replied means m P made r text k after log log' units words x y e said
     (changed (state_named after (state_view k) named k.book same refl refl is))
     (record { machine = machine; state = state_same (kinds_of means m.on.kinds.now) m.on.net.now k after state same refl state.first reach state.unmade; on_device = on })
     (subst (λ f. IsCounted x f false) (sym unfailed) (counted_none x))
@@ -161,15 +159,15 @@ halted_done {K} {V} {R} {D} {means} {m} {P} {k} {k'} {Outcome} {Added} {book} {u
     })
 
 -- a call that granted nothing and is refused
-pub refusal_done : {K : Type 0} {V : K → Type 0} {R D : Type 0} {means : (k : K) × V k → Meaning} {m : Machine K V} {P : Turn → Type 0} {k : Kept} {Outcome : Option (Result ℕ R) → List GrantPart → Type 0} {Added : Bool → Option (List TableEvent) → Option (List TableEvent) → Type 0} {book : BookState} {units : D → List UnitSize} {words : D → Option (List UnitWords)} {faults : D → Faults} {log : D → Option (List TableEvent)} {d d' : D} (fault : GrantFault R) (why : R) (ids named : List (List ℕ)) (flats : Option FlatsView) (text : List ℕ) → IsMachine means m → IsState (kinds_of means m.on.kinds.now) m.on.net.now k → IsGrantDone means m.on Outcome Added (Err fault) k.book book units words faults log d d' → refusal_or_halt fault ≡ Ok why → ids ≡ named → IfSome flats (AreFlats m.on.net.now) → (Outcome (Some (Err why)) book.grants → P (reply_turn text (record { book = k.book.grants; cleared = k.book.cleared; ids = named }))) → IsChangeDone means m P (Ok text) k (refused_state k book ids flats) (log d) (log d') (units d') (words d') (faults d) (faults d')
-refusal_done {K} {V} {R} {D} {means} {m} {P} {k} {Outcome} {Added} {book} {units} {words} {faults} {log} {d} {d'} (Refused said) why ids named flats text machine state done e names reach turn =
+pub refusal_done : {K : Type 0} {V : K → Type 0} {R D E : Type 0} {means : (k : K) × V k → Meaning} {m : Machine K V} {P : Turn → Type 0} {k : Kept} {Outcome : Option (Result ℕ R) → List GrantPart → Type 0} {Added : Bool → Option (List TableEvent) → Option (List TableEvent) → Type 0} {book : BookState} {units : D → List UnitSize} {words : D → Option (List UnitWords)} {faults : D → Faults} {log : D → Option (List TableEvent)} {d d' : D} (fault : GrantFault R) (why : R) (ids named : List (List ℕ)) (flats : Option FlatsView) (made : Result (List ℕ) E) (r : Result (List ℕ) RunHalt) (text : List ℕ) → r ≡ reply_or_halt made → IfOk made (λ t. t ≡ text) → IsMachine means m → IsState (kinds_of means m.on.kinds.now) m.on.net.now k → IsGrantDone means m.on Outcome Added (Err fault) k.book book units words faults log d d' → refusal_or_halt fault ≡ Ok why → ids ≡ named → IfSome flats (AreFlats m.on.net.now) → (Outcome (Some (Err why)) book.grants → P (reply_turn text (record { book = k.book.grants; cleared = k.book.cleared; ids = named }))) → IsChangeDone means m P r k (refused_state k book ids flats) (log d) (log d') (units d') (words d') (faults d) (faults d')
+refusal_done {K} {V} {R} {D} {E} {means} {m} {P} {k} {Outcome} {Added} {book} {units} {words} {faults} {log} {d} {d'} (Refused said) why ids named flats made r text by reply machine state done e names reach turn =
     let is : said ≡ why = cc in
     let same = done.unchanged refl (λ q. cc) in
     let before : State = record { book = k.book.grants; cleared = k.book.cleared; ids = named } in
-    done_refused means m P text k book ids named flats (log d) (log d') (units d') (words d') (faults d) (faults d') machine state same.0 names reach done.changed.on_device (ap faults same.1)
+    done_refused means m P made r text k book ids named flats (log d) (log d') (units d') (words d') (faults d) (faults d') by reply machine state same.0 names reach done.changed.on_device (ap faults same.1)
     (refused_turn P before (state_view (refused_state k book ids flats)) text text (log d) (log d') (turn (subst (λ (w : R). Outcome (Some (Err w)) book.grants) is done.turn)) refl (ap log same.1))
-refusal_done grant_fault.Device why ids named flats text machine state done e names reach turn = cc
-refusal_done grant_fault.OutOfMemory why ids named flats text machine state done e names reach turn = cc
+refusal_done grant_fault.Device why ids named flats made r text by reply machine state done e names reach turn = cc
+refusal_done grant_fault.OutOfMemory why ids named flats made r text by reply machine state done e names reach turn = cc
 
 -- what a grant leaves at which the device failed, under the number of its id
 pub grant_cut : (kinds : List Meaning) (net : List NodeDecl) (s next : State) (id : List ℕ) (rq : Request) (n : ℕ) (set : List NodeTable) (log log' : Option (List TableEvent)) (units : List UnitSize) (words : Option (List UnitWords)) → FitsNet net kinds set → IsOnDevice set units words → n ≡ id_number s.ids id → IsGrantLogged net kinds s.book s.cleared n rq true log log' (words_of set) → CameThroughChange (IsGrantTurn kinds net s id rq) (Err DeviceFault) next log log' × IsStopped kinds net s.book (IsGrantTurn kinds net s id rq) words

@@ -56,6 +56,11 @@ abbrev pub make_halt : DeviceOrMemory → RunHalt
 make_halt Device = DeviceFault
 make_halt OutOfMemory = NoMemory
 
+-- the reply, or the halt that want of memory for it is
+abbrev pub reply_or_halt : {E : Type 0} → Result (List ℕ) E → Result (List ℕ) RunHalt
+reply_or_halt (Ok reply) = Ok reply
+reply_or_halt (Err _) = Err NoMemory
+
 -- the refusal for which nothing was granted, or the halt that the fault is
 abbrev pub refusal_or_halt : {R : Type 0} → GrantFault R → Result R RunHalt
 refusal_or_halt (Refused why) = Ok why

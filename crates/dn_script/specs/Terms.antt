@@ -4,7 +4,7 @@ pub use Rattle.dn_script.specs.Books.{BooksStayFaithful, FaithfulImageGivesOwed}
 pub use Rattle.dn_script.specs.Changed.{gather_refused_text, gathered_text, grant_refused_text, granted_text, refused_piece_text, refused_text, revoked_text, route_refused_text, routed_text}
 pub use Rattle.dn_script.specs.Flown.{LookupsAreGiven}
 pub use Rattle.dn_script.specs.Found.{access_of, access_text, agent_of, asked_text, found_text, names_under, node_refused_text}
-pub use Rattle.dn_script.specs.Halt.{HaltsByDevice, HaltsByEither, HaltsBySink, Writes, ending_status, is_free_status, make_halt, refusal_or_halt}
+pub use Rattle.dn_script.specs.Halt.{HaltsByDevice, HaltsByEither, HaltsBySink, Writes, ending_status, is_free_status, make_halt, refusal_or_halt, reply_or_halt}
 pub use Rattle.dn_script.specs.Ids.{id_number, with_id}
 pub use Rattle.dn_script.specs.Machine.{IsMachine, MayRun}
 pub use Rattle.dn_script.specs.Played.{IsPlayed, IsPlayedOn}

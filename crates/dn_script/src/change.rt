@@ -7,7 +7,7 @@ ghost use Rattle.dn_grant.specs.declared.refusal.GrantRefusal.TheVariants.{NotAc
 ghost use Rattle.dn_script.specs.Terms.{IsChangeDone, IsGrantTurn, IsReadyOn, IsRevokeTurn, IsRouteTurn, IsTurn, grant_refused_text, granted_text, is_change, number_or_none, refused_text, request_of, revoked_text, rights_of, route_refused_text, routed_text, state_view};
 
 use crate::OutOfMemory;
-use crate::halt::{RunHalt, refusal_or_halt};
+use crate::halt::{RunHalt, refusal_or_halt, reply_or_halt};
 use crate::machine::Machine;
 use crate::pieces::gather_change;
 use crate::state::{Session, keep_flats, kept_flats, renew};
@@ -142,11 +142,11 @@ fn grant_change<D: Tables>(
     match grant(alloc, &mut state.book, system, number, request, device) {
         Ok(v) => {
             renew(machine, state);
-            Ok(granted_reply(alloc, id, v)?)
+            reply_or_halt(granted_reply(alloc, id, v))
         }
         Err(fault) => {
             let why = refusal_or_halt(fault)?;
-            Ok(grant_refused(alloc, id, why)?)
+            reply_or_halt(grant_refused(alloc, id, why))
         }
     }
 }
@@ -188,11 +188,11 @@ fn route_change<D: Tables>(
     ) {
         Ok(vector) => {
             renew(machine, state);
-            Ok(routed_reply(alloc, id, vector)?)
+            reply_or_halt(routed_reply(alloc, id, vector))
         }
         Err(fault) => {
             let why = refusal_or_halt(fault)?;
-            Ok(route_refused(alloc, id, why)?)
+            reply_or_halt(route_refused(alloc, id, why))
         }
     }
 }
@@ -216,9 +216,9 @@ fn revoke_change<D: Tables>(
     match state.book.revoke(machine.on, number, device) {
         Ok(()) => {
             renew(machine, state);
-            Ok(revoked_reply(alloc, id)?)
+            reply_or_halt(revoked_reply(alloc, id))
         }
-        Err(RevokeFault::NoGrant) => Ok(refused_reply(alloc, id, "NoGrant")?),
+        Err(RevokeFault::NoGrant) => reply_or_halt(refused_reply(alloc, id, "NoGrant")),
         Err(RevokeFault::Device) => Err(RunHalt::DeviceFault),
     }
 }

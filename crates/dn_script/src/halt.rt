@@ -1,11 +1,12 @@
 //! Why an answer stops before its end.
 
 ghost use Rattle.std.specs.Prelude.{◌≡◌};
-ghost use Rattle.dn_script.specs.Terms.{ending_status, make_halt, refusal_or_halt};
+ghost use Rattle.dn_script.specs.Terms.{ending_status, make_halt, refusal_or_halt, reply_or_halt};
 ghost use Rattle.dn_script.specs.declared.halt.RunHalt.TheVariants.{NoMemory as no_memory};
 
 use crate::OutOfMemory;
 use dn_base::device::DeviceOrMemory;
+use dn_base::items::Items;
 use dn_grant::fault::GrantFault;
 use std::fmt::Display;
 
@@ -56,6 +57,13 @@ pub fn status_of(ended: Result<u8, RunHalt>) -> u8
         Err(RunHalt::DeviceFault) => DEVICE_FAULT,
         Err(RunHalt::NoMemory) => NO_MEMORY,
     }
+}
+
+/// The reply. `Err` is what stops the run where there was no memory for it.
+pub(crate) fn reply_or_halt(reply: Result<Items<u8>, OutOfMemory>) -> Result<Items<u8>, RunHalt>
+    ensures { result ≡ reply_or_halt reply }
+{
+    Ok(reply?)
 }
 
 /// The refusal for which nothing was granted. `Err` is what the fault stops the run by: a fault of the device, or want of

@@ -7,7 +7,7 @@ ghost use Rattle.dn_script.specs.Terms.{IsChangeDone, IsGatherTurn, IsReadyOn, g
 
 use crate::OutOfMemory;
 use crate::change::{number_or_none, refused_reply};
-use crate::halt::{RunHalt, refusal_or_halt};
+use crate::halt::{RunHalt, refusal_or_halt, reply_or_halt};
 use crate::ids::Ids;
 use crate::machine::Machine;
 use crate::state::{Session, keep_flats, kept_flats, renew};
@@ -59,11 +59,11 @@ pub fn gather_change<D: Tables>(
     ) {
         Ok(v) => {
             renew(machine, state);
-            Ok(gathered_reply(alloc, v, pieces.len())?)
+            reply_or_halt(gathered_reply(alloc, v, pieces.len()))
         }
         Err(fault) => {
             let why = refusal_or_halt(fault)?;
-            Ok(gather_refused(alloc, why)?)
+            reply_or_halt(gather_refused(alloc, why))
         }
     }
 }

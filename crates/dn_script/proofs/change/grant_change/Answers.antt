@@ -1,11 +1,11 @@
-use Rattle.std.proofs.Common.{rules, ◌∙◌, ap, sym, subst, inr, List, ℕ}
+use Rattle.std.proofs.Common.{rules, ◌∙◌, sym, subst, refl, inr}
 use Rattle.dn_kind.specs.Kinded.{kinds_of}
 use Rattle.dn_grant.specs.Grant.{IsGrantRefused}
-use Rattle.dn_script.specs.Changed.{granted_text}
+use Rattle.dn_script.specs.Changed.{grant_refused_text, granted_text}
 use Rattle.dn_script.specs.State.{IsChanged, state_view}
-use Rattle.dn_script.specs.Turn.{IsGrantTurn, reply_turn, state_with_id}
+use Rattle.dn_script.specs.Turn.{IsGrantTurn}
 use Rattle.dn_script.proofs.Changes.{state_granted}
-use Rattle.dn_script.proofs.Stopped.{done_said, done_unsaid, grant_cut, halted_done, refusal_done}
+use Rattle.dn_script.proofs.Stopped.{done_replied, grant_cut, halted_done, refusal_done}
 use Rattle.dn_script.proofs.change.grant_change.Given.{Over}
 use Rattle.dn_script.proofs.change.grant_change.Goals.{After-renew}
 use Rattle.dn_script.proofs.change.grant_change.Goals as goal
@@ -18,22 +18,19 @@ made : (g : Over) (c : After-renew g) → IsChanged (IsGrantTurn (kinds_of (λ k
 made g c =
     state_granted (kinds_of (λ k. (goal.UnitKind-dyn g k).meaning k.1) c.args.machine.on.kinds.now) c.args.machine.on.net.now c.args.state.now c.renew.new.state c.args.id.now c.args.request.now c.in_ok-number.number c.in-Ok.v c.grant.new.book _ _ _ c.in_ok-number.ensures.number c.in-Ok.ensures.turn c.in-Ok.ensures.granted c.renew.ensures.still.book (c.renew.ensures.still.ids ∙ c.in_ok-number.ensures.ids) c.in-Ok.ensures.changed.fenced
 
-pub returns-in_err-granted_reply-in-Ok : goal.returns-in_err-granted_reply-in-Ok
-returns-in_err-granted_reply-in-Ok g c = done_unsaid _ _ _ c.from_residual-in_err-granted_reply-in-Ok.result _ _ c.renew.new.state _ _ _ _ _ _ (search rules) (made g (goal.at.returns-in_err-granted_reply-in-Ok g c).After-renew) c.in-Ok.ensures.changed.counted
-
-pub returns-in_ok-granted_reply-in-Ok : goal.returns-in_ok-granted_reply-in-Ok
-returns-in_ok-granted_reply-in-Ok g c = done_said _ _ _ (granted_text c.args.id.now c.in-Ok.v) _ _ c.renew.new.state _ _ _ _ _ _ c.in_ok-granted_reply-in-Ok.ensures (made g (goal.at.returns-in_ok-granted_reply-in-Ok g c).After-renew) (search rules) c.in-Ok.ensures.changed.counted
+pub returns-in-Ok : goal.returns-in-Ok
+returns-in-Ok g c = done_replied _ _ _ c.granted_reply.result _ (granted_text c.args.id.now c.in-Ok.v) _ c.renew.new.state _ _ _ _ _ _ c.reply_or_halt.ensures c.granted_reply.ensures (made g (goal.at.returns-in-Ok g c).After-renew) (search rules) c.in-Ok.ensures.changed.counted
 
 pub returns-in_err-why-in-Err : goal.returns-in_err-why-in-Err
 returns-in_err-why-in-Err g c =
     halted_done c.in-Err.fault c.in_err-why-in-Err.field-0.0 c.from_residual-in_err-why-in-Err.result c.in-Err.ensures (sym c.refusal_or_halt.ensures ∙ c.in_err-why-in-Err.was) (search rules)
     (grant_cut (kinds_of (λ k. (goal.UnitKind-dyn g k).meaning k.1) c.args.machine.on.kinds.now) c.args.machine.on.net.now (state_view c.args.state.now) (state_view c.args.state.now) c.args.id.now c.args.request.now c.in_ok-number.number c.grant.new.book.set _ _ _ _ c.grant.ensures.changed.fits c.grant.ensures.changed.on_device c.in_ok-number.ensures.number)
 
-pub returns-in_ok-grant_refused-in-Err : goal.returns-in_ok-grant_refused-in-Err
-returns-in_ok-grant_refused-in-Err g c =
-    refusal_done c.in-Err.fault c.in_ok-why-in-Err.why c.number.new.self _ c.keep_flats.new.flats _ c.requires.ready.machine c.requires.ready.state c.in-Err.ensures (sym c.refusal_or_halt.ensures ∙ c.in_ok-why-in-Err.was) c.in_ok-number.ensures.ids c.in_ok-keep_flats.ensures.flat
+pub returns-in_ok-why-in-Err : goal.returns-in_ok-why-in-Err
+returns-in_ok-why-in-Err g c =
+    refusal_done c.in-Err.fault c.in_ok-why-in-Err.why c.number.new.self _ c.keep_flats.new.flats c.grant_refused.result _ (grant_refused_text c.args.id.now c.in_ok-why-in-Err.why) c.reply_or_halt-in-Err.ensures c.grant_refused.ensures c.requires.ready.machine c.requires.ready.state c.in-Err.ensures (sym c.refusal_or_halt.ensures ∙ c.in_ok-why-in-Err.was) c.in_ok-number.ensures.ids c.in_ok-keep_flats.ensures.flat
     (λ o. inr (record {
       why = c.in_ok-why-in-Err.why;
       refused = subst (λ i. IsGrantRefused c.args.machine.on.net.now c.args.state.now.book.grants i c.args.request.now c.in_ok-why-in-Err.why) c.in_ok-number.ensures.number o.0;
-      is_turn = ap (λ (t : List ℕ). reply_turn t (state_with_id (state_view c.args.state.now) c.args.id.now)) c.in_ok-grant_refused-in-Err.ensures;
+      is_turn = refl;
     }))

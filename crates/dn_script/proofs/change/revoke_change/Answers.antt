@@ -8,12 +8,12 @@ use Rattle.dn_tables.specs.Set.{words_of}
 use Rattle.dn_book.specs.Between.{IsCaught}
 use Rattle.dn_book.specs.Book.{has_id, without_id}
 use Rattle.dn_script.specs.declared.halt.RunHalt.TheVariants.{DeviceFault}
-use Rattle.dn_script.specs.Changed.{revoked_text}
+use Rattle.dn_script.specs.Changed.{revoke_refused_text, revoked_text}
 use Rattle.dn_script.specs.Ids.{id_number, with_id}
 use Rattle.dn_script.specs.State.{IsChanged, state_view}
 use Rattle.dn_script.specs.Turn.{IsRevokeTurn, State}
 use Rattle.dn_script.proofs.Changes.{not_revoked_turn, revoke_stopped, state_revoked}
-use Rattle.dn_script.proofs.Stopped.{done_refused, done_said, done_stopped, done_unsaid, revoke_caught}
+use Rattle.dn_script.proofs.Stopped.{done_refused, done_replied, done_stopped, revoke_caught}
 use Rattle.dn_script.proofs.change.revoke_change.Given.{Over}
 use Rattle.dn_script.proofs.change.revoke_change.Goals.{After-renew}
 use Rattle.dn_script.proofs.change.revoke_change.Goals as goal
@@ -26,20 +26,17 @@ made : (g : Over) (c : After-renew g) → IsChanged (IsRevokeTurn (kinds_of (λ 
 made g c =
     state_revoked (kinds_of (λ k. (goal.UnitKind-dyn g k).meaning k.1) c.args.machine.on.kinds.now) c.args.machine.on.net.now c.args.state.now c.renew.new.state c.args.id.now c.in_ok-number.number c.revoke.new.self _ _ c.in_ok-number.ensures.number (λ e. let x = c.in-Ok.ensures.unknown.1 e in cc) c.in-Ok.ensures.added c.in-Ok.ensures.revoked c.renew.ensures.still.book (c.renew.ensures.still.ids ∙ c.in_ok-number.ensures.ids) c.in-Ok.ensures.changed.fenced
 
-pub returns-in_err-revoked_reply-in-Ok : goal.returns-in_err-revoked_reply-in-Ok
-returns-in_err-revoked_reply-in-Ok g c = done_unsaid _ _ _ c.from_residual-in_err-revoked_reply-in-Ok.result _ _ c.renew.new.state _ _ _ _ _ _ (search rules) (made g (goal.at.returns-in_err-revoked_reply-in-Ok g c).After-renew) c.in-Ok.ensures.changed.counted
+pub returns-in-Ok : goal.returns-in-Ok
+returns-in-Ok g c = done_replied _ _ _ c.revoked_reply.result _ (revoked_text c.args.id.now) _ c.renew.new.state _ _ _ _ _ _ c.reply_or_halt.ensures c.revoked_reply.ensures (made g (goal.at.returns-in-Ok g c).After-renew) (search rules) c.in-Ok.ensures.changed.counted
 
-pub returns-in_ok-revoked_reply-in-Ok : goal.returns-in_ok-revoked_reply-in-Ok
-returns-in_ok-revoked_reply-in-Ok g c = done_said _ _ _ (revoked_text c.args.id.now) _ _ c.renew.new.state _ _ _ _ _ _ c.in_ok-revoked_reply-in-Ok.ensures (made g (goal.at.returns-in_ok-revoked_reply-in-Ok g c).After-renew) (search rules) c.in-Ok.ensures.changed.counted
-
-pub returns-in_ok-refused_reply-in-Err-NoGrant : goal.returns-in_ok-refused_reply-in-Err-NoGrant
-returns-in_ok-refused_reply-in-Err-NoGrant g c =
+pub returns-in-Err-NoGrant : goal.returns-in-Err-NoGrant
+returns-in-Err-NoGrant g c =
     let failed : c.revoke.result ≡ Err NoGrant = c.in-Err-NoGrant.is ∙ ap Err c.in-Err-NoGrant.field-0-is in
     let same = c.revoke.ensures.unchanged failed in
     let state = c.args.state.now in
     let none : has_id (id_number state.ids c.args.id.now) state.book.grants ≡ false = subst (λ n. has_id n state.book.grants ≡ false) c.in_ok-number.ensures.number (c.revoke.ensures.unknown.0 failed) in
-    done_refused _ _ _ _ state c.revoke.new.self c.number.new.self (with_id state.ids c.args.id.now) state.flats _ _ _ _ _ _ c.requires.ready.machine c.requires.ready.state same.0 c.in_ok-number.ensures.ids c.requires.ready.state.flat c.revoke.ensures.changed.on_device (ap g.D.Tables.faults same.1)
-    (not_revoked_turn (kinds_of (λ k. (goal.UnitKind-dyn g k).meaning k.1) c.args.machine.on.kinds.now) c.args.machine.on.net.now (state_view state) _ c.args.id.now _ _ _ none c.in_ok-refused_reply-in-Err-NoGrant.ensures (ap g.D.Tables.log same.1))
+    done_refused _ _ _ c.refused_reply.result _ (revoke_refused_text c.args.id.now) state c.revoke.new.self c.number.new.self (with_id state.ids c.args.id.now) state.flats _ _ _ _ _ _ c.reply_or_halt-in-Err-NoGrant.ensures c.refused_reply.ensures c.requires.ready.machine c.requires.ready.state same.0 c.in_ok-number.ensures.ids c.requires.ready.state.flat c.revoke.ensures.changed.on_device (ap g.D.Tables.faults same.1)
+    (not_revoked_turn (kinds_of (λ k. (goal.UnitKind-dyn g k).meaning k.1) c.args.machine.on.kinds.now) c.args.machine.on.net.now (state_view state) _ c.args.id.now _ _ _ none refl (ap g.D.Tables.log same.1))
 
 pub returns-in-Err-Device : goal.returns-in-Err-Device
 returns-in-Err-Device g c =

@@ -1,14 +1,14 @@
-use Rattle.std.proofs.Common.{rules, ◌≡◌, ◌∙◌, ap, sym, subst, inr, false, length, List, ℕ}
+use Rattle.std.proofs.Common.{rules, ◌≡◌, ◌∙◌, sym, subst, refl, inr, false, length, List}
 use Rattle.dn_kind.specs.Kinded.{kinds_of}
 use Rattle.dn_tables.specs.Set.{words_of}
 use Rattle.dn_gather.specs.Gather.{IsGatherLogged, IsGatherMade, IsGatherRefused}
 use Rattle.dn_gather.specs.declared.piece.Piece.{Piece}
 use Rattle.dn_script.specs.Asked.{numbered}
-use Rattle.dn_script.specs.Changed.{gathered_text}
+use Rattle.dn_script.specs.Changed.{gather_refused_text, gathered_text}
 use Rattle.dn_script.specs.State.{IsChanged, state_view}
-use Rattle.dn_script.specs.Turn.{IsGatherTurn, reply_turn, state_with_ids}
+use Rattle.dn_script.specs.Turn.{IsGatherTurn}
 use Rattle.dn_script.proofs.Changes.{numbered_few, state_gathered}
-use Rattle.dn_script.proofs.Stopped.{done_said, done_unsaid, gather_cut, halted_done, refusal_done}
+use Rattle.dn_script.proofs.Stopped.{done_replied, gather_cut, halted_done, refusal_done}
 use Rattle.dn_script.proofs.pieces.gather_change.Given.{Over}
 use Rattle.dn_script.proofs.pieces.gather_change.Goals.{After-renew}
 use Rattle.dn_script.proofs.pieces.gather_change.Goals as goal
@@ -34,11 +34,8 @@ made g c =
     (subst (λ (ps : List Piece). IsGatherLogged c.args.machine.on.net.now (kinds_of (λ k. (goal.UnitKind-dyn g k).meaning k.1) c.args.machine.on.kinds.now) c.args.state.now.book.grants c.args.state.now.book.cleared c.args.agent c.args.rights ps false (g.D.Tables.log c.args.device.now) (g.D.Tables.log c.gather.new.device) (words_of c.gather.new.book.set) c.gather.new.book.grants) (asked g c) c.in-Ok.ensures.granted)
     c.renew.ensures.still.book (c.renew.ensures.still.ids ∙ c.in_ok-asked.ensures.ids) c.in-Ok.ensures.changed.fenced
 
-pub returns-in_err-gathered_reply-in-Ok : goal.returns-in_err-gathered_reply-in-Ok
-returns-in_err-gathered_reply-in-Ok g c = done_unsaid _ _ _ c.from_residual-in_err-gathered_reply-in-Ok.result _ _ c.renew.new.state _ _ _ _ _ _ (search rules) (made g (goal.at.returns-in_err-gathered_reply-in-Ok g c).After-renew) c.in-Ok.ensures.changed.counted
-
 pub returns-in-Ok : goal.returns-in-Ok
-returns-in-Ok g c = done_said _ _ _ (gathered_text c.in-Ok.v (length c.args.pieces.now)) _ _ c.renew.new.state _ _ _ _ _ _ c.in_ok-gathered_reply-in-Ok.ensures (made g (goal.at.returns-in-Ok g c).After-renew) (search rules) c.in-Ok.ensures.changed.counted
+returns-in-Ok g c = done_replied _ _ _ c.gathered_reply.result _ (gathered_text c.in-Ok.v (length c.args.pieces.now)) _ c.renew.new.state _ _ _ _ _ _ c.reply_or_halt.ensures c.gathered_reply.ensures (made g (goal.at.returns-in-Ok g c).After-renew) (search rules) c.in-Ok.ensures.changed.counted
 
 pub returns-in_err-why-in-Err : goal.returns-in_err-why-in-Err
 returns-in_err-why-in-Err g c =
@@ -47,9 +44,9 @@ returns-in_err-why-in-Err g c =
 
 pub returns : goal.returns
 returns g c =
-    refusal_done c.in-Err.fault c.in_ok-why-in-Err.why c.number_pieces.new.ids _ c.keep_flats.new.flats _ c.requires.ready.machine c.requires.ready.state c.in-Err.ensures (sym c.refusal_or_halt.ensures ∙ c.in_ok-why-in-Err.was) c.in_ok-asked.ensures.ids c.in_ok-keep_flats.ensures.flat
+    refusal_done c.in-Err.fault c.in_ok-why-in-Err.why c.number_pieces.new.ids _ c.keep_flats.new.flats c.gather_refused.result _ (gather_refused_text c.in_ok-why-in-Err.why) c.reply_or_halt-in-Err.ensures c.gather_refused.ensures c.requires.ready.machine c.requires.ready.state c.in-Err.ensures (sym c.refusal_or_halt.ensures ∙ c.in_ok-why-in-Err.was) c.in_ok-asked.ensures.ids c.in_ok-keep_flats.ensures.flat
     (λ o. inr (record {
       why = c.in_ok-why-in-Err.why;
       refused = subst (λ (ps : List Piece). IsGatherRefused c.args.machine.on.net.now c.args.state.now.book.grants c.args.agent c.args.rights ps c.in_ok-why-in-Err.why) (c.deref.ensures.value ∙ c.in_ok-asked.ensures.pieces) o.0;
-      is_turn = ap (λ (t : List ℕ). reply_turn t (state_with_ids (state_view c.args.state.now) c.args.pieces.now)) c.in_ok-gather_refused-in-Err.ensures;
+      is_turn = refl;
     }))
