@@ -1,7 +1,7 @@
 //! The words by which the faults of a text are named.
 
-use dn_scope::fault::ExpandFault;
 use dn_parse::reader::ParseFault;
+use dn_scope::fault::ExpandFault;
 use dn_tool::compile::CompileFault;
 use dn_tool::refusal::{Refusal, Rule};
 
