@@ -20,10 +20,10 @@ use Rattle.dn_placement.specs.Placement.{name_on}
 use Rattle.dn_walk.specs.Ends.{end_of, name_of_end}
 use Rattle.dn_view.specs.Near.{levels_near}
 use Rattle.dn_view.proofs.Nearby.{levels_from, levels_to}
-use Rattle.dn_place.specs.Rows.{InRow}
+use Rattle.dn_place.specs.Rows.{GivesOnly, InRow}
 use Rattle.dn_place.specs.Sought.{ReachOneStop}
 use Rattle.dn_place.proofs.Marked.{given_there}
-use Rattle.dn_place.proofs.Stretches.{GivesOnly, row_has}
+use Rattle.dn_place.proofs.Stretches.{row_has}
 use Rattle.dn_gather.specs.Stands.{AreAlone, AreWindows, Enters}
 
 -- the first input of a unit

@@ -3,6 +3,7 @@ pub mod Beside
 pub mod BlockRows
 pub mod WholeBlocks
 pub mod Crowds
+mod Cursors
 pub mod Levels
 pub mod Marked
 pub mod Meetings

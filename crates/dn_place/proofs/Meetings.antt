@@ -9,8 +9,8 @@ use Rattle.dn_flat.specs.Views.{ResolvesFrom, StopsFrom}
 use Rattle.dn_tables.specs.declared.placement.Hop.{Hop}
 use Rattle.dn_placement.specs.Placement.{Meets, name_on}
 use Rattle.dn_walk.specs.Ends.{end_of, name_of_end}
-use Rattle.dn_place.specs.Rows.{AreToward, ComesOnly, InRow, IsClear, wanted_name}
-use Rattle.dn_place.proofs.Stretches.{GivesOnly, head_gives}
+use Rattle.dn_place.specs.Rows.{AreToward, ComesOnly, GivesOnly, InRow, IsClear, wanted_name}
+use Rattle.dn_place.proofs.Stretches.{head_gives}
 use Rattle.dn_place.specs.Sought.{ReachOneStop, Sought}
 use Rattle.dn_place.proofs.Walks.{Walked}
 

@@ -1,15 +1,15 @@
 -- Names to which other agents come by the records that are kept, as rows in which each stands at its own address.
-use Rattle.std.proofs.Common.{◌≡◌, ℕ, ◌+◌, ◌-◌, ◌<◌, ◌≤◌, ◌⊎◌, inl, inr, Bool, true, false, ◌&&◌, ◌||◌, nat_eq, List, [], ◌∷◌, ◌++◌, length, map, get_or, Some, IsTrue, sym, ap, ◌∙◌, subst, arith, eqb-true, eq-eqb, leb}
+use Rattle.std.proofs.Common.{◌≡◌, ℕ, ◌+◌, ◌-◌, ◌<◌, ◌≤◌, ◌⊎◌, inl, inr, Bool, true, false, ◌&&◌, ◌||◌, nat_eq, List, [], ◌∷◌, ◌++◌, length, get_or, Some, IsTrue, sym, ap, ◌∙◌, subst, arith, eqb-true, eq-eqb, leb}
 use Rattle.std.specs.List.{Contains, list_any}
 use Rattle.std.proofs.lemmas.List.Folds.{list_any-append}
-use Rattle.std.proofs.lemmas.Bool.{false≢true, and_parts, and_from, leb-true, or_cases}
+use Rattle.std.proofs.lemmas.Bool.{and_parts, and_from, leb-true, or_cases}
 use Rattle.std.proofs.lemmas.Option.{slice_get-get_or}
 use Rattle.dn_base.proofs.Members.{any_member, member_any, member_at}
 use Rattle.dn_interval.specs.declared.row.End.{End}
 use Rattle.dn_interval.specs.declared.row.Row.{Row}
 use Rattle.dn_interval.specs.declared.row.Seg.{Seg}
 use Rattle.dn_interval.specs.declared.span.TheConstants.{TOP}
-use Rattle.dn_interval.specs.Rows.{Member, further_end, AreNormal, GivenBy, SegmentsGive}
+use Rattle.dn_interval.specs.Rows.{further_end, AreNormal, GivenBy, SegmentsGive}
 use Rattle.dn_interval.specs.Spans.{in_span}
 use Rattle.dn_interval.specs.Strands.{seg_gives, segs_give}
 use Rattle.dn_interval.proofs.Membership.{hi_of, in_from}
@@ -22,7 +22,6 @@ use Rattle.dn_kind.specs.Tables.{Held, allowing}
 use Rattle.dn_placement.specs.declared.request.Request.{Request}
 use Rattle.dn_view.specs.KeptStops.{ListKeptStops}
 use Rattle.dn_place.specs.KeptNames.{AreKeptNames, IsNamed}
-use Rattle.dn_place.specs.Sought.{IsKeptName}
 use Rattle.dn_place.proofs.Marked.{given_there}
 
 -- a segment of the same names, each at its own address
@@ -68,10 +67,6 @@ rows_kept net h rq access stops own rows allowed listed named n = λ x z g.
 
 pub none_named : (net : List NodeDecl) (h : Held) (rq : Request) (rows : List Row) → AreNormal (SegmentsGive []) rows → AreKeptNames net h rq rows
 none_named net h rq rows n = λ x z g. absurd ((n.exact x z (rows_low rows x z g)).1 g)
-
--- kept names of an equal net and request, under equal records
-pub named_as : (net net' : List NodeDecl) (h h' : Held) (rq rq' : Request) (rows : List Row) → net ≡ net' → h ≡ h' → rq' ≡ rq → AreKeptNames net' h' rq' rows → AreKeptNames net h rq rows
-named_as net net' h h' rq rq' rows n e r k = subst (λ (l : List NodeDecl). AreKeptNames l h rq rows) (sym n) (subst (λ (f : Held). AreKeptNames net' f rq rows) (sym e) (subst (λ (q : Request). AreKeptNames net' h' q rows) r k))
 
 -- a row that has the address, and a name in a node
 pub row_named : (rows : List Row) (r : Row) (unit x : ℕ) → Contains rows r → IsTrue (in_span r.span x) → list_any (λ (e : End). nat_eq e.node unit) r.ends ≡ true → (b : ℕ) × GivenBy rows x (record { node = unit; base = b })

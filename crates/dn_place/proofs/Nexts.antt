@@ -1,10 +1,9 @@
 -- The next hop of placements that end with some hops.
 use Rattle.std.proofs.Common.{◌≡◌, ℕ, suc, ◌+◌, ◌-◌, ◌*◌, ◌/◌, ◌%◌, ◌^◌, ◌<◌, ◌≤◌, ◌⊎◌, inl, inr, Bool, true, false, List, [], ◌∷◌, ◌++◌, length, slice_get, get_or, Option, Some, None, IsTrue, refl, sym, ap, ◌∙◌, subst, arith, append_assoc, length-append}
 use Rattle.std.proofs.lemmas.Bool.{cases_lt, false≢true}
-use Rattle.std.proofs.lemmas.Option.{slice_get_within, slice_get-get_or, get_or_from_slice_get}
+use Rattle.std.proofs.lemmas.Option.{slice_get-get_or}
 use Rattle.std.proofs.lemmas.Nat.{pow_pos, le-div}
 use Rattle.std.proofs.Math.Nat.{mul-le-mul_left, mul-le-mul_right, add-mod_right, mod-add-div', div-mul-le_self}
-use Rattle.dn_view.proofs.Pages.{power_below}
 use Rattle.dn_tables.specs.declared.placement.Hop.{Hop}
 use Rattle.dn_tables.specs.Placement.{Place}
 use Rattle.dn_place.specs.Sought.{HasUnitBounds, IsSearchReady, IsSeenStop, Sought}
@@ -16,22 +15,16 @@ use Rattle.dn_placement.proofs.Hops.{numbers}
 use Rattle.dn_placement.proofs.Keys.{append_none, cancel, one_more}
 use Rattle.dn_flat.specs.Crowds.{IsCrowded}
 use Rattle.dn_place.specs.Blocks.{HasBlocks}
-use Rattle.dn_place.specs.Slots.{AreBarred, AreRun, AreShut, AreUsable, AreUseless, HasCrowd, HasSeenStop, IsUseless, slot_of}
-use Rattle.dn_place.specs.Rows.{AreToward, wanted_name}
-use Rattle.dn_place.proofs.Stretches.{GivesOnly}
-use Rattle.dn_place.specs.Candidates.{IsUnder, NoneUnder, IsFirstOrNone, IsChosen, key_of_hops, to_unit, to_port, to_output}
-use Rattle.dn_place.proofs.Levels.{NoneBelow, begun, leapt, next_one, none_left, only_number}
+use Rattle.dn_place.specs.Slots.{AreBarred, AreRun, AreShut, AreUsable, HasCrowd, HasSeenStop, IsUseless, slot_of}
+use Rattle.dn_place.specs.Candidates.{IsUnder, NoneUnder, IsChosen, key_of_hops, to_unit, to_port, to_output}
 use Rattle.dn_place.proofs.Openings.{Opened, opened}
 use Rattle.dn_place.proofs.Wholes.{whole}
-use Rattle.dn_place.proofs.Meetings.{meets_gives}
 use Rattle.dn_place.proofs.Usable.{barred_unusable, is_usable, usable_is}
-use Rattle.dn_place.proofs.Walks.{Stretches}
 use Rattle.dn_place.specs.Marks.{mark_at, AreMarked, IsEntry}
 use Rattle.dn_interval.specs.declared.row.End.{End}
 use Rattle.dn_net.specs.declared.node.NodeDecl.{NodeDecl}
 use Rattle.dn_net.specs.declared.node.Name.{Name}
 use Rattle.dn_net.specs.Decode.{top, unit_at, Resolves, StopsAt}
-use Rattle.dn_interval.specs.declared.row.Row.{Row}
 use Rattle.dn_place.proofs.Marked.{marked_hop}
 
 -- a placement's next hop, whose numbers begin so
@@ -74,7 +67,7 @@ joins_in s u hop nearer e w = subst (λ (v : UnitPart). JoinsIn s v hop nearer) 
 
 -- by unit
 
-unit_of : (s : Sought) (count : ℕ) (hops : List Hop) (q : Place) (unit : ℕ) → (w : Next s count hops q (unit ∷ [])) → w.opens.hop.unit ≡ unit
+pub unit_of : (s : Sought) (count : ℕ) (hops : List Hop) (q : Place) (unit : ℕ) → (w : Next s count hops q (unit ∷ [])) → w.opens.hop.unit ≡ unit
 unit_of s count hops q unit w = heads w.opens.hop.unit unit (w.opens.hop.port ∷ w.opens.hop.y ∷ w.opens.hop.x ∷ w.opens.rest) w.rest w.split
   where
     heads : (a d : ℕ) (m r : List ℕ) → (a ∷ m) ≡ (d ∷ r) → a ≡ d
@@ -93,16 +86,6 @@ no_unit s count hops unit l e = record { none = λ q u. let w = next_of s count 
     never u p = cc
 
 -- by port
-
-pub ports_done : (s : Sought) (count : ℕ) (hops : List Hop) (unit : ℕ) (u : UnitPart) (bound : ℕ) → length hops < count → unit_at s.net unit ≡ Some u → length u.ports ≤ bound → NoneBelow s (to_unit count hops unit) bound → NoneUnder s (to_unit count hops unit)
-ports_done s count hops unit u bound l e m below = none_left s (to_unit count hops unit) bound below go
-  where
-    go : (q : Place) → IsUnder s (to_unit count hops unit) q → (j : ℕ) × (j < bound) × Begins (to_unit count hops unit ++ j ∷ []) (key_of s.net q)
-    go q v =
-        let w = next_of s count hops q (unit ∷ []) l v in
-        let same = unit_of s count hops q unit w in
-        let j = joins_in s u w.opens.hop hops (ap (unit_at s.net) same ∙ e) w.opens.joins in
-        (w.opens.hop.port, omega (arith, slice_get_within u.ports w.opens.hop.port j.node j.is_port), (w.opens.hop.y ∷ w.opens.hop.x ∷ w.opens.rest, w.opens.key ∙ ap (λ n. key_of_hops count hops ++ (n ∷ w.opens.hop.port ∷ w.opens.hop.y ∷ w.opens.hop.x ∷ w.opens.rest)) same ∙ sym (one_more (to_unit count hops unit) w.opens.hop.port (w.opens.hop.y ∷ w.opens.hop.x ∷ w.opens.rest) ∙ one_more (key_of_hops count hops) unit (w.opens.hop.port ∷ w.opens.hop.y ∷ w.opens.hop.x ∷ w.opens.rest))))
 
 -- by output
 
@@ -141,7 +124,7 @@ through_port s count hops q unit port u l e v = record {
     same : (w.opens.hop.unit ≡ unit) × (w.opens.hop.port ≡ port) × (w.opens.hop.y ∷ w.opens.hop.x ∷ w.opens.rest ≡ w.rest)
     same = parts w.opens.hop.unit w.opens.hop.port unit port (w.opens.hop.y ∷ w.opens.hop.x ∷ w.opens.rest) w.rest w.split
 
-weaker : (s : Sought) (front : List ℕ) (j : ℕ) (q : Place) → IsUnder s (front ++ j ∷ []) q → IsUnder s front q
+pub weaker : (s : Sought) (front : List ℕ) (j : ℕ) (q : Place) → IsUnder s (front ++ j ∷ []) q → IsUnder s front q
 weaker s front j q u = record { is = u.is; begins = (j ∷ u.begins.0, u.begins.1 ∙ one_more front j u.begins.0) }
 
 goes_by : (front : List ℕ) (a j : ℕ) (m r key : List ℕ) → key ≡ front ++ (a ∷ m) → key ≡ (front ++ j ∷ []) ++ r → (a ≡ j) × (m ≡ r)
@@ -171,34 +154,6 @@ through_output s count hops q unit port y u l e v = record {
     same : (w.y ≡ y) × (w.x ∷ w.rest ≡ v.begins.0)
     same = goes_by (to_port count hops unit port) w.y y (w.x ∷ w.rest) v.begins.0 (key_of s.net q) w.key v.begins.1
 
-pub port_stretches : (s : Sought) (count : ℕ) (hops : List Hop) (unit port node : ℕ) (u : UnitPart) (rows : List Row) → IsSearchReady s → AreToward s.net s.request hops node rows → length hops < count → unit_at s.net unit ≡ Some u → slice_get u.ports port ≡ Some node → Stretches s (to_port count hops unit port) rows (wanted_name s.request hops)
-port_stretches s count hops unit port node u rows ready f l e p = λ q j v. go q j (through_output s count hops q unit port j u l e v)
-  where
-    some : (a b : ℕ) → Some a ≡ Some b → a ≡ b
-    some a b p = cc
-
-    go : (q : Place) (j : ℕ) → Output s u hops q unit port j (to_output count hops unit port j) → GivesOnly rows (wanted_name s.request hops) s.request.size j
-    go q j w =
-        let k = w.through.joins in
-        let low : j + s.request.size ≤ top + 1 = omega (arith, k.reached, power_below u.reach (ready.bounds unit u e).reach) in
-        meets_gives s node j hops rows f ready.one_stop low (subst (λ (n : ℕ). Meets s.net s.request n j hops) (some k.node node (sym k.is_port ∙ p)) k.meets)
-
-pub port_goes : (s : Sought) (count : ℕ) (hops : List Hop) (unit port : ℕ) (u : UnitPart) → length hops < count → unit_at s.net unit ≡ Some u → (q : Place) → IsUnder s (to_port count hops unit port) q → (j : ℕ) × Begins (to_port count hops unit port ++ j ∷ []) (key_of s.net q)
-port_goes s count hops unit port u l e q v = let w = through_port s count hops q unit port u l e v in (w.y, (w.x ∷ w.rest, w.key ∙ sym (one_more (to_port count hops unit port) w.y (w.x ∷ w.rest))))
-
--- an output out of reach, or from which a stop is reached
-pub out_of_reach : (s : Sought) (count : ℕ) (hops : List Hop) (unit port y : ℕ) (u : UnitPart) → length hops < count → unit_at s.net unit ≡ Some u → (y + s.request.size ≤ 2 ^ u.reach → ⊥) → NoneUnder s (to_output count hops unit port y)
-out_of_reach s count hops unit port y u l e past = record { none = λ q v. absurd (past (through_output s count hops q unit port y u l e v).through.joins.reached) }
-
-pub not_met : (s : Sought) (count : ℕ) (hops : List Hop) (unit port node y : ℕ) (u : UnitPart) → length hops < count → unit_at s.net unit ≡ Some u → slice_get u.ports port ≡ Some node → (Meets s.net s.request node y hops → ⊥) → NoneUnder s (to_output count hops unit port y)
-not_met s count hops unit port node y u l e p unmet = record { none = λ q v. absurd (go q (through_output s count hops q unit port y u l e v)) }
-  where
-    some : (a b : ℕ) → Some a ≡ Some b → a ≡ b
-    some a b p = cc
-
-    go : (q : Place) → Output s u hops q unit port y (to_output count hops unit port y) → ⊥
-    go q w = let k = w.through.joins in unmet (subst (λ (n : ℕ). Meets s.net s.request n y hops) (some k.node node (sym k.is_port ∙ p)) k.meets)
-
 -- an output in whose blocks an address beside the buffer resolves to something, where no hop follows
 pub not_whole : (s : Sought) (count unit port node y block i a : ℕ) (z : Name) (u : UnitPart) → IsSearchReady s → HasBlocks s.net block → 0 < count → unit_at s.net unit ≡ Some u → slice_get u.ports port ≡ Some node → i < s.request.size → a / 2 ^ block ≡ (y + i) / 2 ^ block → ((j : ℕ) → j < s.request.size → a ≡ y + j → ⊥) → Resolves s.net (record { node = node; addr = a }) z → NoneUnder s (to_output count [] unit port y)
 not_whole s count unit port node y block i a z u ready blocks l e p few at beside r = record { none = never }
@@ -222,15 +177,6 @@ x_of s count hops unit port y x u l e q v = subst (λ (n : ℕ). Through s u hop
     w : Output s u hops q unit port y (to_output count hops unit port y)
     w = through_output s count hops q unit port y u l e (weaker s (to_output count hops unit port y) x q v)
 
-pub inputs_begun : (s : Sought) (count : ℕ) (hops : List Hop) (unit port y : ℕ) (u : UnitPart) → length hops < count → unit_at s.net unit ≡ Some u → NoneBelow s (to_output count hops unit port y) (y % 2 ^ u.page)
-inputs_begun s count hops unit port y u l e = leapt s _ 0 (y % 2 ^ u.page) (begun s _) (λ q j a b v. absurd (go j b (x_of s count hops unit port y j u l e q v).joins))
-  where
-    go : (j : ℕ) → j < y % 2 ^ u.page → JoinsIn s u (record { unit = unit; port = port; x = j; y = y }) hops → ⊥
-    go j b k = small j (y % 2 ^ u.page) (2 ^ u.page) (pow_pos u.page) k.agree b
-      where
-        small : (j r p : ℕ) → 0 < p → j % p ≡ r → j < r → ⊥
-        small j r p z a b = omega arith
-
 -- between a number and the next that agrees with it none agrees
 pub between : (x j p : ℕ) → 0 < p → x + 1 ≤ j → j < x + p → j % p ≡ x % p → ⊥
 between x j p z a b c = by_quotient (cases_lt (x / p) (j / p))
@@ -238,13 +184,6 @@ between x j p z a b c = by_quotient (cases_lt (x / p) (j / p))
     by_quotient : (x / p < j / p) ⊎ (j / p ≤ x / p) → ⊥
     by_quotient (inl m) = let n : x / p + 1 ≤ j / p = omega arith in omega (arith, mul-le-mul_left p n)
     by_quotient (inr m) = omega (arith, mul-le-mul_left p m)
-
--- between one input and the next none agrees
-pub inputs_leapt : (s : Sought) (count : ℕ) (hops : List Hop) (unit port y x : ℕ) (u : UnitPart) → length hops < count → unit_at s.net unit ≡ Some u → x % 2 ^ u.page ≡ y % 2 ^ u.page → NoneBelow s (to_output count hops unit port y) x → NoneUnder s (to_output count hops unit port y ++ x ∷ []) → NoneBelow s (to_output count hops unit port y) (x + 2 ^ u.page)
-inputs_leapt s count hops unit port y x u l e agree below none = leapt s _ (x + 1) (x + 2 ^ u.page) (next_one s _ x below none) (λ q j a b v. absurd (between x j (2 ^ u.page) (pow_pos u.page) a b ((x_of s count hops unit port y j u l e q v).joins.agree ∙ sym agree)))
-
-pub inputs_done : (s : Sought) (count : ℕ) (hops : List Hop) (unit port y x : ℕ) (u : UnitPart) → length hops < count → unit_at s.net unit ≡ Some u → u.slots * 2 ^ u.page < x + s.request.size → NoneBelow s (to_output count hops unit port y) x → NoneUnder s (to_output count hops unit port y)
-inputs_done s count hops unit port y x u l e past below = none_left s _ x below (λ q v. let w = through_output s count hops q unit port y u l e v in (w.x, omega (arith, w.through.joins.within), (w.rest, w.key ∙ sym (one_more (to_output count hops unit port y) w.x w.rest))))
 
 -- the hop is chosen
 pub behind : (count : ℕ) (hops : List Hop) (unit port y x : ℕ) → to_output count hops unit port y ++ x ∷ [] ≡ key_of_hops count (record { unit = unit; port = port; x = x; y = y } ∷ hops)
@@ -263,16 +202,8 @@ chosen_on s count hops unit port y x u chosen l e p agree within reached usable 
 pub node_there : (net : List NodeDecl) (port : ℕ) (u : UnitPart) → HasUnitBounds net u → port < length u.ports → get_or u.ports port 0 < length net
 node_there net port u f p = f.there port (get_or u.ports port 0) (slice_get-get_or u.ports port 0 p)
 
--- the answer for a chosen hop is the answer for its input
-pub answered : (s : Sought) (count : ℕ) (hops now : List Hop) (unit port y x : ℕ) (found : Option Place) → now ≡ record { unit = unit; port = port; x = x; y = y } ∷ hops → IsFirstOrNone s (key_of_hops count now) found → IsFirstOrNone s (to_output count hops unit port y ++ x ∷ []) found
-answered s count hops now unit port y x found e a = subst (λ f. IsFirstOrNone s f found) (ap (key_of_hops count) e ∙ sym (behind count hops unit port y x)) a
-
 pub next_agrees : (x p : ℕ) → 0 < p → (x + p) % p ≡ x % p
 next_agrees x p z = add-mod_right x p
-
--- the node of a port, as it is read
-pub port_node : (items ports : List ℕ) (i port n : ℕ) → items ≡ ports → i ≡ port → slice_get ports port ≡ Some n → get_or items i 0 ≡ n
-port_node items ports i port n e f g = ap (λ l. get_or l i 0) e ∙ ap (λ k. get_or ports k 0) f ∙ get_or_from_slice_get ports port n 0 g
 
 pub port_read : (items ports : List ℕ) (i port : ℕ) → items ≡ ports → i ≡ port → port < length ports → slice_get ports port ≡ Some (get_or items i 0)
 port_read items ports i port e f l = slice_get-get_or ports port 0 l ∙ ap (λ n. Some n) (sym (ap (λ l. get_or l i 0) e ∙ ap (λ k. get_or ports k 0) f))
@@ -379,13 +310,6 @@ unentered s count hops unit entry ready e l one asked other = record { none = λ
         let w = next_of s count hops q (unit ∷ []) l v in
         other w.opens.hop.x (entered s count hops q (unit ∷ []) entry ready e one asked v w ∙ ap (λ (n : ℕ). Some (record { node = n; base = w.opens.hop.x })) (unit_of s count hops q unit w))
 
--- where no other input goes on, the first with an input is the first with the output
-pub only_input : (s : Sought) (count : ℕ) (hops : List Hop) (unit port y x : ℕ) (u : UnitPart) (found : Option Place) → length hops < count → unit_at s.net unit ≡ Some u → ((j : ℕ) → (j ≡ x → ⊥) → NoneUnder s (to_output count hops unit port y ++ j ∷ [])) → IsFirstOrNone s (to_output count hops unit port y ++ x ∷ []) found → IsFirstOrNone s (to_output count hops unit port y) found
-only_input s count hops unit port y x u found l e others a = only_number s (to_output count hops unit port y) x found goes others a
-  where
-    goes : (q : Place) → IsUnder s (to_output count hops unit port y) q → (j : ℕ) × Begins (to_output count hops unit port y ++ j ∷ []) (key_of s.net q)
-    goes q v = let w = through_output s count hops q unit port y u l e v in (w.x, (w.rest, w.key ∙ sym (one_more (to_output count hops unit port y) w.x w.rest)))
-
 -- an input that does not agree with the output, or past the unit's end, or whose slots are not usable
 pub not_joined : (s : Sought) (count : ℕ) (hops : List Hop) (unit port y x : ℕ) (u : UnitPart) → length hops < count → unit_at s.net unit ≡ Some u → (JoinsIn s u (record { unit = unit; port = port; x = x; y = y }) hops → ⊥) → NoneUnder s (to_output count hops unit port y ++ x ∷ [])
 not_joined s count hops unit port y x u l e unjoined = record { none = λ q v. absurd (unjoined (x_of s count hops unit port y x u l e q v).joins) }
@@ -437,14 +361,6 @@ not_served s count hops unit port y x place from u ready l here e (inr (inr seen
   where
     one_left : (m n : ℕ) → m ≡ suc n → m - n ≡ 1
     one_left m n k = omega arith
-
--- inputs that serve no hop
-pub inputs_useless : (s : Sought) (count : ℕ) (hops : List Hop) (unit port y x to place : ℕ) (u : UnitPart) → IsSearchReady s → length hops < count → place ≡ count - length hops → unit_at s.net unit ≡ Some u → x % 2 ^ u.page ≡ y % 2 ^ u.page → AreUseless s u place (record { unit = unit; port = port; x = x; y = y }) to → NoneBelow s (to_output count hops unit port y) x → NoneBelow s (to_output count hops unit port y) to
-inputs_useless s count hops unit port y x to place u ready l here e agree useless below = leapt s _ x to below (λ q j a b v. (not_served s count hops unit port y j place x u ready l here e (useless j a b ((x_of s count hops unit port y j u l e q v).joins.agree ∙ sym agree))).none q v)
-
--- the answer for a whole hop is the answer for its input
-pub answered_input : (s : Sought) (count : ℕ) (hops : List Hop) (unit port y x : ℕ) (found : Option Place) → IsFirstOrNone s (key_of_hops count (record { unit = unit; port = port; x = x; y = y } ∷ hops)) found → IsFirstOrNone s (to_output count hops unit port y ++ x ∷ []) found
-answered_input s count hops unit port y x found a = subst (λ f. IsFirstOrNone s f found) (sym (behind count hops unit port y x)) a
 
 -- an input before the one of a slot, in its place in a slot, is in a slot before
 quotient_below : (j r p t : ℕ) → 0 < p → j % p ≡ r → j < t * p + r → j / p < t

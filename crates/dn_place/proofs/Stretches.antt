@@ -8,11 +8,7 @@ use Rattle.dn_interval.specs.Rows.{Member, further_end, end_lt, Ascending, HasEn
 use Rattle.dn_interval.specs.Spans.{in_span}
 use Rattle.dn_interval.proofs.Membership.{hi_of, in_from, lo_of}
 use Rattle.dn_interval.proofs.Normal.{nothing_below, behind_first}
-use Rattle.dn_place.specs.Rows.{InRow}
-
--- the rows give exactly the name to the address, moved on to those after it, so many in all
-abbrev pub GivesOnly : List Row → End → ℕ → ℕ → Type 0
-GivesOnly rows t size a = (i : ℕ) → i < size → (z : End) → GivenBy rows (a + i) z ↔ (further_end i t ≡ z)
+use Rattle.dn_place.specs.Rows.{GivesOnly, InRow}
 
 -- what is given at an address of the first row, or past it
 

@@ -30,12 +30,12 @@ use Rattle.dn_placement.proofs.Keys.{append_none}
 use Rattle.dn_place.specs.declared.preimages.Way.{Way}
 use Rattle.dn_place.specs.Candidates.{IsAddressed, IsChosen, IsFirstOrNone, IsUnder, NoneUnder, key_of_hops, to_address}
 use Rattle.dn_place.specs.Preimages.{IsPreimage, IsTurned, IsWayTo, LeadsAlone}
-use Rattle.dn_place.specs.Rows.{GivesStops, InRow, wanted_name}
+use Rattle.dn_place.specs.Rows.{GivesOnly, GivesStops, InRow, wanted_name}
 use Rattle.dn_place.specs.Sought.{IsSearchReady, Sought}
 use Rattle.dn_place.proofs.Agents.{agent_goes, v_of}
 use Rattle.dn_place.proofs.Levels.{only_number}
 use Rattle.dn_place.proofs.Marked.{given_there, none_given}
-use Rattle.dn_place.proofs.Stretches.{GivesOnly, row_has}
+use Rattle.dn_place.proofs.Stretches.{row_has}
 use Rattle.dn_place.proofs.Wholes.{whole}
 
 -- a segment, turned round, gives to each of its names the address that has it

@@ -1,19 +1,10 @@
 -- The units of a net in the order of their numbers, and the search over them.
-use Rattle.std.proofs.Common.{◌≡◌, ℕ, suc, ◌+◌, ◌<◌, ◌≤◌, ◌⊎◌, inl, inr, true, false, List, [], ◌∷◌, ◌++◌, length, drop, get_or, Option, Some, None, is_some, refl, sym, ap, ◌∙◌, subst, arith, append_assoc}
-use Rattle.std.proofs.lemmas.Bool.{cases_lt, cases_order}
-use Rattle.std.proofs.Math.Seq.{drop-cons}
-use Rattle.std.proofs.Math.ListN.{drop_of_length-le}
+use Rattle.std.proofs.Common.{◌≡◌, ℕ, suc, ◌+◌, ◌<◌, ◌≤◌, ◌⊎◌, inl, inr, true, false, List, [], ◌∷◌, ◌++◌, length, Option, Some, None, is_some, refl, sym, ap, ◌∙◌, subst, arith, append_assoc}
+use Rattle.std.proofs.lemmas.Bool.{cases_order}
 use Rattle.dn_net.specs.declared.node.NodeDecl.{NodeDecl}
 use Rattle.dn_net.specs.declared.node.Unit.{Unit as UnitPart}
 use Rattle.dn_net.specs.Decode.{unit_at}
-use Rattle.dn_tables.specs.Placement.{Place}
-use Rattle.dn_tables.specs.declared.placement.Hop.{Hop}
-use Rattle.dn_placement.specs.Keys.{Begins}
-use Rattle.dn_place.specs.Candidates.{IsFirstUnder, IsUnder, NoneUnder, key_of_hops, to_unit}
-use Rattle.dn_place.proofs.Levels.{NoneBelow, begun, found_first, leapt, next_one, none_left}
 use Rattle.dn_place.specs.Marks.{AreUnitsFrom}
-use Rattle.dn_place.specs.Sought.{Sought}
-use Rattle.dn_place.proofs.Nexts.{no_unit, unit_next}
 use Rattle.dn_place.proofs.Pages.{unit_there}
 
 -- what is listed, and what the units from a number on are, is the whole
@@ -60,45 +51,3 @@ lists_done net node units l done = subst (λ (us : List ℕ). AreUnitsFrom net 0
     nil : (xs : List ℕ) → xs ++ [] ≡ xs
     nil [] = refl
     nil (x ∷ xs) = ap (λ l. x ∷ l) (nil xs)
-
--- how far the search over the units has come
-pub record Sifted (s : Sought) (count : ℕ) (hops : List Hop) (rest : List ℕ) : Type 0 where
-  pub bound : ℕ
-  pub below : NoneBelow s (key_of_hops count hops) bound
-  pub left : AreUnitsFrom s.net bound rest
-
-pub sifted_begun : (s : Sought) (count : ℕ) (hops : List Hop) (units : List ℕ) → AreUnitsFrom s.net 0 units → Sifted s count hops units
-sifted_begun s count hops units a = record { bound = 0; below = begun s (key_of_hops count hops); left = a }
-
--- numbers at which there is no unit are leapt over
-to_next : (s : Sought) (count : ℕ) (hops : List Hop) (m : ℕ) (rest : List ℕ) → length hops < count → (w : Sifted s count hops (m ∷ rest)) → NoneBelow s (key_of_hops count hops) m
-to_next s count hops m rest more w = leapt s (key_of_hops count hops) w.bound m w.below (λ q j a b u. go j a b q u (unit_at s.net j) refl)
-  where
-    go : (j : ℕ) → w.bound ≤ j → j < m → (q : Place) → IsUnder s (to_unit count hops j) q → (o : Option UnitPart) → unit_at s.net j ≡ o → ⊥
-    go j a b q u None e = (no_unit s count hops j more e).none q u
-    go j a b q u (Some x) e = w.left.1 j x a b e
-
-rest_is : (units : List ℕ) (i m : ℕ) → i < length units → m ≡ get_or units i 0 → drop i units ≡ m ∷ drop (i + 1) units
-rest_is units i m l e = drop-cons units i 0 l ∙ ap (λ (x : ℕ). x ∷ drop (suc i) units) (sym e) ∙ ap (λ n. m ∷ drop n units) (let p : suc i ≡ i + 1 = omega arith in p)
-
-pub sifted_on : (s : Sought) (count : ℕ) (hops : List Hop) (units : List ℕ) (i m : ℕ) → length hops < count → i < length units → m ≡ get_or units i 0 → NoneUnder s (to_unit count hops m) → Sifted s count hops (drop i units) → Sifted s count hops (drop (i + 1) units)
-sifted_on s count hops units i m more l e none w = by (subst (λ (us : List ℕ). Sifted s count hops us) (rest_is units i m l e) w)
-  where
-    by : Sifted s count hops (m ∷ drop (i + 1) units) → Sifted s count hops (drop (i + 1) units)
-    by v = record { bound = suc m; below = subst (λ (n : ℕ). NoneBelow s (key_of_hops count hops) n) (omega arith) (next_one s (key_of_hops count hops) m (to_next s count hops m (drop (i + 1) units) more v) none); left = v.left.2 }
-
-pub sifted_found : (s : Sought) (count : ℕ) (hops : List Hop) (units : List ℕ) (i m : ℕ) (p : Place) → length hops < count → i < length units → m ≡ get_or units i 0 → IsFirstUnder s (to_unit count hops m) p → Sifted s count hops (drop i units) → IsFirstUnder s (key_of_hops count hops) p
-sifted_found s count hops units i m p more l e first w = found_first s (key_of_hops count hops) m p (to_next s count hops m (drop (i + 1) units) more (subst (λ (us : List ℕ). Sifted s count hops us) (rest_is units i m l e) w)) first
-
-pub sifted_done : (s : Sought) (count : ℕ) (hops : List Hop) (units : List ℕ) (i : ℕ) → length hops < count → length units ≤ i → Sifted s count hops (drop i units) → NoneUnder s (key_of_hops count hops)
-sifted_done s count hops units i more l w = by (subst (λ (us : List ℕ). Sifted s count hops us) (drop_of_length-le units l) w)
-  where
-    by : Sifted s count hops [] → NoneUnder s (key_of_hops count hops)
-    by v = none_left s (key_of_hops count hops) v.bound v.below (λ q u. go (unit_next s count hops q more u))
-      where
-        go : {key : List ℕ} → ((j : ℕ) × (x : UnitPart) × (unit_at s.net j ≡ Some x) × Begins (key_of_hops count hops ++ j ∷ []) key) → (j : ℕ) × (j < v.bound) × Begins (key_of_hops count hops ++ j ∷ []) key
-        go k = (k.0, low (cases_lt k.0 v.bound), k.3)
-          where
-            low : (k.0 < v.bound) ⊎ (v.bound ≤ k.0) → k.0 < v.bound
-            low (inl m) = m
-            low (inr m) = absurd (v.left k.0 k.1 m k.2)

@@ -9,8 +9,8 @@ use Rattle.dn_tables.specs.Placement.{Place}
 use Rattle.dn_place.specs.Sought.{Sought}
 use Rattle.dn_placement.specs.Keys.{Begins}
 use Rattle.dn_placement.specs.Order.{key_of}
-use Rattle.dn_place.specs.Rows.{InRow}
-use Rattle.dn_place.proofs.Stretches.{GivesOnly, in_head}
+use Rattle.dn_place.specs.Rows.{GivesOnly, InRow}
+use Rattle.dn_place.proofs.Stretches.{in_head}
 use Rattle.dn_place.specs.Candidates.{IsUnder, NoneUnder, IsFirstUnder}
 use Rattle.dn_place.proofs.Levels.{NoneBelow, begun, leapt, found_first, none_left}
 

@@ -17,6 +17,10 @@ pub record InRow (r : Row) (t : End) (size a : ℕ) : Type 0 where
   pub from : r.span.lo ≤ a
   pub to : a + size ≤ suc r.span.hi
 
+-- the rows give exactly the name to the address, moved on to those after it, so many in all
+abbrev pub GivesOnly : List Row → End → ℕ → ℕ → Type 0
+GivesOnly rows t size a = (i : ℕ) → i < size → (z : End) → GivenBy rows (a + i) z ↔ (further_end i t ≡ z)
+
 -- the name that hops want: the first hop's input, or the buffer
 abbrev pub wanted_name : Request → List Hop → End
 wanted_name rq [] = record { node = rq.node; base = rq.base }

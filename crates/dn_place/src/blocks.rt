@@ -5,12 +5,15 @@ ghost use Rattle.std.specs.Prelude.{◌≡◌, ℕ, ◌+◌, ◌%◌, ◌^◌, �
 ghost use Rattle.dn_interval.specs.declared.span.TheConstants.{TOP};
 ghost use Rattle.dn_net.specs.declared.node.Unit.{Unit as UnitPart};
 ghost use Rattle.dn_net.specs.Terms.{unit_at};
-ghost use Rattle.dn_place.specs.Terms.{HasBeside, HasBlocks, IsSearchReady, SendsBlocks, ShowsWithin, Tells, end_fits, layers_fit, row_fits, rows_fit};
+ghost use Rattle.dn_view.specs.Terms.{IsSystem};
+ghost use Rattle.dn_place.specs.Terms.{HasBeside, HasBlocks, SendsBlocks, ShowsWithin, Tells, end_fits, layers_fit, row_fits, rows_fit};
 
 use crate::OutOfMemory;
-use crate::quest::{Quest, unit_of};
 use crate::slots::power;
-use dn_interval::{End, Row, Rows, Span};
+use crate::unit::unit_in;
+use dn_interval::{End, Row, Rows, Seg, Span};
+use dn_placement::request::Request;
+use dn_view::system::System;
 use std::alloc::Global;
 
 /// The largest page of a unit, as a power of two.
@@ -19,54 +22,49 @@ const MAX_PAGE: u8 = 40;
 /// A power of two: blocks of so many addresses are kept whole by the stops of each node, and no page of a unit
 /// is smaller. It is 0 where the buffer begins and ends on the edge of a least page; else it is the greatest that
 /// divides all bounds and names of the stops, which takes time of their rows.
-pub(crate) fn block_of<Q: Quest>(quest: &Q, units: &[u16]) -> u8
-    requires consistent { Q.is_consistent quest.now }
-    requires ready { IsSearchReady (Q.sought quest.now) }
-    ensures { HasBlocks (Q.sought quest.now).net result }
+pub(crate) fn block_of(system: System, request: &Request, units: &[u16]) -> u8
+    requires system { IsSystem meaning system }
+    ensures { HasBlocks system.entry.on.net.now result }
 {
-    if is_of_pages(quest, units) {
+    if is_of_pages(system, request, units) {
         return 0;
     }
-    let bits = nodes_bits(quest);
-    exponent_of(bits, least_page(quest))
+    let bits = nodes_bits(system);
+    exponent_of(bits, least_page(system))
 }
 
 /// Whether a buffer begins and ends on the edge of a page of the unit with the least pages. It decides no answer.
-fn is_of_pages<Q: Quest>(quest: &Q, units: &[u16]) -> bool
-    requires consistent { Q.is_consistent quest.now }
-    requires ready { IsSearchReady (Q.sought quest.now) }
+fn is_of_pages(system: System, request: &Request, units: &[u16]) -> bool
+    requires system { IsSystem meaning system }
 {
     let mut least = MAX_PAGE;
     for unit in units {
-        least = least.min(page_at(quest, *unit));
+        least = least.min(page_at(system, *unit));
     }
-    let request = quest.request();
     let page = power(least);
     request.base % page == 0 && request.size % page == 0
 }
 
 /// The least page of a unit, as a power of two.
-fn least_page<Q: Quest>(quest: &Q) -> u8
-    requires consistent { Q.is_consistent quest.now }
-    requires ready { IsSearchReady (Q.sought quest.now) }
+fn least_page(system: System) -> u8
+    requires system { IsSystem meaning system }
     ensures most { result ≤ 40 }
     ensures least { (node : ℕ) (u : UnitPart) →
-        unit_at (Q.sought quest.now).net node ≡ Some u → result ≤ u.page }
+        unit_at system.entry.on.net.now node ≡ Some u → result ≤ u.page }
 {
     let mut least = MAX_PAGE;
-    for node in 0..quest.nodes() {
-        least = least.min(page_at(quest, node));
+    for node in 0..system.on.net.nodes() {
+        least = least.min(page_at(system, node));
     }
     least
 }
 
 /// The page of the unit that a node is. Of a node that is none it is the largest.
-fn page_at<Q: Quest>(quest: &Q, node: u16) -> u8
-    requires consistent { Q.is_consistent quest.now }
-    requires ready { IsSearchReady (Q.sought quest.now) }
-    ensures { (u : UnitPart) → unit_at (Q.sought quest.now).net node ≡ Some u → result ≤ u.page }
+fn page_at(system: System, node: u16) -> u8
+    requires system { IsSystem meaning system }
+    ensures { (u : UnitPart) → unit_at system.entry.on.net.now node ≡ Some u → result ≤ u.page }
 {
-    match unit_of(quest, node) {
+    match unit_in(system, node) {
         Some(translator) => translator.page,
         None => MAX_PAGE,
     }
@@ -86,26 +84,26 @@ fn exponent_of(bits: u64, most: u8) -> u8
 }
 
 /// The bounds and the names of the rows of all stops, as one number that has the bits of each.
-fn nodes_bits<Q: Quest>(quest: &Q) -> u64
-    requires { Q.is_consistent quest.now }
+fn nodes_bits(system: System) -> u64
+    requires { IsSystem meaning system }
     ensures { (block : ℕ) → result % 2 ^ block ≡ 0 → (node : ℕ) →
-        node < length (Q.sought quest.now).net →
-        SendsBlocks (Q.sought quest.now).net (2 ^ block) node }
+        node < length system.entry.on.net.now →
+        SendsBlocks system.entry.on.net.now (2 ^ block) node }
 {
     let mut bits = 0;
-    for node in 0..quest.nodes() {
-        bits = node_bits(quest, node, bits);
+    for node in 0..system.on.net.nodes() {
+        bits = node_bits(system, node, bits);
     }
     bits
 }
 
 /// The bits of a number, and those of the stops of a node.
-fn node_bits<Q: Quest>(quest: &Q, node: u16, bits: u64) -> u64
-    requires consistent { Q.is_consistent quest.now }
-    requires there { node < length (Q.sought quest.now).net }
-    ensures { Tells result bits (λ block. SendsBlocks (Q.sought quest.now).net (2 ^ block) node) }
+fn node_bits(system: System, node: u16, bits: u64) -> u64
+    requires system { IsSystem meaning system }
+    requires there { node < length system.on.net.now }
+    ensures { Tells result bits (λ block. SendsBlocks system.entry.on.net.now (2 ^ block) node) }
 {
-    let layers = quest.levels(node).stops.as_slice();
+    let layers = system.flats.of(node).stops.as_slice();
     layers_bits(layers, bits)
 }
 
@@ -153,33 +151,33 @@ fn end_bits(end: &End, bits: u64) -> u64
 }
 
 /// Whether no address beside a stretch of a node, in the blocks of its addresses, is known to resolve to a name.
-pub(crate) fn is_alone<Q: Quest>(
-    quest: &Q,
+pub(crate) fn is_alone(
+    system: System,
     alloc: Global,
     node: u16,
     y: u64,
     size: u64,
     block: u8,
 ) -> Result<bool, OutOfMemory>
-    requires consistent { Q.is_consistent quest.now }
-    requires there { node < length (Q.sought quest.now).net }
+    requires system { IsSystem meaning system }
+    requires there { node < length system.on.net.now }
     requires some { 1 ≤ size }
     requires fits { y + size ≤ TOP + 1 }
     requires few { block ≤ 40 }
     ensures { IfOk result (λ alone. alone ≡ false →
-        HasBeside (Q.sought quest.now).net node y size block) }
+        HasBeside system.entry.on.net.now node y size block) }
 {
     let width = power(block);
     let last = y + (size - 1);
     let from = y - y % width;
     let to = last - last % width + (width - 1);
     if from < y {
-        if shows_some(quest, alloc, node, from, y - 1)? {
+        if shows_some(system, alloc, node, from, y - 1)? {
             return Ok(false);
         }
     }
     if last < to {
-        if shows_some(quest, alloc, node, last + 1, to)? {
+        if shows_some(system, alloc, node, last + 1, to)? {
             return Ok(false);
         }
     }
@@ -187,20 +185,35 @@ pub(crate) fn is_alone<Q: Quest>(
 }
 
 /// Whether an address of a node from one on up to another is known to resolve to a name.
-pub(crate) fn shows_some<Q: Quest>(
-    quest: &Q,
+pub(crate) fn shows_some(
+    system: System,
     alloc: Global,
     node: u16,
     lo: u64,
     hi: u64,
 ) -> Result<bool, OutOfMemory>
-    requires consistent { Q.is_consistent quest.now }
-    requires there { node < length (Q.sought quest.now).net }
+    requires system { IsSystem meaning system }
+    requires there { node < length system.on.net.now }
     ensures { IfOk result (λ some. IsTrue some →
-        ShowsWithin (Q.sought quest.now).net node lo hi) }
+        ShowsWithin system.entry.on.net.now node lo hi) }
 {
     match Span::new(lo, hi) {
-        Some(span) => quest.shows(alloc, node, span),
+        Some(span) => shows(alloc, system, node, span),
         None => Ok(false),
     }
+}
+
+/// Whether an address of a span of a node is known to resolve to a name.
+fn shows(alloc: Global, system: System, node: u16, span: Span) -> Result<bool, OutOfMemory>
+    requires system { IsSystem meaning system }
+    requires there { node < length system.on.net.now }
+    ensures { IfOk result (λ some. IsTrue some →
+        ShowsWithin system.entry.on.net.now node span.lo span.hi) }
+{
+    let mut segs = Vec::new(alloc);
+    let mut mid = Vec::new(alloc);
+    let base = span.lo;
+    let seg = Seg { span, node, base };
+    system.flats.push_accepted(&mut segs, &mut mid, seg)?;
+    Ok(!segs.is_empty())
 }

@@ -1,33 +1,34 @@
 //! The first admissible placement.
 
-ghost use Rattle.std.specs.Prelude.{◌≡◌, ◌<◌, ◌↔◌, ℕ, List, length, IfOk, IfSome, IsTrue, None, []};
-ghost use Rattle.dn_kind.specs.Terms.{AreKinds, Meaning, are_rights, kinds_of};
-ghost use Rattle.dn_tables.specs.Terms.{FitsNet, fits_kinds, has_slot, record_kept};
-ghost use Rattle.dn_placement.specs.Terms.{IsAdmissible, IsFirst, IsPlacement, NoneSuited, slots_of_set};
+ghost use Rattle.std.specs.Prelude.{◌≡◌, ◌+◌, [], None, IfOk, IfSome, length};
+ghost use Rattle.dn_kind.specs.Terms.{kinds_of};
+ghost use Rattle.dn_tables.specs.Terms.{FitsNet};
+ghost use Rattle.dn_placement.specs.Terms.{IsFirst, NoneSuited, slots_of_set};
 ghost use Rattle.dn_view.specs.Terms.{IsSystem};
-ghost use Rattle.dn_place.specs.Terms.{IsFirstOrNone, IsHopReach, IsRequest, IsSlotRun, IsSearchReady, hops_view, slot_of};
+ghost use Rattle.dn_place.specs.Terms.{ArePreimages, IsChosen, IsFirstOrNone, IsHopReach, IsRequest, IsSearch, hops_view, key_of_hops, sought};
 
 use crate::OutOfMemory;
 use crate::blocks::block_of;
-use crate::chain::{SearchStage, by_hops};
+use crate::cursor::HopCursor;
 use crate::hops::Hops;
+use crate::iova::by_agent;
 use crate::kept::{kept_names, no_names};
-use crate::problem::{Aim, SearchProblem};
-use crate::quest::{FoundPlacement, Quest};
+use crate::preimages::{Preimages, preimages_of};
 use crate::reach::{ReachMarks, reach_of};
-use crate::slot_state::SlotState;
-use crate::tables::{run_end, slot_at};
+use crate::search::{FoundPlacement, Search};
 use dn_placement::request::Request;
 use dn_tables::placement::Placement;
 use dn_tables::set::TableSet;
-use dn_view::exact::exact;
 use dn_view::system::System;
 use std::alloc::Global;
-use std::marker::{Brand, PhantomData};
+
+/// So many inputs of an output are tried by the rows of the agent before all addresses that lead to the unit are turned
+/// round at once.
+const PLAIN_TRIES: u8 = 16;
 
 /// The first admissible placement of a request, by the order of placements; where an address is
 /// given, of those at this address of the agent. `None` exactly where no placement is admissible.
-/// `Err` is want of memory.
+/// `Err` means that memory ran out.
 pub fn first(
     alloc: Global,
     system: System,
@@ -47,8 +48,9 @@ pub fn first(
     first_from(alloc, system, tables, request, &reach)
 }
 
-/// The same, where it is told where the hops of the request's agent can stand, at the address that is
-/// asked for with these.
+/// The first admissible placement of a request, by the order of placements, where it is known in which units the hops of
+/// the request's agent can stand. The marks have the address that is asked for, if there is one. `Err` means that memory
+/// ran out.
 pub fn first_from(
     alloc: Global,
     system: System,
@@ -68,119 +70,123 @@ pub fn first_from(
         (kinds_of meaning system.entry.on.kinds.now) tables.now) request.now reach.now.at) }
 {
     tables.facts();
-    by_tables::<Brand>(alloc, system, tables, request, reach)
-}
-
-/// The same, where what is looked for is told by the aim.
-fn by_tables<A: Aim>(
-    alloc: Global,
-    system: System,
-    tables: &TableSet,
-    request: &Request,
-    reach: &ReachMarks,
-) -> FoundPlacement
-    requires system { IsSystem meaning system }
-    requires fits { FitsNet system.on.net.now (kinds_of meaning system.on.kinds.now) tables.now }
-    requires rights { IsTrue (are_rights request.now.rights) }
-    requires aim { A.sought ≡ record {
-      net = system.on.net.now;
-      slots = slots_of_set (kinds_of meaning system.on.kinds.now) tables.now;
-      request = request.now;
-      at = reach.now.at;
-    } }
-    requires ready { IsSearchReady A.sought }
-    requires reach { IsHopReach system.on.net.now request.now.agent reach.now }
-    ensures { IfOk result (λ found. IsFirstOrNone A.sought [] found) }
-{
-    let kinds = system.on.kinds;
-    let met = |unit: u16, slot: u32| -> SlotState
-        requires kinds { AreKinds meaning kinds.now }
-        requires fits { IsTrue (fits_kinds (kinds_of meaning kinds.now) tables.now) }
-        requires there { IsTrue (has_slot tables.now unit slot) }
-        ensures { result
-            ≡ slot_of (slots_of_set (kinds_of meaning kinds.entry.now) tables.entry.now) unit slot }
-    { slot_at(kinds, tables, unit, slot) };
-    let run = |unit: u16, from: u32, end: u32, barred: bool| -> u32
-        requires { (slot : ℕ) → slot < end → IsTrue (has_slot tables.now unit slot) }
-        ensures { (kinds : List Meaning)
-            → IsSlotRun barred (slots_of_set kinds tables.entry.now) unit from end result }
-    { run_end(tables, unit, from, end, barred) };
-    let exact = |v: u64, hops: Hops, own: u8| -> Result<bool, OutOfMemory>
-        requires system { IsSystem meaning system }
-        requires fits { FitsNet system.on.net.now
-            (kinds_of meaning system.on.kinds.now) tables.now }
-        requires rights { IsTrue (are_rights request.now.rights) }
-        requires own { own < length (hops_view hops) }
-        requires placed { IsPlacement system.on.net.now
-            (slots_of_set (kinds_of meaning system.on.kinds.now) tables.now) request.now
-            (record { v = v; hops = hops_view hops; own = own }) }
-        ensures { IfOk result (λ yes. IsTrue yes ↔ IsAdmissible system.entry.on.net.now
-            (record_kept (kinds_of meaning system.entry.on.kinds.now) tables.entry.now)
-            request.entry.now (record { v = v; hops = hops_view hops; own = own })) }
-    {
-        let placement = hops.into_placement(alloc, v, own);
-        exact(alloc, system, tables, request, &placement)
-    };
-    let problem = SearchProblem::<'_, A, _, _, _> {
-        net: system.on.net,
-        flats: system.flats,
-        request: *request,
-        at: reach.at,
-        met,
-        run,
-        exact,
-        aim: PhantomData,
-    };
-    first_of(alloc, &problem, system, tables, reach)
-}
-
-/// The first placement that is looked for. `None` exactly where there is none. Where other agents come by the records in
-/// use is made out once no placement of a single hop is found.
-fn first_of<Q: Quest>(
-    alloc: Global,
-    quest: &Q,
-    system: System,
-    tables: &TableSet,
-    reach: &ReachMarks,
-) -> FoundPlacement
-    requires consistent { Q.is_consistent quest.now }
-    requires ready { IsSearchReady (Q.sought quest.now) }
-    requires reach { IsHopReach (Q.sought quest.now).net (Q.sought quest.now).request.agent
-        reach.now }
-    requires at { reach.now.at ≡ (Q.sought quest.now).at }
-    requires system { IsSystem meaning system }
-    requires fits { FitsNet system.on.net.now (kinds_of meaning system.on.kinds.now) tables.now }
-    requires rights { IsTrue (are_rights (Q.sought quest.now).request.rights) }
-    requires net { (Q.sought quest.now).net ≡ system.on.net.now }
-    requires held { (Q.sought quest.now).slots.held
-        ≡ record_kept (kinds_of meaning system.on.kinds.now) tables.now }
-    ensures { IfOk result (λ found. IsFirstOrNone (Q.sought quest.now) [] found) }
-{
-    let block = block_of(quest, reach.units.as_slice());
+    let block = block_of(system, request, reach.units.as_slice());
     let none = no_names(alloc)?;
-    let lone = SearchStage {
-        alloc,
+    let lone = Search {
+        system,
+        tables,
+        request: *request,
         reach,
         count: 1,
-        chosen: Hops::Zero,
         block,
         kept: &none,
     };
-    if let Some(placement) = by_hops(quest, lone)? {
+    first_found(alloc, lone)
+}
+
+/// The first placement, by the number of its hops. The search that is given is for one hop. Which names other agents
+/// reach through the records in use is found out once no placement of a single hop is found.
+fn first_found(alloc: Global, lone: Search) -> FoundPlacement
+    requires search { IsSearch meaning lone }
+    requires one { lone.count ≡ 1 }
+    ensures { IfOk result (λ found. IsFirstOrNone (sought meaning lone.entry) [] found) }
+{
+    if let Some(placement) = with_first(alloc, lone, Hops::Zero)? {
         return Ok(Some(placement));
     }
-    let request = quest.request();
-    let names = kept_names(alloc, system, tables, &request, reach)?;
-    for count in 2..4 {
-        let kept = &names;
-        let stage = SearchStage {
-            count,
-            kept,
-            ..lone
-        };
-        if let Some(placement) = by_hops(quest, stage)? {
+    let names = kept_names(alloc, lone.system, lone.tables, &lone.request, lone.reach)?;
+    let two = Search {
+        count: 2,
+        kept: &names,
+        ..lone
+    };
+    if let Some(placement) = with_second(alloc, two, Hops::Zero)? {
+        return Ok(Some(placement));
+    }
+    let three = Search { count: 3, ..two };
+    with_third(alloc, three, Hops::Zero)
+}
+
+/// The first placement that has a third hop from the agent's end before the nearer ones, and two before that.
+fn with_third(alloc: Global, search: Search, nearer: Hops) -> FoundPlacement
+    requires search { IsSearch meaning search }
+    requires chosen { IsChosen (sought meaning search) search.count (hops_view nearer) }
+    requires three { search.count ≡ length (hops_view nearer) + 3 }
+    ensures { IfOk result (λ found. IsFirstOrNone (sought meaning search.entry)
+        (key_of_hops search.entry.count (hops_view nearer)) found) }
+{
+    let mut hops = HopCursor::new(alloc);
+    'given: while let Some(hop) = hops.next(alloc, search, nearer)? {
+        if let Some(placement) = with_second(alloc, search, nearer.behind(hop))? {
             return Ok(Some(placement));
         }
     }
     Ok(None)
+}
+
+/// The first placement that has a second hop from the agent's end before the nearer ones, and one before that.
+fn with_second(alloc: Global, search: Search, nearer: Hops) -> FoundPlacement
+    requires search { IsSearch meaning search }
+    requires chosen { IsChosen (sought meaning search) search.count (hops_view nearer) }
+    requires two { search.count ≡ length (hops_view nearer) + 2 }
+    ensures { IfOk result (λ found. IsFirstOrNone (sought meaning search.entry)
+        (key_of_hops search.entry.count (hops_view nearer)) found) }
+{
+    let mut hops = HopCursor::new(alloc);
+    'given: while let Some(hop) = hops.next(alloc, search, nearer)? {
+        if let Some(placement) = with_first(alloc, search, nearer.behind(hop))? {
+            return Ok(Some(placement));
+        }
+    }
+    Ok(None)
+}
+
+/// The first placement that has a first hop from the agent's end before the nearer ones.
+fn with_first(alloc: Global, search: Search, nearer: Hops) -> FoundPlacement
+    requires search { IsSearch meaning search }
+    requires chosen { IsChosen (sought meaning search) search.count (hops_view nearer) }
+    requires one { search.count ≡ length (hops_view nearer) + 1 }
+    ensures { IfOk result (λ found. IsFirstOrNone (sought meaning search.entry)
+        (key_of_hops search.entry.count (hops_view nearer)) found) }
+{
+    let mut hops = HopCursor::new(alloc);
+    let mut made = None;
+    'given: while let Some(hop) = hops.next(alloc, search, nearer)? {
+        let due = hops.handed() > PLAIN_TRIES;
+        let now = due_preimages(alloc, search, hop.unit, due, made)?;
+        if let Some(placement) = by_agent(alloc, search, nearer.behind(hop), &now)? {
+            return Ok(Some(placement));
+        }
+        made = now;
+    }
+    Ok(None)
+}
+
+/// The preimages that are made; where they are due and those of this unit are not made, these.
+fn due_preimages(
+    alloc: Global,
+    search: Search,
+    unit: u16,
+    due: bool,
+    made: Option<Preimages>,
+) -> Result<Option<Preimages>, OutOfMemory>
+    requires search { IsSearch meaning search }
+    requires made { IfSome made (λ p. ArePreimages search.system.on.net.now search.request.agent
+        p) }
+    ensures { IfOk result (λ now. IfSome now (λ p. ArePreimages search.entry.system.on.net.now
+        search.entry.request.agent p)) }
+{
+    if !due || is_made(&made, unit) {
+        return Ok(made);
+    }
+    let fresh = preimages_of(alloc, search.system, search.request.agent, unit)?;
+    Ok(Some(fresh))
+}
+
+/// Whether the preimages of a unit are made.
+fn is_made(made: &Option<Preimages>, unit: u16) -> bool {
+    match made {
+        Some(preimages) => preimages.unit == unit,
+        None => false,
+    }
 }

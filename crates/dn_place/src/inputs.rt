@@ -3,12 +3,11 @@
 ghost use Rattle.std.specs.Prelude.{◌≡◌, ℕ, ◌+◌, ◌-◌, ◌*◌, ◌/◌, ◌%◌, ◌^◌, ◌<◌, ◌≤◌, Some, IsTrue};
 ghost use Rattle.dn_interval.specs.declared.span.TheConstants.{TOP};
 ghost use Rattle.dn_net.specs.Terms.{unit_at};
-ghost use Rattle.dn_place.specs.Terms.{AreKeptNames, HasCrowd, HasSeenStop, IsNextTry, IsSearchReady, IsWithin, MayTry};
+ghost use Rattle.dn_place.specs.Terms.{HasCrowd, HasSeenStop, IsNextTry, IsSearch, IsWithin, MayTry, sought};
 
 use crate::kept::has_name;
-use crate::quest::Quest;
+use crate::search::{Search, agent_stop_among, crowd_among, slot_in};
 use crate::slots::{Input, is_free_slot, next_input, power};
-use dn_interval::Rows;
 use dn_net::node::Unit;
 use dn_tables::placement::Hop;
 
@@ -16,92 +15,76 @@ use dn_tables::placement::Hop;
 /// from the agent's end. Where it is the hop's own, it finds its slots usable. The slots from the first of
 /// the hop's on are known to be free before a slot, and are then known to be free before the one that is
 /// answered.
-pub(crate) fn next_try<Q: Quest>(
-    quest: &Q,
-    place: u8,
-    translator: &Unit,
-    hop: Hop,
-    free: u32,
-    kept: &Rows,
-) -> Input
-    requires consistent { Q.is_consistent quest.now }
-    requires ready { IsSearchReady (Q.sought quest.now) }
-    requires kept { AreKeptNames (Q.sought quest.now).net (Q.sought quest.now).slots.held
-        (Q.sought quest.now).request kept.now }
-    requires may { MayTry (Q.sought quest.now) translator.now hop free }
-    ensures { IsNextTry (Q.sought quest.now) translator.now place hop result }
+pub(crate) fn next_try(search: Search, place: u8, translator: &Unit, hop: Hop, free: u32) -> Input
+    requires search { IsSearch meaning search }
+    requires may { MayTry (sought meaning search) translator.now hop free }
+    ensures { IsNextTry (sought meaning search.entry) translator.now place hop result }
 {
     if place == 1 {
-        let past = past_crowd(quest, translator, hop);
+        let past = past_crowd(search, translator, hop);
         if past != hop.x {
             return Input { x: past, free };
         }
-    } else if is_seen(quest, translator, hop, kept) {
+    } else if is_seen(search, translator, hop) {
         let x = hop.x + power(translator.page);
         return Input { x, free };
     }
-    next_input(quest, translator, hop, free)
+    next_input(search, translator, hop, free)
 }
 
 /// Whether a name of a hop, in a free slot, is known to be the stop of an address of an agent, or to be one to which
 /// another agent comes by the records in use.
-fn is_seen<Q: Quest>(quest: &Q, translator: &Unit, hop: Hop, kept: &Rows) -> bool
-    requires consistent { Q.is_consistent quest.now }
-    requires ready { IsSearchReady (Q.sought quest.now) }
-    requires within { IsWithin (Q.sought quest.now) translator.now hop }
-    requires kept { AreKeptNames (Q.sought quest.now).net (Q.sought quest.now).slots.held
-        (Q.sought quest.now).request kept.now }
-    ensures { IsTrue result → HasSeenStop (Q.sought quest.now) translator.now hop.unit hop.x }
+fn is_seen(search: Search, translator: &Unit, hop: Hop) -> bool
+    requires search { IsSearch meaning search }
+    requires within { IsWithin (sought meaning search) translator.now hop }
+    ensures { IsTrue result → HasSeenStop (sought meaning search.entry) translator.now hop.unit hop.x }
 {
-    if is_agent_stop(quest, translator, hop) {
+    if is_agent_stop(search, translator, hop) {
         return true;
     }
-    has_name(kept, hop.unit, hop.x) && is_free_at(quest, translator, hop.unit, hop.x)
+    has_name(search.kept, hop.unit, hop.x) && is_free_at(search, translator, hop.unit, hop.x)
 }
 
 /// Whether a name of a hop is known to be the stop of an address of an agent, and in a free slot.
-fn is_agent_stop<Q: Quest>(quest: &Q, translator: &Unit, hop: Hop) -> bool
-    requires consistent { Q.is_consistent quest.now }
-    requires ready { IsSearchReady (Q.sought quest.now) }
-    requires within { IsWithin (Q.sought quest.now) translator.now hop }
-    ensures { IsTrue result → HasSeenStop (Q.sought quest.now) translator.now hop.unit hop.x }
+fn is_agent_stop(search: Search, translator: &Unit, hop: Hop) -> bool
+    requires search { IsSearch meaning search }
+    requires within { IsWithin (sought meaning search) translator.now hop }
+    ensures { IsTrue result → HasSeenStop (sought meaning search.entry) translator.now hop.unit hop.x }
 {
-    match quest.agent_stop(hop.unit, hop.x, quest.request().size) {
+    match agent_stop_among(search, hop.unit, hop.x) {
         Some(span) => {
             let name = hop.x.max(span.lo);
-            is_free_at(quest, translator, hop.unit, name)
+            is_free_at(search, translator, hop.unit, name)
         }
         None => false,
     }
 }
 
 /// Whether a name of a unit is in a free slot.
-fn is_free_at<Q: Quest>(quest: &Q, translator: &Unit, unit: u16, name: u64) -> bool
-    requires consistent { Q.is_consistent quest.now }
-    requires ready { IsSearchReady (Q.sought quest.now) }
-    requires unit { unit_at (Q.sought quest.now).net unit ≡ Some translator.now }
+fn is_free_at(search: Search, translator: &Unit, unit: u16, name: u64) -> bool
+    requires search { IsSearch meaning search }
+    requires unit { unit_at search.system.on.net.now unit ≡ Some translator.now }
     requires within { name < translator.now.slots * 2 ^ translator.now.page }
-    ensures { result ≡ (Q.sought quest.now).slots.is_free unit (name / 2 ^ translator.now.page) }
+    ensures { result ≡ (sought meaning search.entry).slots.is_free unit (name / 2 ^ translator.now.page) }
 {
     let page = power(translator.page);
     let at = (name / page) as u32;
-    is_free_slot(quest.slot(unit, at))
+    is_free_slot(slot_in(search, unit, at))
 }
 
 /// The first input of a unit from the hop's on, in its place in a slot, past names that are known to be
 /// reached by two addresses of agents.
-fn past_crowd<Q: Quest>(quest: &Q, translator: &Unit, hop: Hop) -> u64
-    requires consistent { Q.is_consistent quest.now }
-    requires ready { IsSearchReady (Q.sought quest.now) }
-    requires within { IsWithin (Q.sought quest.now) translator.now hop }
+fn past_crowd(search: Search, translator: &Unit, hop: Hop) -> u64
+    requires search { IsSearch meaning search }
+    requires within { IsWithin (sought meaning search) translator.now hop }
     ensures onward { hop.x ≤ result }
     ensures agree { result % 2 ^ translator.now.page ≡ hop.x % 2 ^ translator.now.page }
     ensures few { result ≤ 2 ^ 59 }
     ensures crowded { (x : ℕ) → hop.x ≤ x → x < result →
         x % 2 ^ translator.now.page ≡ hop.x % 2 ^ translator.now.page →
-        HasCrowd (Q.sought quest.now) hop.unit x }
+        HasCrowd (sought meaning search.entry) hop.unit x }
 {
-    match quest.crowd(hop.unit, hop.x, quest.request().size) {
+    match crowd_among(search, hop.unit, hop.x) {
         Some(span) => past_last(hop.x, span.hi, power(translator.page)),
         None => hop.x,
     }

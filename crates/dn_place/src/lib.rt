@@ -8,24 +8,22 @@
 pub mod accepted;
 mod blocks;
 pub mod booked;
-mod chain;
+mod cursor;
 mod entry;
 pub mod exits;
 pub mod first;
 mod hops;
 mod inputs;
+mod iova;
 mod kept;
-mod lone;
 mod marks;
 mod preimages;
-mod problem;
-mod quest;
 pub mod reach;
 pub mod rows;
+mod search;
 mod slot_state;
 pub mod slots;
 pub mod tables;
 pub mod unit;
-mod whole;
 
 pub use dn_base::OutOfMemory;

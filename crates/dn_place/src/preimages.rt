@@ -1,15 +1,18 @@
 //! The names of a unit that addresses of an agent reach, each with these addresses.
 
-ghost use Rattle.std.specs.Prelude.{◌≡◌, ℕ, ◌+◌, ◌-◌, ◌<◌, ◌≤◌, ◌&&◌, ◌||◌, nat_eq, List, IfOk, IfSome, IfNone, OnOk, IsTrue};
+ghost use Rattle.std.specs.Prelude.{◌≡◌, ℕ, ◌+◌, ◌-◌, ◌<◌, ◌≤◌, ◌&&◌, ◌||◌, ◌↔◌, true, length, nat_eq, List, IfOk, IfSome, IfNone, OnOk, IsTrue};
 ghost use Rattle.dn_interval.specs.declared.row.End.{End};
 ghost use Rattle.dn_interval.specs.Terms.{AreNormal, EndsFit, in_span, seg_gives, segs_give};
 ghost use Rattle.dn_net.specs.declared.node.NodeDecl.{NodeDecl};
-ghost use Rattle.dn_place.specs.Terms.{ArePreimages, InRow, IsPreimage, IsSearchReady, IsTurned, IsWayTo, LeadsAlone};
+ghost use Rattle.dn_flat.specs.Terms.{StopsFrom};
+ghost use Rattle.dn_interval.specs.declared.span.TheConstants.{TOP};
+ghost use Rattle.dn_view.specs.Terms.{IsSystem};
+ghost use Rattle.dn_place.specs.Terms.{ArePreimages, InRow, IsPreimage, IsTurned, IsWayTo, LeadsAlone};
 
 use crate::OutOfMemory;
-use crate::quest::Quest;
 use dn_interval::onward::last_out;
-use dn_interval::{Row, Rows, Seg, Span};
+use dn_interval::{Row, Rows, Seg, Span, TOP};
+use dn_view::system::System;
 use std::alloc::Global;
 
 /// The names of a unit that addresses of the agent reach, each with these addresses: it is found at once which address
@@ -70,21 +73,38 @@ fn way_in(row: &Row, x: u64, size: u64) -> Option<Way>
 }
 
 /// The preimages in a unit of the agent that asks. Time of a sort of its rows.
-pub(crate) fn preimages_of<Q: Quest>(
+pub(crate) fn preimages_of(
     alloc: Global,
-    quest: &Q,
+    system: System,
+    agent: u16,
     unit: u16,
 ) -> Result<Preimages, OutOfMemory>
-    requires consistent { Q.is_consistent quest.now }
-    requires ready { IsSearchReady (Q.sought quest.now) }
-    ensures { IfOk result (λ p. ArePreimages (Q.sought quest.now).net
-        (Q.sought quest.now).request.agent p) }
+    requires system { IsSystem meaning system }
+    requires there { agent < length system.on.net.now }
+    ensures { IfOk result (λ p. ArePreimages system.entry.on.net.now agent p) }
 {
-    let agent = quest.request().agent;
-    let stops = quest.stops(alloc, agent)?;
+    let stops = stops(alloc, system, agent)?;
     let back = turned(alloc, stops.as_slice(), agent, unit)?;
     let rows = Rows::normal(alloc, back.as_slice())?;
     Ok(Preimages { unit, rows })
+}
+
+/// The names in units to which the addresses of a node come, as segments.
+fn stops(alloc: Global, system: System, node: u16) -> Result<Vec<Seg>, OutOfMemory>
+    requires system { IsSystem meaning system }
+    requires there { node < length system.on.net.now }
+    ensures { IfOk result (λ segs. (a : ℕ) (z : End) → a ≤ TOP →
+        (segs_give segs.items a z ≡ true) ↔ StopsFrom system.entry.on.net.now node a z) }
+{
+    let mut segs = Vec::new(alloc);
+    let span = Span { lo: 0, hi: TOP };
+    let seg = Seg {
+        span,
+        node,
+        base: 0,
+    };
+    system.flats.push_stops(&mut segs, seg)?;
+    Ok(segs)
 }
 
 /// The names of a unit that segments give to addresses of a node, each with these addresses.

@@ -8,16 +8,16 @@ ghost use Rattle.dn_interval.specs.Terms.{Apart, AreNormal, rows_give};
 ghost use Rattle.dn_net.specs.declared.node.NodeDecl.{NodeDecl};
 ghost use Rattle.dn_flat.specs.Terms.{IsLevels, levels_give};
 ghost use Rattle.dn_placement.specs.declared.request.Request.{Request};
-ghost use Rattle.dn_view.specs.Terms.{levels_near};
-ghost use Rattle.dn_place.specs.Terms.{AreToward, GivesNone, InRow, IsClear, IsSearchReady, hops_view, is_past, wanted_name};
+ghost use Rattle.dn_view.specs.Terms.{IsSystem, levels_near};
+ghost use Rattle.dn_place.specs.Terms.{AreToward, GivesNone, InRow, IsClear, hops_view, is_past, wanted_name};
 
 use crate::OutOfMemory;
 use crate::hops::Hops;
-use crate::quest::Quest;
 use dn_flat::levels::Levels;
 use dn_interval::{End, Row, Rows};
 use dn_placement::request::Request;
 use dn_view::near::push_near;
+use dn_view::system::System;
 use std::alloc::Global;
 
 /// The first address of a stretch of so many to which the row gives the name and no other.
@@ -69,24 +69,26 @@ pub(crate) fn lent_rows(levels: &Levels, hops: Hops) -> Option<&[Row]>
 }
 
 /// The rows of a node that give it, made of all levels.
-pub(crate) fn made_rows<Q: Quest>(
+pub(crate) fn made_rows(
     alloc: Global,
-    quest: &Q,
+    system: System,
+    request: Request,
     node: u16,
     hops: Hops,
 ) -> Result<Rows, OutOfMemory>
-    requires consistent { Q.is_consistent quest.now }
-    requires ready { IsSearchReady (Q.sought quest.now) }
-    requires there { node < length (Q.sought quest.now).net }
-    ensures { IfOk result (λ rows. AreToward (Q.sought quest.now).net
-        (Q.sought quest.now).request (hops_view hops) node rows) }
+    requires system { IsSystem meaning system }
+    requires some { 1 ≤ request.size }
+    requires buffer { request.base + request.size ≤ TOP + 1 }
+    requires there { node < length system.on.net.now }
+    ensures { IfOk result (λ rows. AreToward system.entry.on.net.now
+        request (hops_view hops) node rows) }
 {
-    let size = quest.request().size;
-    let target = wanted_name(quest.request(), hops);
+    let target = wanted_name(request, hops);
     if hops.count() == 0 {
-        return quest.toward(alloc, node, target, size);
+        return system.flats.toward(alloc, node, target, request.size);
     }
-    near_rows(alloc, quest.levels(node).stops.as_slice(), target, size)
+    let levels = system.flats.of(node).stops.as_slice();
+    near_rows(alloc, levels, target, request.size)
 }
 
 /// Where levels give names of so many from one on, as normal rows of these names. A row counts whole, also where it
@@ -129,7 +131,7 @@ fn is_level_past(rows: &Rows, a: u64, size: u64) -> bool
 }
 
 /// Whether levels give nothing to the stretch.
-pub(crate) fn are_levels_past(levels: &[Rows], a: u64, size: u64) -> bool
+fn are_levels_past(levels: &[Rows], a: u64, size: u64) -> bool
     requires some { 1 ≤ size }
     requires fits { a + size < 18446744073709551616 }
     ensures yes { IsTrue result → GivesNone (levels_give levels.now) a size }
@@ -144,17 +146,17 @@ pub(crate) fn are_levels_past(levels: &[Rows], a: u64, size: u64) -> bool
 }
 
 /// Whether no stop is reached from the stretch of a node, where it is to reach none.
-pub(crate) fn is_clear<Q: Quest>(quest: &Q, node: u16, hops: Hops, a: u64, size: u64) -> bool
-    requires consistent { Q.is_consistent quest.now }
-    requires there { node < length (Q.sought quest.now).net }
+pub(crate) fn is_clear(system: System, node: u16, hops: Hops, a: u64, size: u64) -> bool
+    requires system { IsSystem meaning system }
+    requires there { node < length system.on.net.now }
     requires some { 1 ≤ size }
     requires fits { a + size ≤ TOP + 1 }
-    ensures yes { IsTrue result → IsClear (Q.sought quest.now).net node (hops_view hops) a size }
+    ensures yes { IsTrue result → IsClear system.entry.on.net.now node (hops_view hops) a size }
     ensures no { result ≡ false
-        → IsClear (Q.sought quest.now).net node (hops_view hops) a size → ⊥ }
+        → IsClear system.entry.on.net.now node (hops_view hops) a size → ⊥ }
 {
     match hops {
-        Hops::Zero => are_levels_past(quest.levels(node).stops.as_slice(), a, size),
+        Hops::Zero => are_levels_past(system.flats.of(node).stops.as_slice(), a, size),
         Hops::One(_) | Hops::Two(_, _) | Hops::Three(_, _, _) => true,
     }
 }

@@ -2,9 +2,9 @@
 
 ghost use Rattle.std.specs.Prelude.{◌≡◌, ◌<◌, ◌≤◌, ◌+◌, ◌-◌, ◌*◌, ◌/◌, ◌%◌, ◌^◌, IsTrue, ◌↔◌, IfSome, IfNone, false};
 ghost use Rattle.dn_net.specs.Terms.{unit_at};
-ghost use Rattle.dn_place.specs.Terms.{AreBarred, AreFree, AreFreeTo, AreShut, AreUsable, IsSearchReady, IsWithin, is_barred_slot, is_free_slot, is_usable_slot, slot_count, slot_of};
+ghost use Rattle.dn_place.specs.Terms.{AreBarred, AreFree, AreFreeTo, AreShut, AreUsable, IsSearch, IsWithin, is_barred_slot, is_free_slot, is_usable_slot, slot_count, slot_of, sought};
 
-use crate::quest::Quest;
+use crate::search::{Search, end_of_run, slot_in};
 use crate::slot_state::SlotState;
 use dn_net::node::Unit;
 use dn_tables::placement::Hop;
@@ -32,15 +32,15 @@ pub(crate) fn is_free_slot(slot: SlotState) -> bool
 }
 
 /// Whether the slots are free.
-fn are_free<Q: Quest>(quest: &Q, unit: u16, first: u32, last: u32) -> bool
-    requires consistent { Q.is_consistent quest.now }
+fn are_free(search: Search, unit: u16, first: u32, last: u32) -> bool
+    requires search { IsSearch meaning search }
     requires ordered { first ≤ last }
-    requires within { last < slot_count (unit_at (Q.sought quest.now).net unit) }
+    requires within { last < slot_count (unit_at search.system.on.net.now unit) }
     requires few { last < 262144 }
-    ensures { IsTrue result ↔ AreFree (Q.sought quest.now).slots unit first last }
+    ensures { IsTrue result ↔ AreFree (sought meaning search.entry).slots unit first last }
 {
     for slot in first..last + 1 {
-        if !is_free_slot(quest.slot(unit, slot)) {
+        if !is_free_slot(slot_in(search, unit, slot)) {
             return false;
         }
     }
@@ -60,8 +60,8 @@ pub(crate) fn is_barred_slot(slot: SlotState) -> bool
 
 /// The last of the slots that is not usable for the pages of a port, the first of which is for the
 /// first slot. None where all are usable. Those before the slot `free` are known to be free.
-fn last_unusable<Q: Quest>(
-    quest: &Q,
+fn last_unusable(
+    search: Search,
     unit: u16,
     first: u32,
     last: u32,
@@ -69,23 +69,27 @@ fn last_unusable<Q: Quest>(
     page: u64,
     free: u32,
 ) -> Option<u32>
-    requires consistent { Q.is_consistent quest.now }
+    requires search { IsSearch meaning search }
     requires ordered { first ≤ last }
-    requires within { last < slot_count (unit_at (Q.sought quest.now).net unit) }
+    requires within { last < slot_count (unit_at search.system.on.net.now unit) }
     requires few { last < 262144 }
     requires page { page < 2 ^ 60 }
-    requires free { AreFreeTo (Q.sought quest.now).slots unit first free }
+    requires free { AreFreeTo (sought meaning search).slots unit first free }
     ensures past { IfSome result (λ slot. first ≤ slot) }
     ensures up_to { IfSome result (λ slot. slot ≤ last) }
     ensures unusable { IfSome result (λ slot. is_usable_slot port (page + (slot - first))
-        (slot_of (Q.sought quest.now).slots unit slot) ≡ false) }
-    ensures none { IfNone result (AreUsable (Q.sought quest.now).slots unit first last port page) }
+        (slot_of (sought meaning search.entry).slots unit slot) ≡ false) }
+    ensures none { IfNone result (AreUsable (sought meaning search.entry).slots unit first last port page) }
 {
     let from = first.max(free);
     let mut end = last + 1;
     'slots: while from < end {
         end -= 1;
-        if !is_usable_slot(quest.slot(unit, end), port, page + u64::from(end - first)) {
+        if !is_usable_slot(
+            slot_in(search, unit, end),
+            port,
+            page + u64::from(end - first),
+        ) {
             return Some(end);
         }
     }
@@ -137,20 +141,19 @@ struct HopSlots {
 }
 
 /// The slots that a hop takes.
-fn slots_of_hop<Q: Quest>(quest: &Q, translator: &Unit, hop: Hop) -> HopSlots
-    requires consistent { Q.is_consistent quest.now }
-    requires ready { IsSearchReady (Q.sought quest.now) }
-    requires within { IsWithin (Q.sought quest.now) translator.now hop }
+fn slots_of_hop(search: Search, translator: &Unit, hop: Hop) -> HopSlots
+    requires search { IsSearch meaning search }
+    requires within { IsWithin (sought meaning search) translator.now hop }
     ensures page { result.page ≡ 2 ^ translator.now.page }
     ensures first { result.first ≡ hop.x / 2 ^ translator.now.page }
     ensures last { result.last
-        ≡ (hop.x + (Q.sought quest.now).request.size - 1) / 2 ^ translator.now.page }
+        ≡ (hop.x + search.entry.request.size - 1) / 2 ^ translator.now.page }
     ensures ordered { result.first ≤ result.last }
     ensures below { result.last < translator.now.slots }
-    ensures there { result.last < slot_count (unit_at (Q.sought quest.now).net hop.unit) }
+    ensures there { result.last < slot_count (unit_at search.entry.system.on.net.now hop.unit) }
     ensures few { result.last < 262144 }
 {
-    let size = quest.request().size;
+    let size = search.request.size;
     let page = power(translator.page);
     let first = (hop.x / page) as u32;
     let last = ((hop.x + size - 1) / page) as u32;
@@ -158,16 +161,15 @@ fn slots_of_hop<Q: Quest>(quest: &Q, translator: &Unit, hop: Hop) -> HopSlots
 }
 
 /// Whether the slots of a hop are free.
-pub(crate) fn is_hop_free<Q: Quest>(quest: &Q, translator: &Unit, hop: Hop) -> bool
-    requires consistent { Q.is_consistent quest.now }
-    requires ready { IsSearchReady (Q.sought quest.now) }
-    requires within { IsWithin (Q.sought quest.now) translator.now hop }
-    ensures { IsTrue result ↔ AreFree (Q.sought quest.now).slots hop.unit
+pub(crate) fn is_hop_free(search: Search, translator: &Unit, hop: Hop) -> bool
+    requires search { IsSearch meaning search }
+    requires within { IsWithin (sought meaning search) translator.now hop }
+    ensures { IsTrue result ↔ AreFree (sought meaning search.entry).slots hop.unit
         (hop.x / 2 ^ translator.now.page)
-        ((hop.x + (Q.sought quest.now).request.size - 1) / 2 ^ translator.now.page) }
+        ((hop.x + search.entry.request.size - 1) / 2 ^ translator.now.page) }
 {
-    let slots = slots_of_hop(quest, translator, hop);
-    are_free(quest, hop.unit, slots.first, slots.last)
+    let slots = slots_of_hop(search, translator, hop);
+    are_free(search, hop.unit, slots.first, slots.last)
 }
 
 /// An input, and before which slot those from the first of an input on are known to be free.
@@ -181,30 +183,29 @@ pub(crate) struct Input {
 /// usable. Where it is the hop's own, it does. The slots from the first of the hop's on are known to be
 /// free before a slot, and are then known to be free before the one that is answered, so that inputs in
 /// turn look at each slot once; and slots that follow one in the way, and that no hop may take, are passed at once.
-pub(crate) fn next_input<Q: Quest>(quest: &Q, translator: &Unit, hop: Hop, free: u32) -> Input
-    requires consistent { Q.is_consistent quest.now }
-    requires ready { IsSearchReady (Q.sought quest.now) }
-    requires within { IsWithin (Q.sought quest.now) translator.now hop }
-    requires reached { hop.y + (Q.sought quest.now).request.size ≤ 2 ^ translator.now.reach }
-    requires free { AreFreeTo (Q.sought quest.now).slots hop.unit
+pub(crate) fn next_input(search: Search, translator: &Unit, hop: Hop, free: u32) -> Input
+    requires search { IsSearch meaning search }
+    requires within { IsWithin (sought meaning search) translator.now hop }
+    requires reached { hop.y + search.request.size ≤ 2 ^ translator.now.reach }
+    requires free { AreFreeTo (sought meaning search).slots hop.unit
         (hop.x / 2 ^ translator.now.page) free }
     ensures onward { hop.x ≤ result.x }
     ensures agree { result.x % 2 ^ translator.now.page ≡ hop.x % 2 ^ translator.now.page }
     ensures few { result.x ≤ 2 ^ 59 }
-    ensures barred { AreBarred (Q.sought quest.now) translator.now hop result.x }
-    ensures free { AreFreeTo (Q.sought quest.now).slots hop.unit
+    ensures barred { AreBarred (sought meaning search.entry) translator.now hop result.x }
+    ensures free { AreFreeTo (sought meaning search.entry).slots hop.unit
         (hop.x / 2 ^ translator.now.page) result.free }
-    ensures usable { result.x ≡ hop.x → AreUsable (Q.sought quest.now).slots hop.unit
+    ensures usable { result.x ≡ hop.x → AreUsable (sought meaning search.entry).slots hop.unit
         (hop.x / 2 ^ translator.now.page)
-        ((hop.x + (Q.sought quest.now).request.size - 1) / 2 ^ translator.now.page)
+        ((hop.x + search.entry.request.size - 1) / 2 ^ translator.now.page)
         hop.port (hop.y / 2 ^ translator.now.page) }
 {
-    let slots = slots_of_hop(quest, translator, hop);
+    let slots = slots_of_hop(search, translator, hop);
     let output = hop.y / slots.page;
     let from = slots.first.max(free);
-    let end = quest.run_end(hop.unit, from, slots.last + 1, false);
+    let end = end_of_run(search, hop.unit, from, slots.last + 1, false);
     match last_unusable(
-        quest,
+        search,
         hop.unit,
         slots.first,
         slots.last,
@@ -213,9 +214,9 @@ pub(crate) fn next_input<Q: Quest>(quest: &Q, translator: &Unit, hop: Hop, free:
         end,
     ) {
         Some(slot) => {
-            let found = quest.slot(hop.unit, slot);
+            let found = slot_in(search, hop.unit, slot);
             let past = past_slot(found, slot, slots.first, hop.port, output);
-            let next = quest.run_end(hop.unit, past, translator.slots, true);
+            let next = end_of_run(search, hop.unit, past, translator.slots, true);
             let x = u64::from(next) * slots.page + hop.x % slots.page;
             Input { x, free: end }
         }

@@ -3,7 +3,8 @@ use Rattle.std.specs.Option.{IfSome}
 use Rattle.std.proofs.Common.{◌≡◌, ◌≢◌, ◌∙◌, ap, sym, subst, refl, arith, ℕ, suc, ◌≤◌, ◌<◌, ◌⊎◌, inl, inr, Bool, true, false, List, [], ◌∷◌, take, length, Option, Some, None, Result, Ok, Err, is_ok, OnOk, ◌==◌, ◌||◌, IsTrue, nat_le, eqb-true, leb-true}
 use Rattle.std.proofs.Math.Seq.{take-length}
 use Rattle.dn_base.specs.declared.device.TableEvent.{TableEvent}
-use Rattle.dn_base.specs.Device.{Logged}
+use Rattle.dn_base.specs.declared.device.UnitWords.{UnitWords}
+use Rattle.dn_base.specs.Device.{Logged, UnitSize}
 use Rattle.dn_base.specs.Outside.{Added, IsWritten}
 use Rattle.dn_base.proofs.Logs.{Logged-none}
 use Rattle.dn_base.proofs.Told.{Added-none}
@@ -48,52 +49,62 @@ use Rattle.dn_script.specs.Asked.{numbered, with_ids}
 use Rattle.dn_script.specs.Changed.{gathered_text, granted_text, revoke_refused_text, revoked_text, routed_text}
 use Rattle.dn_script.specs.Halt.{ending_status, is_device_halt, is_write_halt}
 use Rattle.dn_script.specs.Ids.{id_number, with_id}
-use Rattle.dn_script.specs.Played.{CameIn}
-use Rattle.dn_script.specs.State.{CameThrough, CameThroughChange, IsChanged, IsFirstView, IsHalted, IsState, state_view}
+use Rattle.dn_script.specs.Made.{TellsBook}
+use Rattle.dn_script.specs.State.{CameThrough, CameThroughChange, IsChanged, IsFirstView, IsHalted, IsInside, IsState, state_view}
+use Rattle.dn_script.specs.Stopped.{AreLeft}
 use Rattle.dn_script.specs.Turn.{IsGatherTurn, IsGrantTurn, IsRevokeTurn, IsRouteTurn, IsTurn, State, Turn, cleared_after, is_change, reply, reply_turn, state_with_id, turn_with_grant, turn_with_grants}
 use Rattle.dn_script.specs.Unmade.{AreUnmade}
+use Rattle.dn_script.proofs.Sizes.{HasTables}
 
 -- all events were added
 added_all : (events : List TableEvent) (log log' : Option (List TableEvent)) → AreAdded events false log log' → Logged log log' events
 added_all events log log' a = subst (λ es. Logged log log' es) (ap (λ n. take n events) (a.all refl) ∙ take-length events) a.logged
 
+-- what a device has where a turn was left after all its events, at a status that is none of the device's
+left_whole : (kinds : List Meaning) (net : List NodeDecl) (book : List Grant) (next : State) (t : Turn) (status : ℕ) (sizes : List UnitSize) (told : Option (List UnitWords)) → status ≢ 6 → t.next ≡ next → HasTables kinds net next.book sizes told → AreLeft kinds net book t.next.book status sizes told
+left_whole kinds net book next t status sizes told other left has = record {
+  units = has.units;
+  stopped = λ six. absurd (other six);
+  tables = λ _. subst (λ (z : State). TellsBook kinds net z.book told) (sym left) has.tables;
+}
+
 -- halts
 
 -- there was none for the reply
-pub halted_after : (P : Turn → Type 0) (r : Result (List ℕ) RunHalt) (next next' : State) (reply : List ℕ) (log log' : Option (List TableEvent)) → r ≡ Err NoMemory → IsChanged P next' reply log log' → CameThroughChange P r next log log'
-halted_after P r next next' reply log log' e c =
-    subst (λ (q : Result (List ℕ) RunHalt). CameThroughChange P q next log log') (sym e) (λ told. inr (record {
-      turn = c.turn;
-      is_turn = c.is_turn;
-      came = record {
-        events = length c.turn.events;
-        bytes = 0;
-        logged = subst (λ es. Logged log log' es) (sym (take-length c.turn.events)) c.logged;
-        written = Added-none told told refl;
-        in_order = λ _. refl;
-        sink = λ x. absurd (omega (arith, x));
-        device = λ x. absurd (omega (arith, x));
-        between = λ _. refl;
-      };
-    }))
+pub halted_after : {D : Type 0} (kinds : List Meaning) (net : List NodeDecl) (book : List Grant) (P : Turn → Type 0) (next next' : State) (reply : List ℕ) (units : D → List UnitSize) (words : D → Option (List UnitWords)) (log : D → Option (List TableEvent)) (d d' : D) → IsChanged P next' reply (log d) (log d') → HasTables kinds net next'.book (units d') (words d') → CameThroughChange kinds net book P (Err NoMemory) next units words log d d'
+halted_after kinds net book P next next' reply units words log d d' c has = λ told. inr (record {
+  turn = c.turn;
+  is_turn = c.is_turn;
+  came = record {
+    events = length c.turn.events;
+    bytes = 0;
+    logged = subst (λ es. Logged (log d) (log d') es) (sym (take-length c.turn.events)) c.logged;
+    written = Added-none told told refl;
+    in_order = λ _. refl;
+    sink = λ x. absurd (omega (arith, x));
+    device = λ x. absurd (omega (arith, x));
+    between = λ _. refl;
+  };
+  left = left_whole kinds net book next' c.turn 7 (units d') (words d') (λ e. absurd (omega (arith, e))) c.left has;
+})
 
 -- the device failed among the events of a turn
-stopped_inside : (P : Turn → Type 0) (t : Turn) (r : Result (List ℕ) RunHalt) (next : State) (log log' : Option (List TableEvent)) → r ≡ Err DeviceFault → P t → AreAdded t.events true log log' → CameThroughChange P r next log log'
-stopped_inside P t r next log log' e is a =
-    subst (λ (q : Result (List ℕ) RunHalt). CameThroughChange P q next log log') (sym e) (λ told. inr (record {
-      turn = t;
-      is_turn = is;
-      came = record {
-        events = a.made;
-        bytes = 0;
-        logged = a.logged;
-        written = Added-none told told refl;
-        in_order = λ _. refl;
-        sink = λ x. absurd (omega (arith, x));
-        device = λ _. a.less refl;
-        between = λ x. absurd (x refl);
-      };
-    }))
+pub stopped_inside : {D : Type 0} (kinds : List Meaning) (net : List NodeDecl) (book : List Grant) (P : Turn → Type 0) (t : Turn) (next : State) (units : D → List UnitSize) (words : D → Option (List UnitWords)) (log : D → Option (List TableEvent)) (d d' : D) → P t → AreAdded t.events true (log d) (log d') → AreLeft kinds net book t.next.book 6 (units d') (words d') → CameThroughChange kinds net book P (Err DeviceFault) next units words log d d'
+stopped_inside kinds net book P t next units words log d d' is a left = λ told. inr (record {
+  turn = t;
+  is_turn = is;
+  came = record {
+    events = a.made;
+    bytes = 0;
+    logged = a.logged;
+    written = Added-none told told refl;
+    in_order = λ _. refl;
+    sink = λ x. absurd (omega (arith, x));
+    device = λ _. a.less refl;
+    between = λ x. absurd (x refl);
+  };
+  left = left;
+})
 
 -- grants
 
@@ -110,11 +121,6 @@ granted_turn kinds net s next id rq v book' log log' words' made logged left =
       replied = ap (granted_text id) (sym made.address);
       left = ap (λ (b : List Grant). record { book = b; cleared = false; ids = with_id s.ids id }) (sym made.appended) ∙ left;
     }
-
--- a grant at which the device failed
-pub grant_stopped : (kinds : List Meaning) (net : List NodeDecl) (s next : State) (id : List ℕ) (rq : Request) (r : Result (List ℕ) RunHalt) (log log' : Option (List TableEvent)) (words' : List (List ℕ)) → r ≡ Err DeviceFault → IsGrantLogged net kinds s.book s.cleared (id_number s.ids id) rq true log log' words' → CameThroughChange (IsGrantTurn kinds net s id rq) r next log log'
-grant_stopped kinds net s next id rq r log log' words' e logged =
-    stopped_inside (IsGrantTurn kinds net s id rq) (turn_with_grant net kinds s id (grant_of_request (id_number s.ids id) rq logged.place) (granted_text id logged.place.v)) r next log log' e (inl (record { place = logged.place; placed = logged.placed; is_turn = refl })) logged.added
 
 -- the turn of a refusal that leaves this state, whose reply is this text
 pub refused_turn : (P : Turn → Type 0) (after next : State) (own text : List ℕ) (log log' : Option (List TableEvent)) → P (reply_turn own after) → text ≡ own → log' ≡ log → after ≡ next → IsChanged P next text log log'
@@ -161,11 +167,6 @@ routed_turn kinds net s next id agent line node v book' log log' words' made log
       left = ap (λ (b : List Grant). record { book = b; cleared = false; ids = with_id s.ids id }) (sym made.appended) ∙ left;
     }
 
--- a route at which the device failed
-pub route_stopped : (kinds : List Meaning) (net : List NodeDecl) (s next : State) (id : List ℕ) (agent line node : ℕ) (r : Result (List ℕ) RunHalt) (log log' : Option (List TableEvent)) (words' : List (List ℕ)) → r ≡ Err DeviceFault → IsRouteLogged net kinds s.book s.cleared (id_number s.ids id) agent line node true log log' words' → CameThroughChange (IsRouteTurn kinds net s id agent line node) r next log log'
-route_stopped kinds net s next id agent line node r log log' words' e logged =
-    stopped_inside (IsRouteTurn kinds net s id agent line node) (turn_with_grant net kinds s id (grant_of_route (id_number s.ids id) agent node logged.vector logged.place) (routed_text id logged.vector)) r next log log' e (inl (record { vector = logged.vector; place = logged.place; placed = logged.placed; is_turn = refl })) logged.added
-
 -- gathers
 
 -- a command that asks for pieces asks for one to eight
@@ -196,11 +197,6 @@ gathered_turn kinds net s next agent rights pieces v book' log log' words' made 
       left = ap (λ (b : List Grant). record { book = b; cleared = cleared_after s.cleared gs; ids = with_ids s.ids pieces }) (sym made.appended) ∙ left;
     }
 
--- a gather at which the device failed
-pub gather_stopped : (kinds : List Meaning) (net : List NodeDecl) (s next : State) (agent : ℕ) (rights : Rights) (pieces : List PieceTarget) (r : Result (List ℕ) RunHalt) (log log' : Option (List TableEvent)) (words' : List (List ℕ)) (book' : List Grant) → r ≡ Err DeviceFault → IsGatherLogged net kinds s.book s.cleared agent rights (numbered s.ids pieces) true log log' words' book' → CameThroughChange (IsGatherTurn kinds net s agent rights pieces) r next log log'
-gather_stopped kinds net s next agent rights pieces r log log' words' book' e logged =
-    stopped_inside (IsGatherTurn kinds net s agent rights pieces) (turn_with_grants net kinds s pieces (grants_of agent rights (numbered s.ids pieces) logged.place) (gathered_text logged.place.v (length pieces))) r next log log' e (inl (record { place = logged.place; placed = logged.placed; is_turn = refl })) logged.committed.added
-
 -- revokes
 
 -- a live grant of an id
@@ -224,12 +220,6 @@ revoked_turn kinds net s next id book' log log' has added is left =
       left = ap (λ (b : List Grant). record { book = b; cleared = true; ids = with_id s.ids id }) (sym is) ∙ left;
     }
 
--- a revoke at which the device failed
-pub revoke_stopped : (kinds : List Meaning) (net : List NodeDecl) (s next : State) (id : List ℕ) (r : Result (List ℕ) RunHalt) (log log' : Option (List TableEvent)) → r ≡ Err DeviceFault → has_id (id_number s.ids id) s.book ≡ true → ((g : Grant) → Member g s.book → g.id ≡ id_number s.ids id → AreAdded (revoke_events net kinds s.book g) true log log') → CameThroughChange (IsRevokeTurn kinds net s id) r next log log'
-revoke_stopped kinds net s next id r log log' e has added =
-    let g = lives (id_number s.ids id) s.book has in
-    stopped_inside (IsRevokeTurn kinds net s id) (record { events = revoke_events net kinds s.book g.0; reply = revoked_text id; next = record { book = without_id (id_number s.ids id) s.book; cleared = true; ids = with_id s.ids id } }) r next log log' e (inl (record { grant = g.0; lives = g.1; has = g.2; is_turn = refl })) (added g.0 g.1 g.2)
-
 -- a revoke that was refused
 pub not_revoked_turn : (kinds : List Meaning) (net : List NodeDecl) (s next : State) (id text : List ℕ) (log log' : Option (List TableEvent)) → has_id (id_number s.ids id) s.book ≡ false → text ≡ revoke_refused_text id → log' ≡ log → state_with_id s id ≡ next → IsChanged (IsRevokeTurn kinds net s id) next text log log'
 not_revoked_turn kinds net s next id text log log' none is same left = refused_turn (IsRevokeTurn kinds net s id) (state_with_id s id) next (revoke_refused_text id) text log log' (inr (record { none = none; is_turn = refl })) is same left
@@ -237,32 +227,37 @@ not_revoked_turn kinds net s next id text log log' none is same left = refused_t
 -- replies
 
 -- the reply was written, or a part of it
-pub replied : (P : Turn → Type 0) (r : Result (Unit {0}) RunHalt) (next : State) (reply : List ℕ) (a b : Option (List ℕ)) (log log' : Option (List TableEvent)) → IsChanged P next reply log log' → IsWritten a b (is_ok r) (is_write_halt r) reply → is_device_halt r ≡ false → CameThrough P r next a b log log'
-replied P (Ok u) next reply a b log log' c w none = record {
+pub replied : {D : Type 0} (kinds : List Meaning) (net : List NodeDecl) (book : List Grant) (P : Turn → Type 0) (r : Result (Unit {0}) RunHalt) (next : State) (reply : List ℕ) (a b : Option (List ℕ)) (units : D → List UnitSize) (words : D → Option (List UnitWords)) (log : D → Option (List TableEvent)) (d d' : D) → IsChanged P next reply (log d) (log d') → IsWritten a b (is_ok r) (is_write_halt r) reply → is_device_halt r ≡ false → HasTables kinds net next.book (units d') (words d') → CameThrough kinds net book P r next a b units words log d d'
+replied kinds net book P (Ok u) next reply a b units words log d d' c w none has = record {
   turn = c.turn;
   is_turn = c.is_turn;
   logged = c.logged;
   written = subst (λ l. Added a b l) (sym c.replied) (w.whole refl);
   left = c.left;
 }
-replied P (Err h) next reply a b log log' c w none = inr (record { turn = c.turn; is_turn = c.is_turn; came = by h w none })
+replied kinds net book P (Err h) next reply a b units words log d d' c w none has = inr (by h w none)
   where
-    came : (status bytes : ℕ) → status ≢ 6 → (status ≡ 3 → bytes < length reply) → Added a b (take bytes reply) → CameIn c.turn status a b log log'
-    came status bytes not_device less added = record {
-      events = length c.turn.events;
-      bytes = bytes;
-      logged = subst (λ es. Logged log log' es) (sym (take-length c.turn.events)) c.logged;
-      written = subst (λ l. Added a b (take bytes l)) (sym c.replied) added;
-      in_order = λ l. absurd (omega (arith, l));
-      sink = λ e. subst (λ (l : List ℕ). bytes < length l) (sym c.replied) (less e);
-      device = λ e. absurd (not_device e);
-      between = λ _. refl;
+    inside : (status bytes : ℕ) → status ≢ 6 → (status ≡ 3 → bytes < length reply) → Added a b (take bytes reply) → IsInside kinds net book P status a b (log d) (log d') (units d') (words d')
+    inside status bytes not_device less added = record {
+      turn = c.turn;
+      is_turn = c.is_turn;
+      came = record {
+        events = length c.turn.events;
+        bytes = bytes;
+        logged = subst (λ es. Logged (log d) (log d') es) (sym (take-length c.turn.events)) c.logged;
+        written = subst (λ l. Added a b (take bytes l)) (sym c.replied) added;
+        in_order = λ l. absurd (omega (arith, l));
+        sink = λ e. subst (λ (l : List ℕ). bytes < length l) (sym c.replied) (less e);
+        device = λ e. absurd (not_device e);
+        between = λ _. refl;
+      };
+      left = left_whole kinds net book next c.turn status (units d') (words d') not_device c.left has;
     }
 
-    by : (k : RunHalt) → IsWritten a b false (is_write_halt {A = Unit {0}} (Err k)) reply → is_device_halt {A = Unit {0}} (Err k) ≡ false → CameIn c.turn (ending_status (Err k)) a b log log'
-    by WriteFault v n = let less = v.less refl in came 3 less.0 (λ e. absurd (omega (arith, e))) (λ _. less.1) less.2
+    by : (k : RunHalt) → IsWritten a b false (is_write_halt {A = Unit {0}} (Err k)) reply → is_device_halt {A = Unit {0}} (Err k) ≡ false → IsInside kinds net book P (ending_status (Err k)) a b (log d) (log d') (units d') (words d')
+    by WriteFault v n = let less = v.less refl in inside 3 less.0 (λ e. absurd (omega (arith, e))) (λ _. less.1) less.2
     by DeviceFault v n = absurd (cc)
-    by NoMemory v n = came 7 v.front.0 (λ e. absurd (omega (arith, e))) (λ e. absurd (omega (arith, e))) v.front.1
+    by NoMemory v n = inside 7 v.front.0 (λ e. absurd (omega (arith, e))) (λ e. absurd (omega (arith, e))) v.front.1
 
 -- states
 
@@ -310,21 +305,21 @@ still_turn kinds net s (Revoke id) e = cc
 still_turn kinds net s (Gather from pieces m) e = cc
 
 -- its reply was written, or a part of it, and the state stays
-pub still_through : (kinds : List Meaning) (net : List NodeDecl) (s next : State) (c : Command) (r : Result (Unit {0}) RunHalt) (a b : Option (List ℕ)) (log : Option (List TableEvent)) → is_change c ≡ false → s ≡ next → IsWritten a b (is_ok r) (is_write_halt r) (reply kinds net s.book c) → is_device_halt r ≡ false → CameThrough (IsTurn kinds net s c) r next a b log log
-still_through kinds net s next c r a b log e same w none =
-    replied (IsTurn kinds net s c) r next (reply kinds net s.book c) a b log log (record {
+pub still_through : {D : Type 0} (kinds : List Meaning) (net : List NodeDecl) (s next : State) (c : Command) (r : Result (Unit {0}) RunHalt) (a b : Option (List ℕ)) (units : D → List UnitSize) (words : D → Option (List UnitWords)) (log : D → Option (List TableEvent)) (d : D) → is_change c ≡ false → s ≡ next → IsWritten a b (is_ok r) (is_write_halt r) (reply kinds net s.book c) → is_device_halt r ≡ false → HasTables kinds net s.book (units d) (words d) → CameThrough kinds net s.book (IsTurn kinds net s c) r next a b units words log d d
+still_through kinds net s next c r a b units words log d e same w none has =
+    replied kinds net s.book (IsTurn kinds net s c) r next (reply kinds net s.book c) a b units words log d d (record {
       turn = reply_turn (reply kinds net s.book c) s;
       is_turn = still_turn kinds net s c e;
-      logged = Logged-none log log refl;
+      logged = Logged-none (log d) (log d) refl;
       replied = refl;
       left = same;
-    }) w none
+    }) w none (subst (λ (z : State). HasTables kinds net z.book (units d) (words d)) same has)
 
 -- a change that halted wrote nothing
-pub change_halted : (P : Turn → Type 0) (r : Result (List ℕ) RunHalt) (h : RunHalt) (r' : Result (Unit {0}) RunHalt) (next : State) (told : Option (List ℕ)) (log log' : Option (List TableEvent)) → r ≡ Err h → r' ≡ Err h → CameThroughChange P r next log log' → CameThrough P r' next told told log log'
-change_halted P r h r' next told log log' e f c =
-    let halted : (told : Option (List ℕ)) → IsHalted P h told told log log' = subst (λ (q : Result (List ℕ) RunHalt). CameThroughChange P q next log log') e c in
-    subst (λ (q : Result (Unit {0}) RunHalt). CameThrough P q next told told log log') (sym f) (halted told)
+pub change_halted : {D : Type 0} (kinds : List Meaning) (net : List NodeDecl) (book : List Grant) (P : Turn → Type 0) (r : Result (List ℕ) RunHalt) (h : RunHalt) (r' : Result (Unit {0}) RunHalt) (next next' : State) (told : Option (List ℕ)) (units : D → List UnitSize) (words : D → Option (List UnitWords)) (log : D → Option (List TableEvent)) (d d' : D) → r ≡ Err h → r' ≡ Err h → CameThroughChange kinds net book P r next units words log d d' → CameThrough kinds net book P r' next' told told units words log d d'
+change_halted kinds net book P r h r' next next' told units words log d d' e f c =
+    let halted : (told : Option (List ℕ)) → IsHalted kinds net book P h told told units words log d d' = subst (λ (q : Result (List ℕ) RunHalt). CameThroughChange kinds net book P q next units words log d d') e c in
+    subst (λ (q : Result (Unit {0}) RunHalt). CameThrough kinds net book P q next' told told units words log d d') (sym f) (halted told)
 
 -- a state of which the book and the ids are as they were
 pub state_kept : (k k' : Kept) → k'.book ≡ k.book → k'.ids ≡ k.ids → state_view k ≡ state_view k'

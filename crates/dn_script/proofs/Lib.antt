@@ -11,6 +11,7 @@ pub mod Unmade
 pub mod Books
 pub mod Changes
 pub mod Filled
+pub mod Dumped
 pub mod Numbers
 pub mod OneTurn
 pub mod Seen
@@ -18,5 +19,6 @@ pub mod Kept
 pub mod Moments
 pub mod Flown
 pub mod Scripts
+pub mod Sizes
 pub mod Stopped
 pub mod Pages

@@ -1,6 +1,6 @@
 -- How far a run comes over a script, turn by turn.
-use Rattle.std.proofs.Common.{◌≡◌, ◌≢◌, ◌∙◌, ap, sym, subst, refl, arith, ℕ, zero, suc, ◌+◌, ◌<◌, ◌≤◌, ◌⊎◌, inl, inr, Bool, true, false, List, [], ◌∷◌, ◌++◌, map, take, length, get_or, Option, Result, Err, is_ok, append-nil, length-append}
-use Rattle.std.specs.Option.{IfSome}
+use Rattle.std.proofs.Common.{◌≡◌, ◌≢◌, ◌∙◌, ap, sym, subst, refl, arith, ℕ, zero, suc, ◌+◌, ◌<◌, ◌≤◌, ◌⊎◌, inl, inr, Bool, true, false, List, [], ◌∷◌, ◌++◌, map, take, length, get_or, Option, Some, None, Result, Err, is_ok, append-nil, length-append}
+use Rattle.std.specs.Option.{IfSome, option_map}
 use Rattle.std.proofs.lemmas.List.{take_more, take-append-le, length-map, length-take-le, take_at}
 use Rattle.std.proofs.lemmas.Grind.{flat_map-append}
 use Rattle.std.proofs.Math.Seq.{take-length}
@@ -8,7 +8,7 @@ use Rattle.dn_base.specs.declared.device.TableEvent.{TableEvent}
 use Rattle.dn_base.specs.declared.device.UnitWords.{UnitWords}
 use Rattle.dn_base.specs.declared.device.DeviceOrMemory.{DeviceOrMemory}
 use Rattle.dn_base.specs.declared.device.DeviceOrMemory.TheVariants.{Device, OutOfMemory}
-use Rattle.dn_base.specs.Device.{Logged, UnitSize, is_device_fault}
+use Rattle.dn_base.specs.Device.{Logged, UnitSize, is_device_fault, sizes_of}
 use Rattle.dn_base.specs.Outside.{Added}
 use Rattle.dn_base.proofs.Lists.{take_past}
 use Rattle.dn_base.proofs.Logs.{Logged-then}
@@ -16,29 +16,33 @@ use Rattle.dn_base.proofs.Orders.{cases_lt}
 use Rattle.dn_base.proofs.Told.{Added-none, Added-then}
 use Rattle.dn_net.specs.declared.node.NodeDecl.{NodeDecl}
 use Rattle.dn_kind.specs.Kind.{Meaning}
-use Rattle.dn_tables.specs.Set.{device_tables, fresh_set, tables_of_set}
+use Rattle.dn_tables.specs.Set.{fresh_set, tables_of_set}
 use Rattle.dn_tables.specs.Writes.{AreUnitsMade, make_event}
 use Rattle.dn_tables.proofs.Devices.{device_told}
 use Rattle.dn_tables.proofs.Fresh.{fresh_units}
-use Rattle.dn_book.specs.Book.{IsSound}
 use Rattle.dn_book.specs.Tables.{tables_of}
 use Rattle.dn_module.specs.declared.command.Command.{Command}
 use Rattle.dn_script.specs.declared.halt.RunHalt.{RunHalt}
 use Rattle.dn_script.specs.declared.halt.RunHalt.TheVariants.{WriteFault, DeviceFault, NoMemory}
 use Rattle.dn_script.specs.Books.{GivesOwed}
 use Rattle.dn_script.specs.Halt.{ending_status, is_free_status, make_halt}
+use Rattle.dn_script.specs.Made.{AreMadeSoFar, TellsBook, made_tables}
 use Rattle.dn_script.specs.Played.{CameIn, CameTo, IsPlayed, make_turn, turn_at}
 use Rattle.dn_script.specs.State.{CameThrough, IsHalted, IsTurned}
-use Rattle.dn_script.specs.Stopped.{AreCaught, IsStopped}
+use Rattle.dn_script.specs.Stopped.{AreCaught, AreLeft}
 use Rattle.dn_script.specs.Turn.{AreTurns, IsTurn, State, Turn, events_of, replies_of, reply_turn, start, state_after}
 use Rattle.dn_script.proofs.Empty.{fresh_tables}
 use Rattle.dn_script.proofs.Kept.{IsLawfulNet}
-use Rattle.dn_script.proofs.OneTurn.{turn_is_one}
 use Rattle.dn_script.proofs.Scripts.{added_given}
+use Rattle.dn_script.proofs.Sizes.{HasTables}
+
+-- the units as they are made are those of a fresh set
+making_tables : (kinds : List Meaning) (net : List NodeDecl) → tables_of_set (fresh_set kinds net) ≡ made_tables kinds net
+making_tables kinds net = device_told (fresh_set kinds net) net (tables_of net kinds []) (fresh_units kinds net) (fresh_tables kinds net)
 
 -- the events of the making
 making_events : (kinds : List Meaning) (net : List NodeDecl) → map make_event (tables_of_set (fresh_set kinds net)) ≡ (make_turn kinds net).events
-making_events kinds net = ap (map make_event) (device_told (fresh_set kinds net) net (tables_of net kinds []) (fresh_units kinds net) (fresh_tables kinds net))
+making_events kinds net = ap (map make_event) (making_tables kinds net)
 
 -- turns
 
@@ -138,12 +142,6 @@ gone_turned kinds net commands i s next c a b d log log' log'' g within at turne
     let there : GivesOwed kinds net turned.turn.next.book = subst (λ (z : State). GivesOwed kinds net z.book) (sym turned.left) owed in
     subst (λ (z : State). IsGone kinds net commands (i + 1) z a d log log'') turned.left (gone_more kinds net commands i s c turned.turn a b d log log' log'' g within at turned.is_turn there turned.written turned.logged)
 
--- the book that was left is sound
-gone_sound : (kinds : List Meaning) (net : List NodeDecl) (commands : List Command) (i : ℕ) (s : State) (a b : Option (List ℕ)) (log log' : Option (List TableEvent)) → IsGone kinds net commands i s a b log log' → IsSound net s.book
-gone_sound kinds net commands i s a b log log' g =
-    let whole : state_after start (take (length g.turns) g.turns) ≡ s = ap (state_after start) (take-length g.turns) ∙ g.left in
-    subst (λ (z : State). IsSound net z.book) whole (g.books (length g.turns) (omega arith)).kept.sound
-
 -- places of turns
 
 turn_past : (ts : List Turn) → turn_at ts (length ts) ≡ reply_turn [] start
@@ -209,10 +207,20 @@ came_in ts t status a b d log log' log'' going w l c =
 not_exact : (status : ℕ) → is_free_status status ≡ true → is_free_status status ≡ false → status ≡ 0
 not_exact status free e = let f : true ≡ false = sym free ∙ e in cc
 
+-- what is told of a device on which units were made, which had none
+made_told : (tables : List UnitWords) (told told' : Option (List UnitWords)) → IfSome told (λ ts. sizes_of ts ≡ []) → told' ≡ option_map (λ before. before ++ tables) told → IfSome told' (λ ts. ts ≡ tables)
+made_told tables told told' none is = subst (λ (o : Option (List UnitWords)). IfSome o (λ ts. ts ≡ tables)) (sym is) (by told none)
+  where
+    by : (o : Option (List UnitWords)) → IfSome o (λ ts. sizes_of ts ≡ []) → IfSome (option_map (λ before. before ++ tables) o) (λ ts. ts ≡ tables)
+    by None e = tt
+    by (Some []) e = refl
+    by (Some (t ∷ ts)) e = absurd (cc)
+
 -- not all units were made
-pub played_unmade : (kinds : List Meaning) (net : List NodeDecl) (commands : List Command) (status : ℕ) (failed : Bool) (a b : Option (List ℕ)) (log log' : Option (List TableEvent)) (sizes : List UnitSize) (told told' : Option (List UnitWords)) → is_free_status status ≡ true → status ≢ 0 → status ≢ 3 → (status ≡ 6 → failed ≡ true) → IsLawfulNet kinds net → b ≡ a → AreUnitsMade (tables_of_set (fresh_set kinds net)) false failed log log' sizes told told' → IsPlayed kinds net commands status a b log log' told'
-played_unmade kinds net commands status failed a b log log' sizes told told' free going not_sink device known same made =
+pub played_unmade : (kinds : List Meaning) (net : List NodeDecl) (commands : List Command) (status : ℕ) (failed : Bool) (a b : Option (List ℕ)) (log log' : Option (List TableEvent)) (sizes : List UnitSize) (told told' : Option (List UnitWords)) → is_free_status status ≡ true → status ≢ 0 → status ≢ 3 → (status ≡ 6 → failed ≡ true) → IsLawfulNet kinds net → b ≡ a → IfSome told (λ ts. sizes_of ts ≡ []) → AreUnitsMade (tables_of_set (fresh_set kinds net)) false failed log log' sizes told told' → IsPlayed kinds net commands status a b log log' sizes told'
+played_unmade kinds net commands status failed a b log log' sizes told told' free going not_sink device known same none made =
     let tables : List UnitWords = tables_of_set (fresh_set kinds net) in
+    let first : take made.made tables ≡ take made.made (made_tables kinds net) = ap (take made.made) (making_tables kinds net) in
     let events : map make_event (take made.made tables) ≡ take made.made (make_turn kinds net).events = sym (take-map made.made tables) ∙ ap (take made.made) (making_events kinds net) in
     let count : length (make_turn kinds net).events ≡ length tables = ap length (sym (making_events kinds net)) ∙ length-map tables make_event in
     record {
@@ -234,7 +242,12 @@ played_unmade kinds net commands status failed a b log log' sizes told told' fre
       };
       exact = not_exact status free;
       all = λ e. absurd (going e);
-      tables = λ e. absurd (going e);
+      made = record {
+        all = λ l. absurd (omega (arith, l));
+        first = λ _. made.units ∙ ap sizes_of first;
+        unwritten = λ _. subst (λ (l : List UnitWords). IfSome told' (λ ts. ts ≡ l)) first (made_told (take made.made tables) told told' none made.on_device);
+      };
+      tables = λ _ l. absurd (omega (arith, l));
       books = λ count l. absurd (omega (arith, l));
       stopped = λ _ count e. absurd (omega (arith, e));
       flown = added_given kinds net [] [] known.lawful known.legal refl 0 made.made;
@@ -245,6 +258,14 @@ played_unmade kinds net commands status failed a b log log' sizes told told' fre
     take-map (suc n) [] = refl
     take-map (suc n) (t ∷ ts) = ap (λ l. make_event t ∷ l) (take-map n ts)
 
+-- what was made where the first turn was gone through
+made_whole : (kinds : List Meaning) (net : List NodeDecl) (whole events : ℕ) (sizes : List UnitSize) (told : Option (List UnitWords)) → 1 ≤ whole → sizes ≡ sizes_of (made_tables kinds net) → AreMadeSoFar kinds net whole events sizes told
+made_whole kinds net whole events sizes told some all = record {
+  all = λ _. all;
+  first = λ none. absurd (omega (arith, some, none));
+  unwritten = λ none. absurd (omega (arith, some, none));
+}
+
 -- so many turns are those of so many commands
 happened_first : (kinds : List Meaning) (net : List NodeDecl) (commands : List Command) (i : ℕ) (ts : List Turn) → i ≤ length commands → AreTurns kinds net start (take i commands) ts → (length ts ≡ i) × AreTurns kinds net start (take (length ts) commands) ts
 happened_first kinds net commands i ts l h =
@@ -252,8 +273,8 @@ happened_first kinds net commands i ts l h =
     (size, subst (λ n. AreTurns kinds net start (take n commands) ts) (sym size) h)
 
 -- all commands were answered
-pub played_whole : (kinds : List Meaning) (net : List NodeDecl) (commands : List Command) (i status : ℕ) (s : State) (a b : Option (List ℕ)) (log log' : Option (List TableEvent)) (told' : Option (List UnitWords)) → i ≡ length commands → status ≡ 0 → IfSome told' (λ tables. tables ≡ device_tables 0 net (tables_of net kinds s.book)) → IsGone kinds net commands i s a b log log' → IsPlayed kinds net commands status a b log log' told'
-played_whole kinds net commands i status s a b log log' told' over none told g =
+pub played_whole : (kinds : List Meaning) (net : List NodeDecl) (commands : List Command) (i status : ℕ) (s : State) (a b : Option (List ℕ)) (log log' : Option (List TableEvent)) (sizes : List UnitSize) (told' : Option (List UnitWords)) → i ≡ length commands → status ≡ 0 → HasTables kinds net s.book sizes told' → IsGone kinds net commands i s a b log log' → IsPlayed kinds net commands status a b log log' sizes told'
+played_whole kinds net commands i status s a b log log' sizes told' over none has g =
     let h = happened_first kinds net commands i g.turns (omega (arith, over)) g.happened in
     let came = came_whole (make_turn kinds net ∷ g.turns) status a b log log' (λ e. let x = none in absurd (omega (arith, e, x))) (λ e. let x = none in absurd (omega (arith, e, x))) g.written g.logged in
     record {
@@ -263,15 +284,16 @@ played_whole kinds net commands i status s a b log log' told' over none told g =
       came = came.0;
       exact = λ _. none;
       all = λ _. h.0 ∙ over;
+      made = made_whole kinds net came.0.whole came.0.events sizes told' (let e = came.1 in omega (arith, e)) has.units;
       books = λ count l. (let e = came.1 in g.books count (omega (arith, l, e)));
-      tables = λ _. subst (λ (z : State). IfSome told' (λ tables. tables ≡ device_tables 0 net (tables_of net kinds z.book))) (sym g.left) told;
+      tables = λ _ _. subst (λ (z : State). TellsBook kinds net z.book told') (sym g.left) has.tables;
       stopped = λ six _ _. (let x = none in absurd (omega (arith, six, x)));
       flown = added_given kinds net _ g.turns g.known.lawful g.known.legal h.1 came.0.whole came.0.events;
     }
 
 -- it stopped before a command for want of memory
-pub played_before : (kinds : List Meaning) (net : List NodeDecl) (commands : List Command) (i status : ℕ) (s : State) (a b : Option (List ℕ)) (log log' : Option (List TableEvent)) (told' : Option (List UnitWords)) → i ≤ length commands → status ≡ 7 → IsGone kinds net commands i s a b log log' → IsPlayed kinds net commands status a b log log' told'
-played_before kinds net commands i status s a b log log' told' within is g =
+pub played_before : (kinds : List Meaning) (net : List NodeDecl) (commands : List Command) (i status : ℕ) (s : State) (a b : Option (List ℕ)) (log log' : Option (List TableEvent)) (sizes : List UnitSize) (told' : Option (List UnitWords)) → i ≤ length commands → status ≡ 7 → HasTables kinds net s.book sizes told' → IsGone kinds net commands i s a b log log' → IsPlayed kinds net commands status a b log log' sizes told'
+played_before kinds net commands i status s a b log log' sizes told' within is has g =
     let h = happened_first kinds net commands i g.turns within g.happened in
     let came = came_whole (make_turn kinds net ∷ g.turns) status a b log log' (λ e. absurd (omega (arith, e, is))) (λ e. absurd (omega (arith, e, is))) g.written g.logged in
     record {
@@ -282,7 +304,8 @@ played_before kinds net commands i status s a b log log' told' within is g =
       books = λ count l. (let e = came.1 in g.books count (omega (arith, l, e)));
       exact = not_exact status (ap is_free_status is);
       all = λ e. absurd (omega (arith, e, is));
-      tables = λ e. absurd (omega (arith, e, is));
+      made = made_whole kinds net came.0.whole came.0.events sizes told' (let e = came.1 in omega (arith, e)) has.units;
+      tables = λ _ _. subst (λ (z : State). TellsBook kinds net z.book told') (sym g.left) has.tables;
       stopped = λ six _ _. absurd (omega (arith, six, is));
       flown = added_given kinds net _ g.turns g.known.lawful g.known.legal h.1 came.0.whole came.0.events;
     }
@@ -300,8 +323,8 @@ caught_last kinds net ts t s count told left n caught =
     (subst (λ (z : State). IfSome told (AreCaught kinds net z.book t.next.book)) (sym before) caught)
 
 -- it stopped in the turn of a command
-pub played_in : (kinds : List Meaning) (net : List NodeDecl) (commands : List Command) (i status : ℕ) (s : State) (c : Command) (t : Turn) (a b d : Option (List ℕ)) (log log' log'' : Option (List TableEvent)) (told' : Option (List UnitWords)) → i < length commands → c ≡ get_or commands i c → is_free_status status ≡ true → status ≢ 0 → IsGone kinds net commands i s a b log log' → IsTurn kinds net s c t → CameIn t status b d log' log'' → (status ≡ 6 → IfSome told' (AreCaught kinds net s.book t.next.book)) → IsPlayed kinds net commands status a d log log'' told'
-played_in kinds net commands i status s c t a b d log log' log'' told' within at free going g is came caught =
+pub played_in : (kinds : List Meaning) (net : List NodeDecl) (commands : List Command) (i status : ℕ) (s : State) (c : Command) (t : Turn) (a b d : Option (List ℕ)) (log log' log'' : Option (List TableEvent)) (sizes : List UnitSize) (told' : Option (List UnitWords)) → i < length commands → c ≡ get_or commands i c → is_free_status status ≡ true → status ≢ 0 → IsGone kinds net commands i s a b log log' → IsTurn kinds net s c t → CameIn t status b d log' log'' → AreLeft kinds net s.book t.next.book status sizes told' → IsPlayed kinds net commands status a d log log'' sizes told'
+played_in kinds net commands i status s c t a b d log log' log'' sizes told' within at free going g is came left =
     let next : take (i + 1) commands ≡ take i commands ++ c ∷ [] = take_more commands i c within ∙ ap (λ (e : Command). take i commands ++ e ∷ []) (sym at) in
     let turns : AreTurns kinds net start (take (i + 1) commands) (g.turns ++ t ∷ []) = subst (λ cs. AreTurns kinds net start cs (g.turns ++ t ∷ [])) (sym next) (turns_more kinds net start (take i commands) g.turns c t g.happened (subst (λ z. IsTurn kinds net z c t) (sym g.left) is)) in
     let h = happened_first kinds net commands (i + 1) (g.turns ++ t ∷ []) (omega (arith, within)) turns in
@@ -316,65 +339,59 @@ played_in kinds net commands i status s c t a b d log log' log'' told' within at
           subst (λ (ts : List Turn). GivesOwed kinds net (state_after start ts).book) (sym (take-append-le count g.turns (t ∷ []) few)) (g.books count few));
       exact = not_exact status free;
       all = λ e. absurd (going e);
-      tables = λ e. absurd (going e);
-      stopped = λ six count e. (let w = stop.1 in caught_last kinds net g.turns t s count told' g.left (omega (arith, e, w)) (caught six));
+      made = made_whole kinds net stop.0.whole stop.0.events sizes told' (let e = stop.1 in omega (arith, e)) left.units;
+      tables = λ other _. subst (λ (z : State). TellsBook kinds net z.book told') (sym (state_last start g.turns t)) (left.tables other);
+      stopped = λ six count e. (let w = stop.1 in caught_last kinds net g.turns t s count told' g.left (omega (arith, e, w)) (left.stopped six));
       flown = added_given kinds net _ (g.turns ++ t ∷ []) g.known.lawful g.known.legal h.1 stop.0.whole stop.0.events;
     }
 
 -- by what stopped it
 
 -- the units were not made
-pub unmade_by : {X : Type 0} (kinds : List Meaning) (net : List NodeDecl) (commands : List Command) (r : Result X DeviceOrMemory) (fault : DeviceOrMemory) (ended : Result ℕ RunHalt) (a b : Option (List ℕ)) (log log' : Option (List TableEvent)) (sizes : List UnitSize) (told told' : Option (List UnitWords)) → IsLawfulNet kinds net → r ≡ Err fault → ended ≡ Err (make_halt fault) → b ≡ a → AreUnitsMade (tables_of_set (fresh_set kinds net)) (is_ok r) (is_device_fault r) log log' sizes told told' → IsPlayed kinds net commands (ending_status ended) a b log log' told'
-unmade_by {X} kinds net commands r fault ended a b log log' sizes told told' known is by same made =
+pub unmade_by : {X : Type 0} (kinds : List Meaning) (net : List NodeDecl) (commands : List Command) (r : Result X DeviceOrMemory) (fault : DeviceOrMemory) (ended : Result ℕ RunHalt) (a b : Option (List ℕ)) (log log' : Option (List TableEvent)) (sizes : List UnitSize) (told told' : Option (List UnitWords)) → IsLawfulNet kinds net → r ≡ Err fault → ended ≡ Err (make_halt fault) → b ≡ a → IfSome told (λ ts. sizes_of ts ≡ []) → AreUnitsMade (tables_of_set (fresh_set kinds net)) (is_ok r) (is_device_fault r) log log' sizes told told' → IsPlayed kinds net commands (ending_status ended) a b log log' sizes told'
+unmade_by {X} kinds net commands r fault ended a b log log' sizes told told' known is by same none made =
     let given : AreUnitsMade (tables_of_set (fresh_set kinds net)) false (is_device_fault {A = X} (Err fault)) log log' sizes told told' = subst (λ (q : Result X DeviceOrMemory). AreUnitsMade (tables_of_set (fresh_set kinds net)) (is_ok q) (is_device_fault q) log log' sizes told told') is made in
-    subst (λ (e : Result ℕ RunHalt). IsPlayed kinds net commands (ending_status e) a b log log' told') (sym by) (go fault given)
+    subst (λ (e : Result ℕ RunHalt). IsPlayed kinds net commands (ending_status e) a b log log' sizes told') (sym by) (go fault given)
   where
-    go : (f : DeviceOrMemory) → AreUnitsMade (tables_of_set (fresh_set kinds net)) false (is_device_fault {A = X} (Err f)) log log' sizes told told' → IsPlayed kinds net commands (ending_status (Err (make_halt f))) a b log log' told'
-    go Device m = played_unmade kinds net commands 6 true a b log log' sizes told told' refl (λ e. absurd (omega (arith, e))) (λ e. absurd (omega (arith, e))) (λ e. refl) known same m
-    go OutOfMemory m = played_unmade kinds net commands 7 false a b log log' sizes told told' refl (λ e. absurd (omega (arith, e))) (λ e. absurd (omega (arith, e))) (λ e. absurd (omega (arith, e))) known same m
+    go : (f : DeviceOrMemory) → AreUnitsMade (tables_of_set (fresh_set kinds net)) false (is_device_fault {A = X} (Err f)) log log' sizes told told' → IsPlayed kinds net commands (ending_status (Err (make_halt f))) a b log log' sizes told'
+    go Device m = played_unmade kinds net commands 6 true a b log log' sizes told told' refl (λ e. absurd (omega (arith, e))) (λ e. absurd (omega (arith, e))) (λ e. refl) known same none m
+    go OutOfMemory m = played_unmade kinds net commands 7 false a b log log' sizes told told' refl (λ e. absurd (omega (arith, e))) (λ e. absurd (omega (arith, e))) (λ e. absurd (omega (arith, e))) known same none m
 
--- a command was left inside its turn, or before it
-pub halted_by : {X : Type 0} (kinds : List Meaning) (net : List NodeDecl) (commands : List Command) (i : ℕ) (c : Command) (s next : State) (r : Result X RunHalt) (halt : RunHalt) (ended : Result ℕ RunHalt) (a b d : Option (List ℕ)) (log log' log'' : Option (List TableEvent)) (told' : Option (List UnitWords)) → r ≡ Err halt → ended ≡ Err halt → i < length commands → c ≡ get_or commands i c → IsGone kinds net commands i s a b log log' → CameThrough (IsTurn kinds net s c) r next b d log' log'' → (r ≡ Err DeviceFault → IsStopped kinds net s.book (IsTurn kinds net s c) told') → IsPlayed kinds net commands (ending_status ended) a d log log'' told'
-halted_by {X} kinds net commands i c s next r halt ended a b d log log' log'' told' is by within at g came stop =
-    let given : IsHalted (IsTurn kinds net s c) halt b d log' log'' = subst (λ (q : Result X RunHalt). CameThrough (IsTurn kinds net s c) q next b d log' log'') is came in
-    subst (λ (e : Result ℕ RunHalt). IsPlayed kinds net commands (ending_status e) a d log log'' told') (sym by) (go given)
+-- a command was left inside its turn, or before it, on a device that had the tables of the book
+pub halted_by : {X D : Type 0} (kinds : List Meaning) (net : List NodeDecl) (commands : List Command) (i : ℕ) (c : Command) (s next : State) (r : Result X RunHalt) (halt : RunHalt) (ended : Result ℕ RunHalt) (a b e : Option (List ℕ)) (log : Option (List TableEvent)) (units : D → List UnitSize) (words : D → Option (List UnitWords)) (logged : D → Option (List TableEvent)) (d d' : D) → r ≡ Err halt → ended ≡ Err halt → i < length commands → c ≡ get_or commands i c → HasTables kinds net s.book (units d) (words d) → IsGone kinds net commands i s a b log (logged d) → CameThrough kinds net s.book (IsTurn kinds net s c) r next b e units words logged d d' → IsPlayed kinds net commands (ending_status ended) a e log (logged d') (units d') (words d')
+halted_by {X} {D} kinds net commands i c s next r halt ended a b e log units words logged d d' is by within at has g came =
+    let given : IsHalted kinds net s.book (IsTurn kinds net s c) halt b e units words logged d d' = subst (λ (q : Result X RunHalt). CameThrough kinds net s.book (IsTurn kinds net s c) q next b e units words logged d d') is came in
+    subst (λ (x : Result ℕ RunHalt). IsPlayed kinds net commands (ending_status x) a e log (logged d') (units d') (words d')) (sym by) (go given)
   where
     going : (h : RunHalt) → ending_status (Err h) ≢ 0
-    going WriteFault e = absurd (omega (arith, e))
-    going DeviceFault e = absurd (omega (arith, e))
-    going NoMemory e = absurd (omega (arith, e))
+    going WriteFault x = absurd (omega (arith, x))
+    going DeviceFault x = absurd (omega (arith, x))
+    going NoMemory x = absurd (omega (arith, x))
 
     free : (h : RunHalt) → is_free_status (ending_status (Err h)) ≡ true
     free WriteFault = refl
     free DeviceFault = refl
     free NoMemory = refl
 
-    caught : (h : RunHalt) → r ≡ Err h → (t : Turn) → IsTurn kinds net s c t → ending_status (Err h) ≡ 6 → IfSome told' (AreCaught kinds net s.book t.next.book)
-    caught WriteFault e t turned six = absurd (omega (arith, six))
-    caught DeviceFault e t turned six =
-        let z = stop e in
-        let same : z.turn ≡ t = turn_is_one kinds net s c z.turn t g.known.legal.legal (gone_sound kinds net commands i s a b log log' g) z.is_turn turned in
-        subst (λ (u : Turn). IfSome told' (AreCaught kinds net s.book u.next.book)) same z.caught
-    caught NoMemory e t turned six = absurd (omega (arith, six))
-
-    go : IsHalted (IsTurn kinds net s c) halt b d log' log'' → IsPlayed kinds net commands (ending_status (Err halt)) a d log log'' told'
+    go : IsHalted kinds net s.book (IsTurn kinds net s c) halt b e units words logged d d' → IsPlayed kinds net commands (ending_status (Err halt)) a e log (logged d') (units d') (words d')
     go (inl z) =
-        let here : IsGone kinds net commands i s a d log log'' = record {
+        let here : IsGone kinds net commands i s a e log (logged d') = record {
           known = g.known;
           books = g.books;
           turns = g.turns;
           happened = g.happened;
           left = g.left;
           written = subst (λ x. Added a x (replies_of (make_turn kinds net ∷ g.turns))) (sym z.sink_is) g.written;
-          logged = subst (λ x. Logged log x (events_of (make_turn kinds net ∷ g.turns))) (sym z.log_is) g.logged;
+          logged = subst (λ (x : D). Logged log (logged x) (events_of (make_turn kinds net ∷ g.turns))) (sym z.device_is) g.logged;
         } in
-        played_before kinds net commands i (ending_status (Err halt)) s a d log log'' told' (omega (arith, within)) (ap (λ (h : RunHalt). ending_status (Err h)) z.memory) here
-    go (inr z) = played_in kinds net commands i (ending_status (Err halt)) s c z.turn a b d log log' log'' told' within at (free halt) (going halt) g z.is_turn z.came (caught halt is z.turn z.is_turn)
+        let still : HasTables kinds net s.book (units d') (words d') = subst (λ (x : D). HasTables kinds net s.book (units x) (words x)) (sym z.device_is) has in
+        played_before kinds net commands i (ending_status (Err halt)) s a e log (logged d') (units d') (words d') (omega (arith, within)) (ap (λ (h : RunHalt). ending_status (Err h)) z.memory) still here
+    go (inr z) = played_in kinds net commands i (ending_status (Err halt)) s c z.turn a b e log (logged d) (logged d') (units d') (words d') within at (free halt) (going halt) g z.is_turn z.came z.left
 
 -- it stopped for want of memory, before a command was made
-pub halted_unmade : (kinds : List Meaning) (net : List NodeDecl) (commands : List Command) (i : ℕ) (s : State) (ended : Result ℕ RunHalt) (a b : Option (List ℕ)) (log log' : Option (List TableEvent)) (told' : Option (List UnitWords)) → ended ≡ Err NoMemory → i ≤ length commands → IsGone kinds net commands i s a b log log' → IsPlayed kinds net commands (ending_status ended) a b log log' told'
-halted_unmade kinds net commands i s ended a b log log' told' by within g =
-    subst (λ (e : Result ℕ RunHalt). IsPlayed kinds net commands (ending_status e) a b log log' told') (sym by) (played_before kinds net commands i 7 s a b log log' told' within refl g)
+pub halted_unmade : (kinds : List Meaning) (net : List NodeDecl) (commands : List Command) (i : ℕ) (s : State) (ended : Result ℕ RunHalt) (a b : Option (List ℕ)) (log log' : Option (List TableEvent)) (sizes : List UnitSize) (told' : Option (List UnitWords)) → ended ≡ Err NoMemory → i ≤ length commands → HasTables kinds net s.book sizes told' → IsGone kinds net commands i s a b log log' → IsPlayed kinds net commands (ending_status ended) a b log log' sizes told'
+halted_unmade kinds net commands i s ended a b log log' sizes told' by within has g =
+    subst (λ (e : Result ℕ RunHalt). IsPlayed kinds net commands (ending_status e) a b log log' sizes told') (sym by) (played_before kinds net commands i 7 s a b log log' sizes told' within refl has g)
 
 -- the turns of what was gone through
 
@@ -382,6 +399,6 @@ pub more_turns : (kinds : List Meaning) (net : List NodeDecl) (commands : List C
 unfolding gone_more
 more_turns kinds net commands i s c t a b d log log' log'' g within at is owed w l = refl
 
-pub whole_turns : (kinds : List Meaning) (net : List NodeDecl) (commands : List Command) (i status : ℕ) (s : State) (a b : Option (List ℕ)) (log log' : Option (List TableEvent)) (told' : Option (List UnitWords)) (over : i ≡ length commands) (none : status ≡ 0) (told : IfSome told' (λ tables. tables ≡ device_tables 0 net (tables_of net kinds s.book))) (g : IsGone kinds net commands i s a b log log') → (played_whole kinds net commands i status s a b log log' told' over none told g).turns ≡ g.turns
+pub whole_turns : (kinds : List Meaning) (net : List NodeDecl) (commands : List Command) (i status : ℕ) (s : State) (a b : Option (List ℕ)) (log log' : Option (List TableEvent)) (sizes : List UnitSize) (told' : Option (List UnitWords)) (over : i ≡ length commands) (none : status ≡ 0) (has : HasTables kinds net s.book sizes told') (g : IsGone kinds net commands i s a b log log') → (played_whole kinds net commands i status s a b log log' sizes told' over none has g).turns ≡ g.turns
 unfolding played_whole
-whole_turns kinds net commands i status s a b log log' told' over none told g = refl
+whole_turns kinds net commands i status s a b log log' sizes told' over none has g = refl

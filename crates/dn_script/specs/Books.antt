@@ -8,11 +8,14 @@ use Rattle.dn_net.specs.Legal.{IsLegalNet}
 use Rattle.dn_kind.specs.declared.rights.Access.{Access}
 use Rattle.dn_kind.specs.Kind.{IsLawful, Meaning}
 use Rattle.dn_kind.specs.Units.{IsLegalWith}
-use Rattle.dn_image.specs.Image.{image}
+use Rattle.dn_image.specs.Bytes.{AreBytes}
+use Rattle.dn_image.specs.Image.{image, written_version}
+use Rattle.dn_image.specs.Reading.{image_reading}
 use Rattle.dn_lookup.specs.Lookup.{lookup_of}
 use Rattle.dn_book.specs.declared.grant.Grant.{Grant}
 use Rattle.dn_book.specs.Book.{IsFaithful, IsSound, owed_names}
 use Rattle.dn_book.specs.Tables.{tables_of}
+use Rattle.dn_print.specs.Dump.{dump_text}
 use Rattle.dn_module.specs.declared.command.Command.{Command}
 use Rattle.dn_script.specs.Turn.{AreTurns, Turn, start, state_after}
 
@@ -46,3 +49,25 @@ abbrev pub FaithfulImageGivesOwed : Type 0
 FaithfulImageGivesOwed = (kinds : List Meaning) (net : List NodeDecl) (book : List Grant) →
     All IsLawful kinds → IsLegalWith kinds net → IsKeptFaithful net book →
     ImageGivesOwed kinds net book
+
+-- bytes are read as the tables of a book, in the version that is written
+abbrev pub IsReadAsBook : List Meaning → List NodeDecl → List Grant → List ℕ → Type 0
+IsReadAsBook kinds net book bytes = image_reading net kinds bytes
+    ≡ Ok (record { version = written_version; words = tables_of net kinds book })
+
+-- the image of a book's tables is bytes, and is read as these tables
+pub record IsImageRead (kinds : List Meaning) (net : List NodeDecl) (book : List Grant) : Type 0 where
+  pub bytes : AreBytes (image net kinds (tables_of net kinds book))
+  pub read : IsReadAsBook kinds net book (image net kinds (tables_of net kinds book))
+
+-- The image of the tables of a sound book is bytes, and is read as these tables.
+abbrev pub BookImageIsRead : Type 0
+BookImageIsRead = (kinds : List Meaning) (net : List NodeDecl) (book : List Grant) →
+    All IsLawful kinds → IsLegalWith kinds net → IsSound net book → IsImageRead kinds net book
+
+-- Whatever bytes have the text that a dump of a sound book prints, they are read as the tables of this book.
+abbrev pub DumpTellsTables : Type 0
+DumpTellsTables = (kinds : List Meaning) (net : List NodeDecl) (book : List Grant) →
+    All IsLawful kinds → IsLegalWith kinds net → IsSound net book → (bytes : List ℕ) →
+    AreBytes bytes → dump_text bytes ≡ dump_text (image net kinds (tables_of net kinds book)) →
+    IsReadAsBook kinds net book bytes

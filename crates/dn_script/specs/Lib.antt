@@ -11,6 +11,7 @@ pub mod Halt
 pub mod Machine
 pub mod Reshape
 pub mod Unmade
+pub mod Made
 pub mod Stopped
 pub mod Flown
 pub mod Asked

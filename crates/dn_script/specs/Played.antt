@@ -3,24 +3,23 @@ use Rattle.std.specs.Prelude.{◌≡◌, ◌≢◌, ℕ, false, zero, suc, ◌<�
 use Rattle.std.specs.Option.{IfSome}
 use Rattle.dn_base.specs.declared.device.TableEvent.{TableEvent}
 use Rattle.dn_base.specs.declared.device.UnitWords.{UnitWords}
-use Rattle.dn_base.specs.Device.{Logged}
+use Rattle.dn_base.specs.Device.{Logged, UnitSize}
 use Rattle.dn_base.specs.Outside.{Added}
 use Rattle.dn_net.specs.declared.node.NodeDecl.{NodeDecl}
 use Rattle.dn_kind.specs.Kind.{Meaning}
-use Rattle.dn_tables.specs.Set.{device_tables}
 use Rattle.dn_tables.specs.Writes.{make_event}
-use Rattle.dn_book.specs.Tables.{tables_of}
 use Rattle.dn_module.specs.declared.command.Command.{Command}
 use Rattle.dn_script.specs.Books.{GivesOwed}
 use Rattle.dn_script.specs.Flown.{GivesLookups}
 use Rattle.dn_script.specs.Halt.{is_free_status}
+use Rattle.dn_script.specs.Made.{AreMadeSoFar, TellsBook, made_tables}
 use Rattle.dn_script.specs.Stopped.{AreCaught}
 use Rattle.dn_script.specs.Turn.{AreTurns, Turn, events_of, replies_of, reply_turn, start, state_after}
 
 -- before the first command each unit is made, with words 0
 abbrev pub make_turn : List Meaning → List NodeDecl → Turn
 make_turn kinds net = record {
-  events = map make_event (device_tables 0 net (tables_of net kinds []));
+  events = map make_event (made_tables kinds net);
   reply = [];
   next = start;
 }
@@ -71,23 +70,24 @@ added_events turns (suc whole) events =
     events_of (take whole turns) ++ take events (turn_at turns whole).events
 
 -- A run with this status over a script: it made the units, and then answered the first commands, of
--- which it may have stopped in the last. A status that is not free is 0. At status 0 it answered all,
--- and the words that the device tells are the tables of the last book. The book before the first
--- command, and after each command that was gone through whole, gives what it owes. At status 6, once the
--- units were made, each name resolves by the words that the device tells, for each access, as before the
--- command that was left or as after it. In each schedule of what was added to the log after the makes
--- each lookup that has ended is given what books owe.
+-- which it may have stopped in the last. A status that is not free is 0. At status 0 it answered all.
+-- The device has the units that were made so far, and no word was written before all were made. Once
+-- they were, the words that the device tells are, at each status but 6, the tables of the book after the
+-- last turn that was begun. At status 6 each name resolves by them, for each access, as before the command
+-- in which it stopped or as after it. The book before the first command, and after each command that was gone
+-- through whole, gives what it owes. In each schedule of what was added to the log after the makes each
+-- lookup that has ended is given what books owe.
 pub record IsPlayed (kinds : List Meaning) (net : List NodeDecl) (commands : List Command)
     (status : ℕ) (before after : Option (List ℕ)) (log log' : Option (List TableEvent))
-    (told' : Option (List UnitWords)) : Type 0 where
+    (units' : List UnitSize) (told' : Option (List UnitWords)) : Type 0 where
   pub turns : List Turn
   pub few : length turns ≤ length commands
   pub happened : AreTurns kinds net start (take (length turns) commands) turns
   pub came : CameTo (make_turn kinds net ∷ turns) status before after log log'
   pub exact : is_free_status status ≡ false → status ≡ 0
   pub all : status ≡ 0 → length turns ≡ length commands
-  pub tables : status ≡ 0 → IfSome told' (λ tables.
-      tables ≡ device_tables 0 net (tables_of net kinds (state_after start turns).book))
+  pub made : AreMadeSoFar kinds net came.whole came.events units' told'
+  pub tables : status ≢ 6 → 1 ≤ came.whole → TellsBook kinds net (state_after start turns).book told'
   pub books : (count : ℕ) → count < came.whole →
       GivesOwed kinds net (state_after start (take count turns)).book
   pub stopped : status ≡ 6 → (count : ℕ) → came.whole ≡ suc count → IfSome told'
@@ -98,8 +98,8 @@ pub record IsPlayed (kinds : List Meaning) (net : List NodeDecl) (commands : Lis
 -- A run with this status over a script whose units are made already, with this log: whatever the log
 -- was before they were made, it is a run from there
 abbrev pub IsPlayedOn : List Meaning → List NodeDecl → List Command → ℕ → Option (List ℕ) →
-    Option (List ℕ) → Option (List TableEvent) → Option (List TableEvent) →
+    Option (List ℕ) → Option (List TableEvent) → Option (List TableEvent) → List UnitSize →
     Option (List UnitWords) → Type 0
-IsPlayedOn kinds net commands status before after made log' told' = (log : Option (List TableEvent)) →
-    Logged log made (make_turn kinds net).events →
-    IsPlayed kinds net commands status before after log log' told'
+IsPlayedOn kinds net commands status before after made log' units' told' =
+    (log : Option (List TableEvent)) → Logged log made (make_turn kinds net).events →
+    IsPlayed kinds net commands status before after log log' units' told'

@@ -15,17 +15,18 @@ use Rattle.dn_tables.specs.Set.{IsOnDevice, words_of}
 use Rattle.dn_image.specs.Image.{image}
 use Rattle.dn_module.specs.declared.command.Command.{Command}
 use Rattle.dn_module.specs.Commands.{names_within}
+use Rattle.dn_book.specs.declared.grant.Grant.{Grant}
 use Rattle.dn_book.specs.Book.{IsFaithful}
 use Rattle.dn_book.specs.Tables.{IsKept}
 use Rattle.dn_script.specs.declared.halt.RunHalt.{RunHalt}
-use Rattle.dn_script.specs.declared.halt.RunHalt.TheVariants.{DeviceFault, NoMemory}
+use Rattle.dn_script.specs.declared.halt.RunHalt.TheVariants.{NoMemory}
 use Rattle.dn_script.specs.declared.machine.Machine.{Machine}
 use Rattle.dn_script.specs.declared.state.FirstView.{FirstView}
 use Rattle.dn_script.specs.declared.state.Session.{Session as Kept}
 use Rattle.dn_script.specs.Halt.{HaltsByDevice, ending_status}
 use Rattle.dn_script.specs.Machine.{IsMachine}
 use Rattle.dn_script.specs.Played.{CameIn}
-use Rattle.dn_script.specs.Stopped.{IsStopped}
+use Rattle.dn_script.specs.Stopped.{AreLeft}
 use Rattle.dn_script.specs.Turn.{State, Turn, start}
 use Rattle.dn_script.specs.Unmade.{AreUnmade}
 
@@ -89,31 +90,40 @@ pub record IsTurned (P : Turn → Type 0) (next : State) (before after : Option 
   pub written : Added before after turn.reply
   pub left : turn.next ≡ next
 
--- a run with this status stopped inside a turn of this sort
-pub record IsInside (P : Turn → Type 0) (status : ℕ) (before after : Option (List ℕ))
-    (log log' : Option (List TableEvent)) : Type 0 where
+-- a run with this status stopped inside a turn of this sort, which begins at this book
+pub record IsInside (kinds : List Meaning) (net : List NodeDecl) (book : List Grant)
+    (P : Turn → Type 0) (status : ℕ) (before after : Option (List ℕ))
+    (log log' : Option (List TableEvent)) (units' : List UnitSize) (told' : Option (List UnitWords))
+    : Type 0 where
   pub turn : Turn
   pub is_turn : P turn
   pub came : CameIn turn status before after log log'
+  pub left : AreLeft kinds net book turn.next.book status units' told'
 
--- for want of memory nothing was done and nothing written
-pub record IsBefore (halt : RunHalt) (before after : Option (List ℕ)) (log log' : Option (List TableEvent))
+-- for want of memory nothing was done to the device and nothing written
+pub record IsBefore {D : Type 0} (halt : RunHalt) (before after : Option (List ℕ)) (device device' : D)
     : Type 0 where
   pub memory : halt ≡ NoMemory
-  pub log_is : log' ≡ log
+  pub device_is : device' ≡ device
   pub sink_is : after ≡ before
 
--- a halt came inside a turn of this sort, or before it
-abbrev pub IsHalted : (Turn → Type 0) → RunHalt → Option (List ℕ) → Option (List ℕ) →
-    Option (List TableEvent) → Option (List TableEvent) → Type 0
-IsHalted P h before after log log' =
-    IsBefore h before after log log' ⊎ IsInside P (ending_status (Err h)) before after log log'
+-- a halt came inside a turn of this sort, which begins at this book, or before it
+abbrev pub IsHalted : {D : Type 0} → List Meaning → List NodeDecl → List Grant → (Turn → Type 0) → RunHalt →
+    Option (List ℕ) → Option (List ℕ) → (D → List UnitSize) → (D → Option (List UnitWords)) →
+    (D → Option (List TableEvent)) → D → D → Type 0
+IsHalted kinds net book P h before after units words log device device' =
+    IsBefore h before after device device'
+    ⊎ IsInside kinds net book P (ending_status (Err h)) before after (log device) (log device')
+    (units device') (words device')
 
--- how far a command came whose turns are of this sort
-abbrev pub CameThrough : {A : Type 0} → (Turn → Type 0) → Result A RunHalt → State → Option (List ℕ) →
-    Option (List ℕ) → Option (List TableEvent) → Option (List TableEvent) → Type 0
-CameThrough P (Ok a) next before after log log' = IsTurned P next before after log log'
-CameThrough P (Err h) next before after log log' = IsHalted P h before after log log'
+-- how far a command came whose turns are of this sort and begin at this book
+abbrev pub CameThrough : {A D : Type 0} → List Meaning → List NodeDecl → List Grant → (Turn → Type 0) →
+    Result A RunHalt → State → Option (List ℕ) → Option (List ℕ) → (D → List UnitSize) →
+    (D → Option (List UnitWords)) → (D → Option (List TableEvent)) → D → D → Type 0
+CameThrough kinds net book P (Ok a) next before after units words log device device' =
+    IsTurned P next before after (log device) (log device')
+CameThrough kinds net book P (Err h) next before after units words log device device' =
+    IsHalted kinds net book P h before after units words log device device'
 
 -- the events of a turn of this sort were added: its reply is to be written still
 pub record IsChanged (P : Turn → Type 0) (next : State) (reply : List ℕ)
@@ -124,21 +134,22 @@ pub record IsChanged (P : Turn → Type 0) (next : State) (reply : List ℕ)
   pub replied : turn.reply ≡ reply
   pub left : turn.next ≡ next
 
--- how far a change came whose turns are of this sort, whatever was written before
-abbrev pub CameThroughChange : (Turn → Type 0) → Result (List ℕ) RunHalt → State →
-    Option (List TableEvent) → Option (List TableEvent) → Type 0
-CameThroughChange P (Ok reply) next log log' = IsChanged P next reply log log'
-CameThroughChange P (Err h) next log log' =
-    (told : Option (List ℕ)) → IsHalted P h told told log log'
+-- how far a change came whose turns are of this sort and begin at this book, whatever was written before
+abbrev pub CameThroughChange : {D : Type 0} → List Meaning → List NodeDecl → List Grant → (Turn → Type 0) →
+    Result (List ℕ) RunHalt → State → (D → List UnitSize) → (D → Option (List UnitWords)) →
+    (D → Option (List TableEvent)) → D → D → Type 0
+CameThroughChange kinds net book P (Ok reply) next units words log device device' =
+    IsChanged P next reply (log device) (log device')
+CameThroughChange kinds net book P (Err h) next units words log device device' =
+    (told : Option (List ℕ)) → IsHalted kinds net book P h told told units words log device device'
 
 -- What a change leaves whose turns are of this sort: how far it came; where it was made, what the next
--- command meets, and where the device failed, what names resolve to; and the device counted its fault.
-pub record IsChangeDone {K : Type 0} {V : K → Type 0} (means : (k : K) × V k → Meaning)
+-- command meets; and the device counted its fault.
+pub record IsChangeDone {K : Type 0} {V : K → Type 0} {D : Type 0} (means : (k : K) × V k → Meaning)
     (m : Machine K V) (P : Turn → Type 0) (result : Result (List ℕ) RunHalt) (k k' : Kept)
-    (log log' : Option (List TableEvent)) (units : List UnitSize) (words : Option (List UnitWords))
-    (faults faults' : Faults) : Type 0 where
-  pub changed : CameThroughChange P result (state_view k') log log'
-  pub caught : result ≡ Err DeviceFault →
-      IsStopped (kinds_of means m.on.kinds.now) m.on.net.now k.book.grants P words
-  pub ready : OnOk result (IsReadyOn means m k' units words)
-  pub halted : HaltsByDevice result faults faults'
+    (units : D → List UnitSize) (words : D → Option (List UnitWords)) (faults : D → Faults)
+    (log : D → Option (List TableEvent)) (device device' : D) : Type 0 where
+  pub changed : CameThroughChange (kinds_of means m.on.kinds.now) m.on.net.now k.book.grants P result
+      (state_view k') units words log device device'
+  pub ready : OnOk result (IsReadyOn means m k' (units device') (words device'))
+  pub halted : HaltsByDevice result (faults device) (faults device')

@@ -39,9 +39,8 @@ pub fn change<D: Tables>(
     requires change { is_change command.now ≡ true }
     ensures { IsChangeDone meaning machine.entry (IsTurn
         (kinds_of meaning machine.entry.on.kinds.now) machine.entry.on.net.now
-        (state_view state.old) command.now) result state.old state.new (D.log device.old)
-        (D.log device.new) (D.units device.new) (D.words device.new)
-        (D.faults device.old) (D.faults device.new) }
+        (state_view state.old) command.now) result state.old state.new
+        D.units D.words D.faults D.log device.old device.new }
 {
     match command {
         Command::Grant {
@@ -128,9 +127,8 @@ fn grant_change<D: Tables>(
     requires rights { IsTrue (are_rights request.now.rights) }
     ensures { IsChangeDone meaning machine.entry (IsGrantTurn
         (kinds_of meaning machine.entry.on.kinds.now) machine.entry.on.net.now
-        (state_view state.old) id.now request.now) result state.old state.new (D.log device.old)
-        (D.log device.new) (D.units device.new) (D.words device.new)
-        (D.faults device.old) (D.faults device.new) }
+        (state_view state.old) id.now request.now) result state.old state.new
+        D.units D.words D.faults D.log device.old device.new }
 {
     let number = state.ids.number(alloc, id)?;
     keep_flats(alloc, machine, &mut state.flats)?;
@@ -145,6 +143,7 @@ fn grant_change<D: Tables>(
             reply_or_halt(granted_reply(alloc, id, v))
         }
         Err(fault) => {
+            state.book.tables().facts();
             let why = refusal_or_halt(fault)?;
             reply_or_halt(grant_refused(alloc, id, why))
         }
@@ -165,9 +164,8 @@ fn route_change<D: Tables>(
     requires ready { IsReadyOn meaning machine state.old (D.units device.old) (D.words device.old) }
     ensures { IsChangeDone meaning machine.entry (IsRouteTurn
         (kinds_of meaning machine.entry.on.kinds.now) machine.entry.on.net.now
-        (state_view state.old) id.now agent line node) result state.old state.new (D.log device.old)
-        (D.log device.new) (D.units device.new) (D.words device.new)
-        (D.faults device.old) (D.faults device.new) }
+        (state_view state.old) id.now agent line node) result state.old state.new
+        D.units D.words D.faults D.log device.old device.new }
 {
     let number = state.ids.number(alloc, id)?;
     keep_flats(alloc, machine, &mut state.flats)?;
@@ -191,6 +189,7 @@ fn route_change<D: Tables>(
             reply_or_halt(routed_reply(alloc, id, vector))
         }
         Err(fault) => {
+            state.book.tables().facts();
             let why = refusal_or_halt(fault)?;
             reply_or_halt(route_refused(alloc, id, why))
         }
@@ -208,9 +207,8 @@ fn revoke_change<D: Tables>(
     requires ready { IsReadyOn meaning machine state.old (D.units device.old) (D.words device.old) }
     ensures { IsChangeDone meaning machine.entry (IsRevokeTurn
         (kinds_of meaning machine.entry.on.kinds.now) machine.entry.on.net.now
-        (state_view state.old) id.now) result state.old state.new (D.log device.old)
-        (D.log device.new) (D.units device.new) (D.words device.new)
-        (D.faults device.old) (D.faults device.new) }
+        (state_view state.old) id.now) result state.old state.new
+        D.units D.words D.faults D.log device.old device.new }
 {
     let number = state.ids.number(alloc, id)?;
     match state.book.revoke(machine.on, number, device) {
@@ -219,7 +217,10 @@ fn revoke_change<D: Tables>(
             reply_or_halt(revoked_reply(alloc, id))
         }
         Err(RevokeFault::NoGrant) => reply_or_halt(refused_reply(alloc, id, "NoGrant")),
-        Err(RevokeFault::Device) => Err(RunHalt::DeviceFault),
+        Err(RevokeFault::Device) => {
+            state.book.tables().facts();
+            Err(RunHalt::DeviceFault)
+        }
     }
 }
 

@@ -38,8 +38,7 @@ pub fn gather_change<D: Tables>(
     ensures { IsChangeDone meaning machine.entry (IsGatherTurn
         (kinds_of meaning machine.entry.on.kinds.now) machine.entry.on.net.now
         (state_view state.old) agent rights pieces.now) result state.old state.new
-        (D.log device.old) (D.log device.new) (D.units device.new) (D.words device.new)
-        (D.faults device.old) (D.faults device.new) }
+        D.units D.words D.faults D.log device.old device.new }
 {
     let asked = number_pieces(alloc, &mut state.ids, pieces)?;
     keep_flats(alloc, machine, &mut state.flats)?;
@@ -62,6 +61,7 @@ pub fn gather_change<D: Tables>(
             reply_or_halt(gathered_reply(alloc, v, pieces.len()))
         }
         Err(fault) => {
+            state.book.tables().facts();
             let why = refusal_or_halt(fault)?;
             reply_or_halt(gather_refused(alloc, why))
         }

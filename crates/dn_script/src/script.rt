@@ -1,12 +1,12 @@
 //! A script that is run: its commands are answered in order, over units that were made.
 
-ghost use Rattle.std.specs.Prelude.{◌≡◌, false, length, Err, IfOk, IsTrue, OnOk};
+ghost use Rattle.std.specs.Prelude.{◌≡◌, false, length, IfOk, IsTrue, OnOk};
 ghost use Rattle.dn_kind.specs.Terms.{kinds_of};
 ghost use Rattle.dn_image.specs.Terms.{image};
 ghost use Rattle.dn_book.specs.Terms.{tables_of};
 ghost use Rattle.dn_print.specs.Terms.{dump_text};
 ghost use Rattle.dn_module.specs.Terms.{names_within};
-ghost use Rattle.dn_script.specs.Terms.{CameThrough, HaltsByEither, HaltsBySink, IsPlayedOn, IsReady, IsReadyOn, IsStill, IsStopped, IsTurn, MayBegin, Writes, ending_status, is_change, reply, state_view};
+ghost use Rattle.dn_script.specs.Terms.{CameThrough, HaltsByEither, HaltsBySink, IsPlayedOn, IsReady, IsReadyOn, IsStill, IsTurn, MayBegin, Writes, ending_status, is_change, reply, state_view};
 
 use crate::change::change;
 use crate::halt::RunHalt;
@@ -39,7 +39,8 @@ pub fn answer_all<K: Sink, D: Tables>(
         (D.units device.old) (D.words device.old) }
     ensures played { IsPlayedOn (kinds_of meaning machine.entry.on.kinds.now)
         machine.entry.on.net.now commands.now (ending_status result) (K.written sink.old)
-        (K.written sink.new) (D.log device.old) (D.log device.new) (D.words device.new) }
+        (K.written sink.new) (D.log device.old) (D.log device.new) (D.units device.new)
+        (D.words device.new) }
     ensures done { IfOk result (λ status. status ≡ 0) }
     ensures halted { HaltsByEither result (K.faults sink.old) (K.faults sink.new)
         (D.faults device.old) (D.faults device.new) }
@@ -64,13 +65,11 @@ fn answer<K: Sink, D: Tables>(
 ) -> Result<(), RunHalt>
     requires known { IsTrue (names_within (length machine.on.net.now) command.now) }
     requires ready { IsReadyOn meaning machine state.old (D.units device.old) (D.words device.old) }
-    ensures through { CameThrough (IsTurn (kinds_of meaning machine.entry.on.kinds.now)
-        machine.entry.on.net.now (state_view state.old) command.now) result (state_view state.new)
-        (K.written sink.old) (K.written sink.new) (D.log device.old) (D.log device.new) }
-    ensures caught { result ≡ Err RunHalt.DeviceFault
-        → IsStopped (kinds_of meaning machine.entry.on.kinds.now) machine.entry.on.net.now
-        state.old.book.grants (IsTurn (kinds_of meaning machine.entry.on.kinds.now)
-        machine.entry.on.net.now (state_view state.old) command.now) (D.words device.new) }
+    ensures through { CameThrough (kinds_of meaning machine.entry.on.kinds.now)
+        machine.entry.on.net.now state.old.book.grants (IsTurn
+        (kinds_of meaning machine.entry.on.kinds.now) machine.entry.on.net.now
+        (state_view state.old) command.now) result (state_view state.new) (K.written sink.old)
+        (K.written sink.new) D.units D.words D.log device.old device.new }
     ensures ready { OnOk result
         (IsReadyOn meaning machine.entry state.new (D.units device.new) (D.words device.new)) }
     ensures halted { HaltsByEither result (K.faults sink.old) (K.faults sink.new)

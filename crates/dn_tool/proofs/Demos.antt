@@ -7,7 +7,7 @@ use Rattle.dn_base.specs.declared.device.TableEvent.{TableEvent}
 use Rattle.dn_base.specs.declared.device.UnitWords.{UnitWords}
 use Rattle.dn_base.specs.declared.device.DeviceOrMemory.{DeviceOrMemory}
 use Rattle.dn_base.specs.declared.device.DeviceOrMemory.TheVariants.{Device, OutOfMemory}
-use Rattle.dn_base.specs.Device.{Logged, UnitSize, is_device_fault}
+use Rattle.dn_base.specs.Device.{Logged, UnitSize, is_device_fault, sizes_of}
 use Rattle.dn_base.specs.Outside.{IsWritten}
 use Rattle.dn_base.proofs.Logs.{Logged-none}
 use Rattle.dn_net.specs.declared.node.NodeDecl.{NodeDecl}
@@ -15,10 +15,8 @@ use Rattle.dn_net.specs.Rules.{count_below}
 use Rattle.dn_net.proofs.Tally.{count_below-suc}
 use Rattle.dn_kind.specs.Kind.{Meaning}
 use Rattle.dn_module.specs.declared.command.Command.{Command}
-use Rattle.dn_tables.specs.declared.table.NodeTable.{NodeTable}
-use Rattle.dn_tables.specs.Set.{IsOnDevice, device_tables, fresh_set, tables_of_set}
+use Rattle.dn_tables.specs.Set.{fresh_set, tables_of_set}
 use Rattle.dn_tables.specs.Writes.{AreUnitsMade}
-use Rattle.dn_book.specs.Tables.{IsKept, tables_of}
 use Rattle.dn_demo.specs.declared.summary.Summary.{Summary}
 use Rattle.dn_demo.specs.Summary.{summary_text}
 use Rattle.dn_script.specs.declared.halt.RunHalt.{RunHalt}
@@ -28,12 +26,11 @@ use Rattle.dn_tool.specs.Demo.{IsShown, IsSummedUp, has_granted, has_revoked, pa
 use Rattle.dn_script.specs.Halt.{ending_status, is_device_halt, is_write_halt, make_halt}
 use Rattle.dn_script.specs.Played.{IsPlayed, make_turn}
 use Rattle.dn_script.specs.State.{CameThrough, IsChanged, IsTurned}
-use Rattle.dn_script.specs.Stopped.{IsStopped}
 use Rattle.dn_script.specs.Turn.{IsTurn, State, Turn, is_change, reply, reply_turn, start, state_after}
 use Rattle.dn_script.proofs.Played.{IsGone, gone_more, gone_start, halted_by, halted_unmade, more_turns, played_whole, turns_count, unmade_by, whole_turns}
 use Rattle.dn_script.proofs.Changes.{still_turn}
 use Rattle.dn_script.proofs.Kept.{IsLawfulNet}
-use Rattle.dn_script.proofs.Stopped.{words_told}
+use Rattle.dn_script.proofs.Sizes.{HasTables}
 
 -- a test that passes counts one at most
 pub one_at_most : (b : Bool) → (if b then 1 else 0) ≤ 1
@@ -139,10 +136,10 @@ tallied_more kinds net commands i s c log log' log'' granted revoked granted' re
         ∙ ap (passing_turns p start (take (i + 1) commands)) (sym turns)
 
 -- a demonstration that was gone through, and whose line was written as far as the status tells
-pub summed_up : (kinds : List Meaning) (net : List NodeDecl) (agents : ℕ) (commands : List Command) (i status : ℕ) (s : State) (before after : Option (List ℕ)) (log log' : Option (List TableEvent)) (told' : Option (List UnitWords)) (granted revoked : ℕ) (done failed : Bool) → i ≡ length commands → IfSome told' (λ tables. tables ≡ device_tables 0 net (tables_of net kinds s.book)) → IsTallied kinds net commands i s log log' granted revoked → (status == 0) ≡ done → (status == 3) ≡ failed → (status ≡ 0) ⊎ ((status ≡ 3) ⊎ (status ≡ 7))
+pub summed_up : (kinds : List Meaning) (net : List NodeDecl) (agents : ℕ) (commands : List Command) (i status : ℕ) (s : State) (before after : Option (List ℕ)) (log log' : Option (List TableEvent)) (sizes : List UnitSize) (told' : Option (List UnitWords)) (granted revoked : ℕ) (done failed : Bool) → i ≡ length commands → HasTables kinds net s.book sizes told' → IsTallied kinds net commands i s log log' granted revoked → (status == 0) ≡ done → (status == 3) ≡ failed → (status ≡ 0) ⊎ ((status ≡ 3) ⊎ (status ≡ 7))
     → IsWritten before after done failed (summary_text (summary_with kinds net agents granted revoked s.book))
-    → IsSummedUp kinds net agents commands status before after log log' told'
-summed_up kinds net agents commands i status s before after log log' told' granted revoked done failed over told f is_done is_failed ended w = record {
+    → IsSummedUp kinds net agents commands status before after log log' sizes told'
+summed_up kinds net agents commands i status s before after log log' sizes told' granted revoked done failed over has f is_done is_failed ended w = record {
   played = played;
   written = subst (λ (t : List ℕ). IsWritten before after (status == 0) (status == 3) t) (ap summary_text counts) here;
   ended = ended;
@@ -151,11 +148,11 @@ summed_up kinds net agents commands i status s before after log log' told' grant
     here : IsWritten before after (status == 0) (status == 3) (summary_text (summary_with kinds net agents granted revoked s.book))
     here = subst (λ (b : Bool). IsWritten before after (status == 0) b (summary_text (summary_with kinds net agents granted revoked s.book))) (sym is_failed) (subst (λ (b : Bool). IsWritten before after b failed (summary_text (summary_with kinds net agents granted revoked s.book))) (sym is_done) w)
 
-    played : IsPlayed kinds net commands 0 None None log log' told'
-    played = played_whole kinds net commands i 0 s None None log log' told' over refl told f.gone
+    played : IsPlayed kinds net commands 0 None None log log' sizes told'
+    played = played_whole kinds net commands i 0 s None None log log' sizes told' over refl has f.gone
 
     turns : played.turns ≡ f.gone.turns
-    turns = whole_turns kinds net commands i 0 s None None log log' told' over refl told f.gone
+    turns = whole_turns kinds net commands i 0 s None None log log' sizes told' over refl has f.gone
 
     all : take i commands ≡ commands
     all = ap (λ n. take n commands) over ∙ take-length commands
@@ -172,9 +169,9 @@ summed_up kinds net agents commands i status s before after log log' told' grant
 -- by what ended it
 
 -- the units were not made
-pub shown_unmade : {X : Type 0} (kinds : List Meaning) (net : List NodeDecl) (agents : ℕ) (commands : List Command) (r : Result X DeviceOrMemory) (fault : DeviceOrMemory) (ended : Result ℕ RunHalt) (before : Option (List ℕ)) (log log' : Option (List TableEvent)) (sizes : List UnitSize) (told told' : Option (List UnitWords)) → IsLawfulNet kinds net → r ≡ Err fault → ended ≡ Err (make_halt fault) → AreUnitsMade (tables_of_set (fresh_set kinds net)) (is_ok r) (is_device_fault r) log log' sizes told told' → IsShown kinds net agents commands (ending_status ended) before before log log' told'
-shown_unmade kinds net agents commands r fault ended before log log' sizes told told' known is by made = inr (record {
-  played = unmade_by kinds net commands r fault ended None None log log' sizes told told' known is by refl made;
+pub shown_unmade : {X : Type 0} (kinds : List Meaning) (net : List NodeDecl) (agents : ℕ) (commands : List Command) (r : Result X DeviceOrMemory) (fault : DeviceOrMemory) (ended : Result ℕ RunHalt) (before : Option (List ℕ)) (log log' : Option (List TableEvent)) (sizes : List UnitSize) (told told' : Option (List UnitWords)) → IsLawfulNet kinds net → r ≡ Err fault → ended ≡ Err (make_halt fault) → IfSome told (λ ts. sizes_of ts ≡ []) → AreUnitsMade (tables_of_set (fresh_set kinds net)) (is_ok r) (is_device_fault r) log log' sizes told told' → IsShown kinds net agents commands (ending_status ended) before before log log' sizes told'
+shown_unmade kinds net agents commands r fault ended before log log' sizes told told' known is by none made = inr (record {
+  played = unmade_by kinds net commands r fault ended None None log log' sizes told told' known is by refl none made;
   why = subst (λ (e : Result ℕ RunHalt). (ending_status e ≡ 6) ⊎ (ending_status e ≡ 7)) (sym by) (either fault);
   unwritten = refl;
 })
@@ -183,10 +180,10 @@ shown_unmade kinds net agents commands r fault ended before log log' sizes told 
     either Device = inl refl
     either OutOfMemory = inr refl
 
--- a command was left inside its turn, or before it
-pub shown_halted : (kinds : List Meaning) (net : List NodeDecl) (agents : ℕ) (commands : List Command) (i : ℕ) (c : Command) (s next : State) (r : Result (Unit {0}) RunHalt) (halt : RunHalt) (ended : Result ℕ RunHalt) (before : Option (List ℕ)) (log log' log'' : Option (List TableEvent)) (told' : Option (List UnitWords)) (granted revoked : ℕ) → r ≡ Err halt → ended ≡ Err halt → is_write_halt r ≡ false → i < length commands → c ≡ get_or commands i c → IsTallied kinds net commands i s log log' granted revoked → CameThrough (IsTurn kinds net s c) r next None None log' log'' → (r ≡ Err DeviceFault → IsStopped kinds net s.book (IsTurn kinds net s c) told') → IsShown kinds net agents commands (ending_status ended) before before log log'' told'
-shown_halted kinds net agents commands i c s next r halt ended before log log' log'' told' granted revoked is by no_write within at f came stop = inr (record {
-  played = halted_by kinds net commands i c s next r halt ended None None None log log' log'' told' is by within at f.gone came stop;
+-- a command was left inside its turn, or before it, on a device that had the tables of the book
+pub shown_halted : {D : Type 0} (kinds : List Meaning) (net : List NodeDecl) (agents : ℕ) (commands : List Command) (i : ℕ) (c : Command) (s next : State) (r : Result (Unit {0}) RunHalt) (halt : RunHalt) (ended : Result ℕ RunHalt) (before : Option (List ℕ)) (log : Option (List TableEvent)) (units : D → List UnitSize) (words : D → Option (List UnitWords)) (logged : D → Option (List TableEvent)) (d d' : D) (granted revoked : ℕ) → r ≡ Err halt → ended ≡ Err halt → is_write_halt r ≡ false → i < length commands → c ≡ get_or commands i c → HasTables kinds net s.book (units d) (words d) → IsTallied kinds net commands i s log (logged d) granted revoked → CameThrough kinds net s.book (IsTurn kinds net s c) r next None None units words logged d d' → IsShown kinds net agents commands (ending_status ended) before before log (logged d') (units d') (words d')
+shown_halted kinds net agents commands i c s next r halt ended before log units words logged d d' granted revoked is by no_write within at has f came = inr (record {
+  played = halted_by kinds net commands i c s next r halt ended None None None log units words logged d d' is by within at has f.gone came;
   why = subst (λ (e : Result ℕ RunHalt). (ending_status e ≡ 6) ⊎ (ending_status e ≡ 7)) (sym by) (either halt (subst (λ (q : Result (Unit {0}) RunHalt). is_write_halt q ≡ false) is no_write));
   unwritten = refl;
 })
@@ -197,9 +194,9 @@ shown_halted kinds net agents commands i c s next r halt ended before log log' l
     either NoMemory e = inr refl
 
 -- there was no memory to make a command
-pub shown_unread : (kinds : List Meaning) (net : List NodeDecl) (agents : ℕ) (commands : List Command) (i : ℕ) (s : State) (ended : Result ℕ RunHalt) (before : Option (List ℕ)) (log log' : Option (List TableEvent)) (told' : Option (List UnitWords)) (granted revoked : ℕ) → ended ≡ Err NoMemory → i ≤ length commands → IsTallied kinds net commands i s log log' granted revoked → IsShown kinds net agents commands (ending_status ended) before before log log' told'
-shown_unread kinds net agents commands i s ended before log log' told' granted revoked by within f = inr (record {
-  played = halted_unmade kinds net commands i s ended None None log log' told' by within f.gone;
+pub shown_unread : (kinds : List Meaning) (net : List NodeDecl) (agents : ℕ) (commands : List Command) (i : ℕ) (s : State) (ended : Result ℕ RunHalt) (before : Option (List ℕ)) (log log' : Option (List TableEvent)) (sizes : List UnitSize) (told' : Option (List UnitWords)) (granted revoked : ℕ) → ended ≡ Err NoMemory → i ≤ length commands → HasTables kinds net s.book sizes told' → IsTallied kinds net commands i s log log' granted revoked → IsShown kinds net agents commands (ending_status ended) before before log log' sizes told'
+shown_unread kinds net agents commands i s ended before log log' sizes told' granted revoked by within has f = inr (record {
+  played = halted_unmade kinds net commands i s ended None None log log' sizes told' by within has f.gone;
   why = inr (ap ending_status by);
   unwritten = refl;
 })
@@ -210,11 +207,11 @@ line_status (Ok a) = 0
 line_status (Err h) = ending_status (Err h)
 
 -- all commands were gone through, and the line was written as far as it was
-pub shown_written : (kinds : List Meaning) (net : List NodeDecl) (agents : ℕ) (commands : List Command) (i status : ℕ) (s : State) (r : Result (Unit {0}) RunHalt) (before after : Option (List ℕ)) (log log' : Option (List TableEvent)) (told' : Option (List UnitWords)) (granted revoked : ℕ) (set : List NodeTable) (sizes : List UnitSize) → length commands ≤ i → i ≤ length commands → IsKept net kinds s.book set → IsOnDevice set sizes told' → IsTallied kinds net commands i s log log' granted revoked → status ≡ line_status r → is_device_halt r ≡ false
+pub shown_written : (kinds : List Meaning) (net : List NodeDecl) (agents : ℕ) (commands : List Command) (i status : ℕ) (s : State) (r : Result (Unit {0}) RunHalt) (before after : Option (List ℕ)) (log log' : Option (List TableEvent)) (sizes : List UnitSize) (told' : Option (List UnitWords)) (granted revoked : ℕ) → length commands ≤ i → i ≤ length commands → HasTables kinds net s.book sizes told' → IsTallied kinds net commands i s log log' granted revoked → status ≡ line_status r → is_device_halt r ≡ false
     → IsWritten before after (is_ok r) (is_write_halt r) (summary_text (summary_with kinds net agents granted revoked s.book))
-    → IsShown kinds net agents commands status before after log log' told'
-shown_written kinds net agents commands i status s r before after log log' told' granted revoked set sizes over few kept on f is no_device w =
-    inl (summed_up kinds net agents commands i status s before after log log' told' granted revoked (is_ok r) (is_write_halt r) (omega (arith, over, few)) (words_told kinds net s.book set sizes told' kept on) f (zero_by r no_device is) (three_by r no_device is) (ended_by r no_device is) w)
+    → IsShown kinds net agents commands status before after log log' sizes told'
+shown_written kinds net agents commands i status s r before after log log' sizes told' granted revoked over few has f is no_device w =
+    inl (summed_up kinds net agents commands i status s before after log log' sizes told' granted revoked (is_ok r) (is_write_halt r) (omega (arith, over, few)) has f (zero_by r no_device is) (three_by r no_device is) (ended_by r no_device is) w)
   where
     zero_by : (q : Result (Unit {0}) RunHalt) → is_device_halt q ≡ false → status ≡ line_status q → (status == 0) ≡ is_ok q
     zero_by (Ok a) d e = ap (λ n. n == 0) e

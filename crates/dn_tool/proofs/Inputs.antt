@@ -1,5 +1,6 @@
 -- The answer to what was read of the source is the answer to all its bytes.
 use Rattle.std.proofs.Common.{arith, ◌≡◌, ◌∙◌, ap, sym, subst, cond, ◌<◌, ◌⊎◌, inl, inr, Bool, true, false, nat_lt, List, [], ◌++◌, length, Option, Some, None, Result, Ok, Err, append-nil, length-append, refl, ℕ}
+use Rattle.std.specs.Option.{IfSome}
 use Rattle.dn_base.specs.Outside.{Taken, AtEnd, input_limit}
 use Rattle.dn_parse.specs.Whole.{too_long}
 use Rattle.dn_parse.proofs.Judge.{text_too_long}
@@ -11,7 +12,7 @@ use Rattle.dn_tool.specs.Refused.{of_text, refusal_of}
 use Rattle.dn_words.specs.declared.words.Task.{Task}
 use Rattle.dn_words.specs.declared.words.Task.TheVariants.{Run, Check, Audit, Demo}
 use Rattle.dn_words.specs.Words.{task_of}
-use Rattle.dn_tool.specs.Answer.{Answer, IsInput, answer, asked_answer, bytes_answer, compiled_answer, played, reads, said, shown, some_task_reads, task_bytes, task_reads, text_answer, too_long_line}
+use Rattle.dn_tool.specs.Answer.{Answer, answer, asked_answer, bytes_answer, compiled_answer, played, reads, said, shown, some_task_reads, task_bytes, task_reads, text_answer, too_long_line}
 use Rattle.dn_tool.specs.Input.{is_too_long, limit_for, parts_of}
 
 -- a text that is longer than the limit is refused by that alone
@@ -67,17 +68,33 @@ same_answer Check kinds bytes rest read end = ap (λ c. compiled_answer Check ki
 same_answer Audit kinds bytes rest read end = same_audit kinds bytes rest end (grind arith)
 same_answer (Demo agents) kinds bytes rest read end = cc
 
--- what holds of the answer to what was read holds of the answer to all bytes
-pub input_answer : (left after : Option (List ℕ)) (w : List (List ℕ)) (task : Task) (kinds : List Meaning) (bytes whole : List ℕ) (P : Answer → Type 0) → task_of w ≡ Some task → task_reads task ≡ true → Taken left after bytes → (length bytes < limit_for (Some task) → AtEnd after) → IsInput w left whole → P (bytes_answer task kinds bytes) → P (answer w kinds whole)
-input_answer left after w task kinds bytes whole P asked read taken end input p = go left after taken end (input (asked_reads w task asked read))
+-- the answer to what words ask for is the answer to the words
+pub asked_as : (w : List (List ℕ)) (asked : Option Task) (kinds : List Meaning) (bytes : List ℕ) → task_of w ≡ asked → asked_answer asked kinds bytes ≡ answer w kinds bytes
+asked_as w asked kinds bytes e = ap (λ (o : Option Task). asked_answer o kinds bytes) (sym e)
+
+-- what the source told, where it tells that, and else these bytes
+abbrev pub told_or : Option (List ℕ) → List ℕ → List ℕ
+told_or None bytes = bytes
+told_or (Some told) bytes = told
+
+pub told_is : (left : Option (List ℕ)) (bytes : List ℕ) → IfSome left (λ source. source ≡ told_or left bytes)
+told_is None bytes = tt
+told_is (Some told) bytes = refl
+
+-- what holds of the answer to what was read holds of the answer to all bytes, where the source tells them
+pub input_answer : (left after : Option (List ℕ)) (w : List (List ℕ)) (task : Task) (kinds : List Meaning) (bytes : List ℕ) (P : Answer → Type 0) → task_of w ≡ Some task → task_reads task ≡ true → Taken left after bytes → (length bytes < limit_for (Some task) → AtEnd after) → P (bytes_answer task kinds bytes) → P (answer w kinds (told_or left bytes))
+input_answer left after w task kinds bytes P asked read taken end p = go left after taken end
   where
-    go : (l a : Option (List ℕ)) → Taken l a bytes → (length bytes < limit_for (Some task) → AtEnd a) → l ≡ Some whole → P (answer w kinds whole)
-    go l None taken end told = cc
-    go l (Some rest) taken end told =
+    all : (text : List ℕ) → bytes_answer task kinds text ≡ answer w kinds text
+    all text = ap (bytes_answer task kinds) (sym (bytes_read task text read)) ∙ asked_as w (Some task) kinds text asked
+
+    go : (l a : Option (List ℕ)) → Taken l a bytes → (length bytes < limit_for (Some task) → AtEnd a) → P (answer w kinds (told_or l bytes))
+    go None a taken end = subst P (all bytes) p
+    go (Some whole) None taken end = cc
+    go (Some whole) (Some rest) taken end =
         let joined : whole ≡ bytes ++ rest = cc in
         let same : bytes_answer task kinds bytes ≡ bytes_answer task kinds whole = sym (same_answer task kinds bytes rest read end) ∙ ap (bytes_answer task kinds) (sym joined) in
-        let all : bytes_answer task kinds whole ≡ answer w kinds whole = ap (bytes_answer task kinds) (sym (bytes_read task whole read)) ∙ ap (λ o. asked_answer o kinds whole) (sym asked) in
-        subst P (same ∙ all) p
+        subst P (same ∙ all whole) p
 
 -- the answer is a demonstration
 abbrev pub is_shown : Answer → Bool

@@ -1,7 +1,9 @@
 -- The answer of the program: a status and what is written, or a script that is run, or a demonstration.
 use Rattle.std.specs.Prelude.{◌≡◌, ℕ, ◌==◌, Bool, true, false, if◌then◌else◌, not, List, ◌++◌, codes, Option, Some, None, Result, Ok, Err}
+use Rattle.std.specs.Option.{IfSome}
 use Rattle.dn_base.specs.declared.device.TableEvent.{TableEvent}
 use Rattle.dn_base.specs.declared.device.UnitWords.{UnitWords}
+use Rattle.dn_base.specs.Device.{UnitSize}
 use Rattle.dn_base.specs.Outside.{IsWritten}
 use Rattle.dn_net.specs.declared.node.NodeDecl.{NodeDecl}
 use Rattle.dn_kind.specs.Kind.{Meaning}
@@ -59,10 +61,6 @@ some_task_reads (Some task) = task_reads task
 -- whether the words are of a form that reads the source
 abbrev pub reads : List (List ℕ) → Bool
 reads words = some_task_reads (task_of words)
-
--- the words are answered by these bytes: by what the source tells where they read it, and else by any
-abbrev pub IsInput : List (List ℕ) → Option (List ℕ) → List ℕ → Type 0
-IsInput words left bytes = reads words ≡ true → left ≡ Some bytes
 
 -- commands that are answered, or gone through for a demonstration with so many agents
 abbrev pub commands_answer : Option ℕ → List NodeDecl → List Command → Answer
@@ -124,10 +122,22 @@ IsOutcome o status before after = IsSaid o.status o.output status before after
 
 -- a run with this status gave an answer, as far as it came
 abbrev pub IsAnswered : List Meaning → Answer → ℕ → Option (List ℕ) → Option (List ℕ) →
-    Option (List TableEvent) → Option (List TableEvent) → Option (List UnitWords) → Type 0
-IsAnswered kinds (said own output) status before after log log' told' =
+    Option (List TableEvent) → Option (List TableEvent) → List UnitSize → Option (List UnitWords) → Type 0
+IsAnswered kinds (said own output) status before after log log' units' told' =
     IsSaid own output status before after
-IsAnswered kinds (played net commands) status before after log log' told' =
-    IsPlayed kinds net commands status before after log log' told'
-IsAnswered kinds (shown agents net commands) status before after log log' told' =
-    IsShown kinds net agents commands status before after log log' told'
+IsAnswered kinds (played net commands) status before after log log' units' told' =
+    IsPlayed kinds net commands status before after log log' units' told'
+IsAnswered kinds (shown agents net commands) status before after log log' units' told' =
+    IsShown kinds net agents commands status before after log log' units' told'
+
+-- There are bytes to whose answer a run with this status came, and they are those that the source told, where the words
+-- read it and it tells them. Where that answer is no script the device is as it was.
+pub record IsRunAnswered {D : Type 0} (words : List (List ℕ)) (kinds : List Meaning)
+    (left : Option (List ℕ)) (status : ℕ) (before after : Option (List ℕ)) (units : D → List UnitSize)
+    (told : D → Option (List UnitWords)) (log : D → Option (List TableEvent)) (device device' : D)
+    : Type 0 where
+  pub bytes : List ℕ
+  pub read : reads words ≡ true → IfSome left (λ source. source ≡ bytes)
+  pub answered : IsAnswered kinds (answer words kinds bytes) status before after (log device)
+      (log device') (units device') (told device')
+  pub untouched : is_script (answer words kinds bytes) ≡ false → device' ≡ device

@@ -3,7 +3,7 @@
 use Rattle.std.specs.Prelude.{◌≡◌, ◌⊎◌, ℕ, zero, suc, ◌+◌, ◌==◌, ◌&&◌, Bool, true, false, if◌then◌else◌, nat_lt, List, ◌∷◌, length, slice_get, Option, Some, None, is_some}
 use Rattle.dn_base.specs.declared.device.TableEvent.{TableEvent}
 use Rattle.dn_base.specs.declared.device.UnitWords.{UnitWords}
-use Rattle.dn_base.specs.Device.{Logged}
+use Rattle.dn_base.specs.Device.{Logged, UnitSize}
 use Rattle.dn_base.specs.Outside.{IsWritten}
 use Rattle.dn_net.specs.declared.node.NodeDecl.{NodeDecl}
 use Rattle.dn_net.specs.declared.node.Unit.{Unit as UnitPart}
@@ -88,8 +88,9 @@ summary_of kinds net agents commands turns = summary_with kinds net agents
 -- at status 3, and in any case a prefix
 pub record IsSummedUp (kinds : List Meaning) (net : List NodeDecl) (agents : ℕ)
     (commands : List Command) (status : ℕ) (before after : Option (List ℕ))
-    (log log' : Option (List TableEvent)) (told' : Option (List UnitWords)) : Type 0 where
-  pub played : IsPlayed kinds net commands 0 None None log log' told'
+    (log log' : Option (List TableEvent)) (units' : List UnitSize) (told' : Option (List UnitWords))
+    : Type 0 where
+  pub played : IsPlayed kinds net commands 0 None None log log' units' told'
   pub written : IsWritten before after (status == 0) (status == 3)
       (summary_text (summary_of kinds net agents commands played.turns))
   pub ended : (status ≡ 0) ⊎ ((status ≡ 3) ⊎ (status ≡ 7))
@@ -98,23 +99,23 @@ pub record IsSummedUp (kinds : List Meaning) (net : List NodeDecl) (agents : ℕ
 -- memory, and nothing was written
 pub record IsBrokenOff (kinds : List Meaning) (net : List NodeDecl) (commands : List Command)
     (status : ℕ) (before after : Option (List ℕ)) (log log' : Option (List TableEvent))
-    (told' : Option (List UnitWords)) : Type 0 where
-  pub played : IsPlayed kinds net commands status None None log log' told'
+    (units' : List UnitSize) (told' : Option (List UnitWords)) : Type 0 where
+  pub played : IsPlayed kinds net commands status None None log log' units' told'
   pub why : (status ≡ 6) ⊎ (status ≡ 7)
   pub unwritten : after ≡ before
 
 -- a run with this status over a demonstration with so many agents
 abbrev pub IsShown : List Meaning → List NodeDecl → ℕ → List Command → ℕ → Option (List ℕ) →
-    Option (List ℕ) → Option (List TableEvent) → Option (List TableEvent) →
+    Option (List ℕ) → Option (List TableEvent) → Option (List TableEvent) → List UnitSize →
     Option (List UnitWords) → Type 0
-IsShown kinds net agents commands status before after log log' told' =
-    IsSummedUp kinds net agents commands status before after log log' told'
-    ⊎ IsBrokenOff kinds net commands status before after log log' told'
+IsShown kinds net agents commands status before after log log' units' told' =
+    IsSummedUp kinds net agents commands status before after log log' units' told'
+    ⊎ IsBrokenOff kinds net commands status before after log log' units' told'
 
 -- the same where the units are made already, with this log: whatever the log was before they were made
 abbrev pub IsShownOn : List Meaning → List NodeDecl → ℕ → List Command → ℕ → Option (List ℕ) →
-    Option (List ℕ) → Option (List TableEvent) → Option (List TableEvent) →
+    Option (List ℕ) → Option (List TableEvent) → Option (List TableEvent) → List UnitSize →
     Option (List UnitWords) → Type 0
-IsShownOn kinds net agents commands status before after made log' told' =
+IsShownOn kinds net agents commands status before after made log' units' told' =
     (log : Option (List TableEvent)) → Logged log made (make_turn kinds net).events →
-    IsShown kinds net agents commands status before after log log' told'
+    IsShown kinds net agents commands status before after log log' units' told'

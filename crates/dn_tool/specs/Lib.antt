@@ -5,5 +5,6 @@ pub mod Demo
 pub mod Input
 pub mod Audited
 pub mod Answer
+pub mod Source
 pub mod Platform
 pub mod Reread

@@ -1,13 +1,13 @@
 //! A demonstration that is run: its commands without their replies, and one line that sums up what came of them.
 
-ghost use Rattle.std.specs.Prelude.{◌≡◌, ◌+◌, ◌-◌, ◌^◌, ◌<◌, None, if◌then◌else◌, length, Err, IfOk, IsTrue, OnOk};
+ghost use Rattle.std.specs.Prelude.{◌≡◌, ◌+◌, ◌-◌, ◌^◌, ◌<◌, None, if◌then◌else◌, length, IfOk, IsTrue, OnOk};
 ghost use Rattle.dn_net.specs.Terms.{unit_at};
 ghost use Rattle.dn_kind.specs.Terms.{kinds_of, record_held};
 ghost use Rattle.dn_flat.specs.Terms.{AreFlats};
 ghost use Rattle.dn_module.specs.Terms.{names_within};
 ghost use Rattle.dn_tables.specs.Terms.{FitsNet, words_of};
 ghost use Rattle.dn_demo.specs.Terms.{summary_text};
-ghost use Rattle.dn_script.specs.Terms.{CameThrough, HaltsByDevice, HaltsByEither, HaltsBySink, IsMachine, IsReady, IsReadyOn, IsStopped, IsTurn, MayBegin, Writes, ending_status, is_change, state_view};
+ghost use Rattle.dn_script.specs.Terms.{CameThrough, HaltsByDevice, HaltsByEither, HaltsBySink, IsMachine, IsReady, IsReadyOn, IsTurn, MayBegin, Writes, ending_status, is_change, state_view};
 ghost use Rattle.dn_tool.specs.Terms.{IsShownOn, agent_rows, has_granted, has_revoked, held_records, held_slots, sum_below, summary_with};
 
 use crate::OutOfMemory;
@@ -53,7 +53,8 @@ pub(crate) fn play_all<K: Sink, D: Tables>(
         (D.units device.old) (D.words device.old) }
     ensures shown { IsShownOn (kinds_of meaning machine.entry.on.kinds.now)
         machine.entry.on.net.now agents commands.now (ending_status result) (K.written sink.old)
-        (K.written sink.new) (D.log device.old) (D.log device.new) (D.words device.new) }
+        (K.written sink.new) (D.log device.old) (D.log device.new) (D.units device.new)
+        (D.words device.new) }
     ensures done { IfOk result (λ status. status ≡ 0) }
     ensures halted { HaltsByEither result (K.faults sink.old) (K.faults sink.new)
         (D.faults device.old) (D.faults device.new) }
@@ -89,16 +90,14 @@ fn play<D: Tables>(
 ) -> Result<(), RunHalt>
     requires known { IsTrue (names_within (length machine.on.net.now) command.now) }
     requires ready { IsReadyOn meaning machine state.old (D.units device.old) (D.words device.old) }
-    ensures through { CameThrough (IsTurn (kinds_of meaning machine.entry.on.kinds.now)
-        machine.entry.on.net.now (state_view state.old) command.now) result
-        (state_view state.new) None None (D.log device.old) (D.log device.new) }
+    ensures through { CameThrough (kinds_of meaning machine.entry.on.kinds.now)
+        machine.entry.on.net.now state.old.book.grants (IsTurn
+        (kinds_of meaning machine.entry.on.kinds.now) machine.entry.on.net.now
+        (state_view state.old) command.now) result (state_view state.new) None None
+        D.units D.words D.log device.old device.new }
     ensures ready { OnOk result
         (IsReadyOn meaning machine.entry state.new (D.units device.new) (D.words device.new)) }
     ensures halted { HaltsByDevice result (D.faults device.old) (D.faults device.new) }
-    ensures caught { result ≡ Err RunHalt.DeviceFault
-        → IsStopped (kinds_of meaning machine.entry.on.kinds.now) machine.entry.on.net.now
-        state.old.book.grants (IsTurn (kinds_of meaning machine.entry.on.kinds.now)
-        machine.entry.on.net.now (state_view state.old) command.now) (D.words device.new) }
 {
     if !is_change(command) {
         return Ok(());

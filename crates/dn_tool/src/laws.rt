@@ -1,7 +1,7 @@
 //! Laws on scripts, on the rows that they print and on the nets that commands make, each the
 //! contract of a function that does nothing.
 
-ghost use Rattle.dn_script.specs.Terms.{BooksStayFaithful, FaithfulImageGivesOwed, LookupsAreGiven, OwedRowsAreNormal, TurnIsOne, TurnsAreOne};
+ghost use Rattle.dn_script.specs.Terms.{BookImageIsRead, BooksStayFaithful, DumpTellsTables, FaithfulImageGivesOwed, LookupsAreGiven, OwedRowsAreNormal, TurnIsOne, TurnsAreOne};
 ghost use Rattle.dn_tool.specs.Terms.{AbsorbIsReadBack, CompiledIsReadBack, SplitIsReadBack};
 
 /// The book after each number of the turns of a script over a legal net is sound and faithful.
@@ -30,6 +30,17 @@ pub fn lookups_are_given()
 /// The image of the tables of a sound and faithful book gives what the book owes.
 pub fn faithful_image_gives_owed()
     ensures { FaithfulImageGivesOwed }
+{}
+
+/// The image of the tables of a sound book is bytes, and is read as these tables in version 2.
+pub fn book_image_is_read()
+    ensures { BookImageIsRead }
+{}
+
+/// Whatever bytes have the text that `dump` prints of a sound book, they are read as the tables of this book:
+/// a dumped text determines the tables.
+pub fn dump_tells_tables()
+    ensures { DumpTellsTables }
 {}
 
 /// The rows that `view` prints for an agent are the normal rows of what its addresses resolve to under

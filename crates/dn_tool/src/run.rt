@@ -1,14 +1,14 @@
 //! The top call: from the words and the bytes of a source to those of a sink, the words of a device, and a status.
 
-ghost use Rattle.std.specs.Prelude.{◌≡◌, ◌≢◌, ℕ, List, ◌==◌, ◌-◌, ◌<◌, ◌≤◌, ◌⊎◌, ◌++◌, [], true, false, codes, length, IfOk, IsTrue, None, Some, take};
+ghost use Rattle.std.specs.Prelude.{◌≡◌, ◌==◌, ◌<◌, ◌≤◌, ◌⊎◌, ◌++◌, [], false, codes, length, IfOk, IsTrue, None, Some};
 ghost use Rattle.std.specs.List.{list_all};
-ghost use Rattle.std.specs.Option.{IfSome, option_copied};
-ghost use Rattle.dn_base.specs.Terms.{AtEnd, IsCounted, Taken, TakenAtMost, input_limit};
+ghost use Rattle.std.specs.Option.{option_copied};
+ghost use Rattle.dn_base.specs.Terms.{IsCounted, input_limit};
 ghost use Rattle.dn_kind.specs.Terms.{AreKinds, kinds_of, shape_fault};
 ghost use Rattle.dn_module.specs.Terms.{names_within};
 ghost use Rattle.dn_words.specs.Terms.{task_of};
 ghost use Rattle.dn_script.specs.Terms.{HaltsByEither, HaltsBySink, IsMachine, MayRun, ending_status};
-ghost use Rattle.dn_tool.specs.Terms.{IsAnswered, IsInput, IsSaid, answer, bytes_answer, commands_answer, demo_answer, is_script, limit_for, parts_view, reads, task_answer, text_answer, usage};
+ghost use Rattle.dn_tool.specs.Terms.{IsAnswered, IsReadFor, IsRunAnswered, IsSaid, bytes_answer, commands_answer, demo_answer, is_script, limit_for, parts_view, task_answer, text_answer, usage};
 ghost use Rattle.dn_print.specs.Terms.{net_text};
 
 use crate::audit::answer_image;
@@ -58,38 +58,24 @@ pub fn run<S: Source, K: Sink, D: Tables>(
     requires few_kinds { length kinds.now.list.items ≤ 255 }
     requires kinds { AreKinds meaning kinds.now }
     requires none { D.units device.old ≡ [] }
-    // What the run gave is the answer to the bytes that the source tells where the words read it, and
-    // else to any bytes: a status and an output, or a script as far as the run came over it.
-    ensures answered { (bytes : List ℕ)
-        → IsInput words.now (S.left source.old) bytes → IsAnswered (kinds_of meaning kinds.now)
-        (answer words.now (kinds_of meaning kinds.now) bytes) result (K.written sink.old)
-        (K.written sink.new) (D.log device.old) (D.log device.new) (D.words device.new) }
-    // Where no script is run the device is as it was; with `check` and `audit` whatever is told.
-    ensures untouched { (bytes : List ℕ) → IsInput words.now (S.left source.old) bytes → is_script
-        (answer words.now (kinds_of meaning kinds.now) bytes) ≡ false → device.new ≡ device.old }
+    // There are bytes to whose answer the run came, and where the words read the source and it tells its
+    // bytes they are these: a status and an output, and then the device is as it was; or a script, as far
+    // as the run came over it.
+    ensures answered { IsRunAnswered words.now (kinds_of meaning kinds.now) (S.left source.old)
+        result (K.written sink.old) (K.written sink.new) D.units D.words D.log
+        device.old device.new }
+    // With `check` and `audit` the device is as it was, whatever the answer is.
     ensures checked { task_of words.now ≡ Some Task.Check → device.new ≡ device.old }
     ensures audited { task_of words.now ≡ Some Task.Audit → device.new ≡ device.old }
     ensures nothing_done { result ≡ 2 →
         (K.written sink.new ≡ K.written sink.old) × (device.new ≡ device.old) }
     ensures statuses { (result < 5) ⊎ ((result ≡ 6) ⊎ (result ≡ 7)) }
     ensures wrong_words { result ≡ 1 → task_of words.now ≡ None }
-    // Where the words do not read the source it is as it was, and so it has no fault.
-    ensures unread { reads words.now ≡ false → (result ≢ 2) × (source.new ≡ source.old) }
-    // Where they do, it is at its end at status 0, and was read to its end or to the limit wherever the
-    // run came past reading: with `audit` 67,108,865 bytes, else 4,194,305.
-    ensures end { reads words.now ≡ true → result ≡ 0 → AtEnd (S.left source.new) }
-    ensures read_through { reads words.now ≡ true → (result ≢ 2) → (result ≢ 7) →
-        IfSome (S.left source.old) (λ bytes. Taken (S.left source.old) (S.left source.new)
-        (take (limit_for (task_of words.now)) bytes)) }
-    ensures at_most { TakenAtMost (limit_for (task_of words.now))
-        (S.left source.old) (S.left source.new) }
-    // A fault of the source comes only before the limit was taken.
-    ensures before_limit { result ≡ 2 → TakenAtMost (limit_for (task_of words.now) - 1)
-        (S.left source.old) (S.left source.new) }
-    // Status 2, 3 or 6 comes only where the count of the source, of the sink or of the device rose in
-    // this call, and never over an object that never fails. At every other status the count is as it
-    // was, over one that answers each fault by the call in which it comes.
-    ensures source_counted { IsCounted (S.faults source.old) (S.faults source.new) (result == 2) }
+    // How much is read of the source, and when its fault is the status.
+    ensures read { IsReadFor words.now result S.left S.faults source.old source.new }
+    // Status 3 or 6 comes only where the count of the sink or of the device rose in this call, and never
+    // over an object that never fails. At every other status the count is as it was, over one that
+    // answers each fault by the call in which it comes.
     ensures sink_counted { IsCounted (K.faults sink.old) (K.faults sink.new) (result == 3) }
     ensures device_counted { IsCounted (D.faults device.old) (D.faults device.new) (result == 6) }
 {
@@ -125,7 +111,8 @@ pub fn demo<K: Sink, D: Tables>(
     requires none { D.units device.old ≡ [] }
     ensures answered { IsAnswered (kinds_of meaning kinds.now)
         (demo_answer agents (kinds_of meaning kinds.now)) result (K.written sink.old)
-        (K.written sink.new) (D.log device.old) (D.log device.new) (D.words device.new) }
+        (K.written sink.new) (D.log device.old) (D.log device.new) (D.units device.new)
+        (D.words device.new) }
     ensures untouched { is_script (demo_answer agents (kinds_of meaning kinds.now))
         ≡ false → device.new ≡ device.old }
     ensures statuses { ((result ≡ 0) ⊎ (result ≡ 3))
@@ -160,7 +147,8 @@ fn answer_bytes<K: Sink, D: Tables>(
     requires { MayRun meaning kinds.now (D.units device.old) }
     ensures answered { IsAnswered (kinds_of meaning kinds.now) (bytes_answer task
         (kinds_of meaning kinds.now) bytes.now) (ending_status result) (K.written sink.old)
-        (K.written sink.new) (D.log device.old) (D.log device.new) (D.words device.new) }
+        (K.written sink.new) (D.log device.old) (D.log device.new) (D.units device.new)
+        (D.words device.new) }
     ensures untouched { is_script (bytes_answer task (kinds_of meaning kinds.now) bytes.now)
         ≡ false → device.new ≡ device.old }
     ensures which { IfOk result (λ s. (s ≡ 0) ⊎ (s ≡ 4)) }
@@ -186,7 +174,8 @@ fn answer_text<K: Sink, D: Tables>(
     requires { MayRun meaning kinds.now (D.units device.old) }
     ensures answered { IsAnswered (kinds_of meaning kinds.now) (text_answer task
         (kinds_of meaning kinds.now) (parts_view input.entry)) (ending_status result) (K.written
-        sink.old) (K.written sink.new) (D.log device.old) (D.log device.new) (D.words device.new) }
+        sink.old) (K.written sink.new) (D.log device.old) (D.log device.new)
+        (D.units device.new) (D.words device.new) }
     ensures untouched { is_script (text_answer task (kinds_of meaning kinds.now)
         (parts_view input.entry)) ≡ false → device.new ≡ device.old }
     ensures which { IfOk result (λ s. (s ≡ 0) ⊎ (s ≡ 4)) }
@@ -218,7 +207,7 @@ fn answer_task<K: Sink, D: Tables>(
     ensures answered { IsAnswered (kinds_of meaning kinds.now) (task_answer task (kinds_of
         meaning kinds.now) (option_copied image.entry) platform.now.net platform.now.commands)
         (ending_status result) (K.written sink.old) (K.written sink.new) (D.log device.old)
-        (D.log device.new) (D.words device.new) }
+        (D.log device.new) (D.units device.new) (D.words device.new) }
     ensures untouched { is_script (task_answer task (kinds_of meaning kinds.now) (option_copied
         image.entry) platform.now.net platform.now.commands) ≡ false → device.new ≡ device.old }
     ensures which { IfOk result (λ s. (s ≡ 0) ⊎ (s ≡ 4)) }
@@ -257,7 +246,7 @@ fn run_commands<K: Sink, D: Tables>(
     ensures answered { IsAnswered (kinds_of meaning machine.entry.on.kinds.now)
         (commands_answer agents machine.entry.on.net.now commands.now) (ending_status result)
         (K.written sink.old) (K.written sink.new) (D.log device.old) (D.log device.new)
-        (D.words device.new) }
+        (D.units device.new) (D.words device.new) }
     ensures done { IfOk result (λ s. s ≡ 0) }
     ensures halted { HaltsByEither result (K.faults sink.old) (K.faults sink.new)
         (D.faults device.old) (D.faults device.new) }

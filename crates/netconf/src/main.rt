@@ -1,6 +1,12 @@
 //! The program: it hands its words, standard input and standard output to the tool, and ends with its status.
 #![tactic(auto)]
 
+ghost use Rattle.std.specs.Prelude.{◌≡◌, ◌==◌, ◌<◌, ◌⊎◌, [], List, None, IfOk, OnErr};
+ghost use Rattle.dn_base.specs.Terms.{IsCounted, UnitSize};
+ghost use Rattle.dn_words.specs.Terms.{task_of};
+ghost use Rattle.dn_tool.specs.Terms.{IsReadFor, IsRunAnswered};
+ghost use Rattle.netconf.specs.Terms.{program_kinds};
+
 use dn_base::sink::Sink;
 use dn_base::source::Source;
 use dn_base::streams::{StdSink, StdSource};
@@ -49,14 +55,32 @@ fn words_of<R: Env + AllocGlobal>(rt: &R) -> Result<Words, WordsFault> {
 
 /// Answers the words with the kinds of units that the program knows: `pages`, `remap`, `vectors` and
 /// `radix`, in this order. No hardware is touched: the device keeps how many words each unit was given, and
-/// the words of the tables stand in the program's memory alone. Want of memory for the kinds is an error, and
-/// then nothing was read or written.
+/// the words of the tables stand in the program's memory alone. So the clauses are those of `run` at these
+/// kinds and this device.
+///
+/// # Errors
+///
+/// Want of memory for the kinds: nothing was read or written.
 fn answer<S: Source, K: Sink>(
     alloc: Global,
     words: &Words,
     source: &mut S,
     sink: &mut K,
-) -> Result<u8, AllocError> {
+) -> Result<u8, AllocError>
+    // Of the device the units are told that were made, and neither words nor a log.
+    ensures answered { IfOk result (λ status. (units : List UnitSize) × IsRunAnswered words.now
+        program_kinds (S.left source.old) status (K.written sink.old) (K.written sink.new)
+        (λ made. made) (λ _. None) (λ _. None) [] units) }
+    ensures read { IfOk result (λ status.
+        IsReadFor words.now status S.left S.faults source.old source.new) }
+    ensures nothing_written { IfOk result (λ status.
+        status ≡ 2 → K.written sink.new ≡ K.written sink.old) }
+    ensures statuses { IfOk result (λ status. (status < 5) ⊎ (status ≡ 7)) }
+    ensures wrong_words { IfOk result (λ status. status ≡ 1 → task_of words.now ≡ None) }
+    ensures sink_counted { IfOk result (λ status.
+        IsCounted (K.faults sink.old) (K.faults sink.new) (status == 3)) }
+    ensures nothing_done { OnErr result ((source.new ≡ source.old) × (sink.new ≡ sink.old)) }
+{
     listed_are_lawful();
     let mut kinds = Kinds::none(alloc);
     kinds.add(Box::new(alloc, Pages)?)?;

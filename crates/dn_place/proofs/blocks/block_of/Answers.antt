@@ -4,7 +4,7 @@ use Rattle.dn_place.proofs.BlockRows.{one_blocks}
 use Rattle.dn_place.proofs.blocks.block_of.Goals as goal
 
 pub returns-then-is_of_pages : goal.returns-then-is_of_pages
-returns-then-is_of_pages g c = one_blocks (g.Q.Quest.sought c.args.quest.now).net
+returns-then-is_of_pages g c = one_blocks c.args.system.on.net.now
 
 pub returns : goal.returns
 returns g c = record {

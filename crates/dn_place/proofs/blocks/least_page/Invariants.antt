@@ -7,5 +7,5 @@ use Rattle.dn_place.proofs.blocks.least_page.Given as goal
 abbrev pub invariant-loop-node : goal.invariant-loop-node
 invariant-loop-node g l = record {
   most : l.least ≤ 40;
-  below : (n : ℕ) (u : UnitPart) → n < l.node → unit_at (g.Q.Quest.sought l.quest).net n ≡ Some u → l.least ≤ u.page;
+  below : (n : ℕ) (u : UnitPart) → n < l.node → unit_at l.system.on.net.now n ≡ Some u → l.least ≤ u.page;
 }

@@ -1,17 +1,18 @@
 use Rattle.std.proofs.Common.{◌+◌, ◌%◌, ◌^◌, inl, inr, refl, ap, ◌∙◌, subst, arith}
 use Rattle.std.proofs.lemmas.Nat.{pow_pos}
 use Rattle.dn_place.specs.Slots.{HasSeenStop}
+use Rattle.dn_place.specs.Searches.{sought}
 use Rattle.dn_place.proofs.Crowds.{own_input}
 use Rattle.dn_place.proofs.Nexts.{next_agrees}
 use Rattle.dn_place.proofs.Pages.{input_bound, page_few}
 use Rattle.dn_place.proofs.inputs.next_try.Goals as goal
 
 pub power-requires : goal.power-requires
-power-requires g c = let f = c.requires.ready.bounds _ _ c.requires.may.within.unit in omega (arith, f.page)
+power-requires g c = let f = c.requires.search.ready.bounds _ _ c.requires.may.within.unit in omega (arith, f.page)
 
 pub overflow_add-x : goal.overflow_add-x
 overflow_add-x g c =
-    let f = c.requires.ready.bounds _ _ c.requires.may.within.unit in
+    let f = c.requires.search.ready.bounds _ _ c.requires.may.within.unit in
     omega (arith, c.power.ensures, page_few c.args.translator.now.page f.page, input_bound c.args.translator.now.slots c.args.translator.now.page f.page f.few, c.requires.may.within.ends)
 
 pub returns-then-past-hop : goal.returns-then-past-hop
@@ -26,8 +27,8 @@ returns-then-past-hop g c = record {
 
 pub returns-then-is_seen : goal.returns-then-is_seen
 returns-then-is_seen g c =
-    let s = g.Q.Quest.sought c.args.quest.now in
-    let f = c.requires.ready.bounds _ _ c.requires.may.within.unit in
+    let s = sought (λ k. (goal.UnitKind-dyn g k).meaning k.1) c.args.search in
+    let f = c.requires.search.ready.bounds _ _ c.requires.may.within.unit in
     let page = c.args.translator.now.page in
     record {
       onward = omega arith;

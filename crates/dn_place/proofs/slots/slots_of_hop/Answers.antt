@@ -1,18 +1,18 @@
-use Rattle.std.proofs.Common.{◌≡◌, ◌+◌, ◌-◌, ◌/◌, ◌^◌, ap, arith, ◌∙◌}
-use Rattle.dn_placement.specs.declared.request.Request.{Request}
+use Rattle.std.proofs.Common.{◌+◌, ◌-◌, ◌/◌, ap, arith, refl}
+use Rattle.dn_place.specs.Searches.{sought}
 use Rattle.dn_place.proofs.Pages.{Fitting, fitting, slot_there}
 use Rattle.dn_place.proofs.slots.slots_of_hop.Given.{Over}
 use Rattle.dn_place.proofs.slots.slots_of_hop.Goals.{After-power-page}
 use Rattle.dn_place.proofs.slots.slots_of_hop.Goals as goal
 
 -- the slots fit the unit
-fits : (g : Over) (c : After-power-page g) → Fitting c.args.hop.x c.request-size.result.size c.args.translator.now.slots c.power-page.result
+fits : (g : Over) (c : After-power-page g) → Fitting c.args.hop.x c.args.search.request.size c.args.translator.now.slots c.power-page.result
 fits g c =
-    let f = c.requires.ready.bounds _ _ c.requires.within.unit in
-    fitting c.args.hop.x c.request-size.result.size (g.Q.Quest.sought c.args.quest.now).request.size c.args.translator.now.slots c.args.translator.now.page c.power-page.result c.power-page.ensures (ap (λ (r : Request). r.size) c.request-size.ensures) f.page f.few c.requires.ready.some c.requires.within.ends
+    let f = c.requires.search.ready.bounds _ _ c.requires.within.unit in
+    fitting c.args.hop.x c.args.search.request.size c.args.search.request.size c.args.translator.now.slots c.args.translator.now.page c.power-page.result c.power-page.ensures refl f.page f.few c.requires.search.ready.some c.requires.within.ends
 
 pub power-page-requires : goal.power-page-requires
-power-page-requires g c = let f = c.requires.ready.bounds _ _ c.requires.within.unit in omega (arith, f.page)
+power-page-requires g c = let f = c.requires.search.ready.bounds _ _ c.requires.within.unit in omega (arith, f.page)
 
 pub overflow_cast-first : goal.overflow_cast-first
 overflow_cast-first g c = omega (arith, (fits g (goal.at.overflow_cast-first g c).After-power-page).first_few)
@@ -26,13 +26,12 @@ overflow_cast-last g c = omega (arith, (fits g (goal.at.overflow_cast-last g c).
 pub returns : goal.returns
 returns g c =
     let b = fits g (goal.at.returns g c).After-power-page in
-    let size : c.request-size.result.size ≡ (g.Q.Quest.sought c.args.quest.now).request.size = ap (λ (r : Request). r.size) c.request-size.ensures in
     record {
       page = c.power-page.ensures;
       first = ap (λ n. c.args.hop.x / n) c.power-page.ensures;
-      last = ap (λ n. (c.args.hop.x + c.request-size.result.size - 1) / n) c.power-page.ensures ∙ ap (λ n. (c.args.hop.x + n - 1) / 2 ^ c.args.translator.now.page) size;
+      last = ap (λ n. (c.args.hop.x + c.args.search.request.size - 1) / n) c.power-page.ensures;
       ordered = b.ordered;
       below = b.last;
-      there = slot_there (g.Q.Quest.sought c.args.quest.now).net c.args.hop.unit _ c.args.translator.now c.requires.within.unit b.last;
+      there = slot_there (sought (λ k. (goal.UnitKind-dyn g k).meaning k.1) c.args.search).net c.args.hop.unit _ c.args.translator.now c.requires.within.unit b.last;
       few = b.few;
     }

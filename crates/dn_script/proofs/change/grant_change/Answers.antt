@@ -1,10 +1,12 @@
 use Rattle.std.proofs.Common.{rules, ◌∙◌, sym, subst, refl, inr}
 use Rattle.dn_kind.specs.Kinded.{kinds_of}
+use Rattle.dn_tables.specs.Set.{IsSet}
 use Rattle.dn_grant.specs.Grant.{IsGrantRefused}
 use Rattle.dn_script.specs.Changed.{grant_refused_text, granted_text}
 use Rattle.dn_script.specs.State.{IsChanged, state_view}
 use Rattle.dn_script.specs.Turn.{IsGrantTurn}
 use Rattle.dn_script.proofs.Changes.{state_granted}
+use Rattle.dn_script.proofs.Kept.{machine_lawful}
 use Rattle.dn_script.proofs.Stopped.{done_replied, grant_cut, halted_done, refusal_done}
 use Rattle.dn_script.proofs.change.grant_change.Given.{Over}
 use Rattle.dn_script.proofs.change.grant_change.Goals.{After-renew}
@@ -24,7 +26,7 @@ returns-in-Ok g c = done_replied _ _ _ c.granted_reply.result _ (granted_text c.
 pub returns-in_err-why-in-Err : goal.returns-in_err-why-in-Err
 returns-in_err-why-in-Err g c =
     halted_done c.in-Err.fault c.in_err-why-in-Err.field-0.0 c.from_residual-in_err-why-in-Err.result c.in-Err.ensures (sym c.refusal_or_halt.ensures ∙ c.in_err-why-in-Err.was) (search rules)
-    (grant_cut (kinds_of (λ k. (goal.UnitKind-dyn g k).meaning k.1) c.args.machine.on.kinds.now) c.args.machine.on.net.now (state_view c.args.state.now) (state_view c.args.state.now) c.args.id.now c.args.request.now c.in_ok-number.number c.grant.new.book.set _ _ _ _ c.grant.ensures.changed.fits c.grant.ensures.changed.on_device c.in_ok-number.ensures.number)
+    (grant_cut (kinds_of (λ k. (goal.UnitKind-dyn g k).meaning k.1) c.args.machine.on.kinds.now) c.args.machine.on.net.now (state_view c.args.state.now) (state_view c.args.state.now) c.grant.new.book.set g.D.Tables.units g.D.Tables.words g.D.Tables.log _ _ (machine_lawful _ c.args.machine c.requires.ready.machine) c.grant.ensures.changed.fits (subst IsSet c.tables.ensures c.facts.ensures) c.grant.ensures.changed.on_device c.args.id.now c.args.request.now c.in_ok-number.number c.in_ok-number.ensures.number)
 
 pub returns-in_ok-why-in-Err : goal.returns-in_ok-why-in-Err
 returns-in_ok-why-in-Err g c =

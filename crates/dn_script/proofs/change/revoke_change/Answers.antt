@@ -4,16 +4,16 @@ use Rattle.dn_net.specs.declared.node.NodeDecl.{NodeDecl}
 use Rattle.dn_kind.specs.Kind.{Meaning}
 use Rattle.dn_kind.specs.Kinded.{kinds_of}
 use Rattle.dn_book.specs.declared.book.RevokeFault.TheVariants.{Device, NoGrant}
-use Rattle.dn_tables.specs.Set.{words_of}
+use Rattle.dn_tables.specs.Set.{IsSet, words_of}
 use Rattle.dn_book.specs.Between.{IsCaught}
 use Rattle.dn_book.specs.Book.{has_id, without_id}
-use Rattle.dn_script.specs.declared.halt.RunHalt.TheVariants.{DeviceFault}
 use Rattle.dn_script.specs.Changed.{revoke_refused_text, revoked_text}
 use Rattle.dn_script.specs.Ids.{id_number, with_id}
 use Rattle.dn_script.specs.State.{IsChanged, state_view}
 use Rattle.dn_script.specs.Turn.{IsRevokeTurn, State}
-use Rattle.dn_script.proofs.Changes.{not_revoked_turn, revoke_stopped, state_revoked}
-use Rattle.dn_script.proofs.Stopped.{done_refused, done_replied, done_stopped, revoke_caught}
+use Rattle.dn_script.proofs.Changes.{not_revoked_turn, state_revoked}
+use Rattle.dn_script.proofs.Kept.{machine_lawful}
+use Rattle.dn_script.proofs.Stopped.{done_refused, done_replied, done_stopped, revoke_cut}
 use Rattle.dn_script.proofs.change.revoke_change.Given.{Over}
 use Rattle.dn_script.proofs.change.revoke_change.Goals.{After-renew}
 use Rattle.dn_script.proofs.change.revoke_change.Goals as goal
@@ -49,6 +49,5 @@ returns-in-Err-Device g c =
     let has = subst (λ n. has_id n book ≡ true) number (true_from_ne_false (has_id c.in_ok-number.number book) (λ e. let x = c.revoke.ensures.unknown.1 e in let y = failed in cc)) in
     let caught = subst (λ n. IsCaught net kinds (words_of c.revoke.new.self.set) book (without_id n book)) number (c.revoke.ensures.caught failed) in
     done_stopped _ _ _ _ _ _ _ _ _ _ _
-    (revoke_stopped kinds net s s c.args.id.now (Err DeviceFault) (g.D.Tables.log c.args.device.now) (g.D.Tables.log c.revoke.new.device) refl has (λ k m e. c.in-Err-Device.ensures.added k m (e ∙ sym number)))
-    (revoke_caught kinds net s c.args.id.now c.revoke.new.self.set _ _ c.revoke.ensures.changed.fits c.revoke.ensures.changed.on_device has caught)
+    (revoke_cut kinds net s s c.revoke.new.self.set g.D.Tables.units g.D.Tables.words g.D.Tables.log _ _ (machine_lawful _ c.args.machine c.requires.ready.machine) c.revoke.ensures.changed.fits (subst IsSet c.tables.ensures c.facts.ensures) c.revoke.ensures.changed.on_device c.args.id.now has (λ k m e. c.in-Err-Device.ensures.added k m (e ∙ sym number)) caught)
     (search rules)

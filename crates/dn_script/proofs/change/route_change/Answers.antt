@@ -1,10 +1,12 @@
 use Rattle.std.proofs.Common.{rules, ◌∙◌, sym, subst, refl, inr}
 use Rattle.dn_kind.specs.Kinded.{kinds_of}
+use Rattle.dn_tables.specs.Set.{IsSet}
 use Rattle.dn_vector.specs.Route.{IsRouteRefused}
 use Rattle.dn_script.specs.Changed.{route_refused_text, routed_text}
 use Rattle.dn_script.specs.State.{IsChanged, state_view}
 use Rattle.dn_script.specs.Turn.{IsRouteTurn}
 use Rattle.dn_script.proofs.Changes.{state_routed}
+use Rattle.dn_script.proofs.Kept.{machine_lawful}
 use Rattle.dn_script.proofs.Stopped.{done_replied, route_cut, halted_done, refusal_done}
 use Rattle.dn_script.proofs.change.route_change.Given.{Over}
 use Rattle.dn_script.proofs.change.route_change.Goals.{After-renew}
@@ -24,7 +26,7 @@ returns-in-Ok g c = done_replied _ _ _ c.routed_reply.result _ (routed_text c.ar
 pub returns-in_err-why-in-Err : goal.returns-in_err-why-in-Err
 returns-in_err-why-in-Err g c =
     halted_done c.in-Err.fault c.in_err-why-in-Err.field-0.0 c.from_residual-in_err-why-in-Err.result c.in-Err.ensures (sym c.refusal_or_halt.ensures ∙ c.in_err-why-in-Err.was) (search rules)
-    (route_cut (kinds_of (λ k. (goal.UnitKind-dyn g k).meaning k.1) c.args.machine.on.kinds.now) c.args.machine.on.net.now (state_view c.args.state.now) (state_view c.args.state.now) c.args.id.now c.args.agent c.args.line c.args.node c.in_ok-number.number c.route.new.book.set _ _ _ _ c.route.ensures.changed.fits c.route.ensures.changed.on_device c.in_ok-number.ensures.number)
+    (route_cut (kinds_of (λ k. (goal.UnitKind-dyn g k).meaning k.1) c.args.machine.on.kinds.now) c.args.machine.on.net.now (state_view c.args.state.now) (state_view c.args.state.now) c.route.new.book.set g.D.Tables.units g.D.Tables.words g.D.Tables.log _ _ (machine_lawful _ c.args.machine c.requires.ready.machine) c.route.ensures.changed.fits (subst IsSet c.tables.ensures c.facts.ensures) c.route.ensures.changed.on_device c.args.id.now c.args.agent c.args.line c.args.node c.in_ok-number.number c.in_ok-number.ensures.number)
 
 pub returns-in_ok-why-in-Err : goal.returns-in_ok-why-in-Err
 returns-in_ok-why-in-Err g c =

@@ -1,6 +1,6 @@
 use Rattle.std.proofs.Common.{rules, ◌≡◌, ◌∙◌, sym, subst, refl, inr, false, length, List}
 use Rattle.dn_kind.specs.Kinded.{kinds_of}
-use Rattle.dn_tables.specs.Set.{words_of}
+use Rattle.dn_tables.specs.Set.{IsSet, words_of}
 use Rattle.dn_gather.specs.Gather.{IsGatherLogged, IsGatherMade, IsGatherRefused}
 use Rattle.dn_gather.specs.declared.piece.Piece.{Piece}
 use Rattle.dn_script.specs.Asked.{numbered}
@@ -8,6 +8,7 @@ use Rattle.dn_script.specs.Changed.{gather_refused_text, gathered_text}
 use Rattle.dn_script.specs.State.{IsChanged, state_view}
 use Rattle.dn_script.specs.Turn.{IsGatherTurn}
 use Rattle.dn_script.proofs.Changes.{numbered_few, state_gathered}
+use Rattle.dn_script.proofs.Kept.{machine_lawful}
 use Rattle.dn_script.proofs.Stopped.{done_replied, gather_cut, halted_done, refusal_done}
 use Rattle.dn_script.proofs.pieces.gather_change.Given.{Over}
 use Rattle.dn_script.proofs.pieces.gather_change.Goals.{After-renew}
@@ -40,7 +41,7 @@ returns-in-Ok g c = done_replied _ _ _ c.gathered_reply.result _ (gathered_text 
 pub returns-in_err-why-in-Err : goal.returns-in_err-why-in-Err
 returns-in_err-why-in-Err g c =
     halted_done c.in-Err.fault c.in_err-why-in-Err.field-0.0 c.from_residual-in_err-why-in-Err.result c.in-Err.ensures (sym c.refusal_or_halt.ensures ∙ c.in_err-why-in-Err.was) (search rules)
-    (gather_cut (kinds_of (λ k. (goal.UnitKind-dyn g k).meaning k.1) c.args.machine.on.kinds.now) c.args.machine.on.net.now (state_view c.args.state.now) (state_view c.args.state.now) c.args.agent c.args.rights c.args.pieces.now c.deref.result.now c.gather.new.book.set c.gather.new.book.grants _ _ _ _ c.gather.ensures.changed.fits c.gather.ensures.changed.on_device (c.deref.ensures.value ∙ c.in_ok-asked.ensures.pieces))
+    (gather_cut (kinds_of (λ k. (goal.UnitKind-dyn g k).meaning k.1) c.args.machine.on.kinds.now) c.args.machine.on.net.now (state_view c.args.state.now) (state_view c.args.state.now) c.gather.new.book.set g.D.Tables.units g.D.Tables.words g.D.Tables.log _ _ (machine_lawful _ c.args.machine c.requires.ready.machine) c.gather.ensures.changed.fits (subst IsSet c.tables.ensures c.facts.ensures) c.gather.ensures.changed.on_device c.args.agent c.args.rights c.args.pieces.now c.deref.result.now c.gather.new.book.grants (c.deref.ensures.value ∙ c.in_ok-asked.ensures.pieces))
 
 pub returns : goal.returns
 returns g c =

@@ -8,29 +8,22 @@ use Rattle.dn_book.specs.State.{BookState}
 use Rattle.dn_script.specs.State.{IsChanged, state_view}
 use Rattle.dn_script.specs.Turn.{IsTurn, State, Turn, is_change}
 use Rattle.dn_script.proofs.Changes.{change_halted, on_ok, replied, state_kept, still_through}
-use Rattle.dn_script.proofs.Stopped.{handed_on, not_stopped}
+use Rattle.dn_script.proofs.Sizes.{ready_tables}
 use Rattle.dn_script.proofs.script.answer.Goals as goal
 
 pub returns-in_err-text-in-Grant-clause-through : goal.returns-in_err-text-in-Grant-clause-through
 returns-in_err-text-in-Grant-clause-through g c =
     let kinds : List Meaning = kinds_of (λ k. (goal.UnitKind-dyn g k).meaning k.1) c.args.machine.on.kinds.now in
+    let net = c.args.machine.on.net.now in
     let ended : c.from_residual.result ≡ Err c.in_err-text-in-Grant.field-0.0 = search rules in
-    change_halted (IsTurn kinds c.args.machine.on.net.now (state_view c.args.state.now) c.args.command.now) c.change.result c.in_err-text-in-Grant.field-0.0 c.from_residual.result (state_view c.change.new.state) _ _ _ c.in_err-text-in-Grant.was ended c.change.ensures.changed
-
-pub returns-in_err-text-in-Grant-clause-caught : goal.returns-in_err-text-in-Grant-clause-caught
-returns-in_err-text-in-Grant-clause-caught g c fault =
-    let ended : c.from_residual.result ≡ Err c.in_err-text-in-Grant.field-0.0 = search rules in
-    c.change.ensures.caught (handed_on c.change.result c.from_residual.result c.in_err-text-in-Grant.field-0.0 c.in_err-text-in-Grant.was ended fault)
-
-pub returns-in_ok-text-in-Grant-clause-caught : goal.returns-in_ok-text-in-Grant-clause-caught
-returns-in_ok-text-in-Grant-clause-caught g c = not_stopped c.write_output.result _ c.write_output.ensures.halted.no_device
+    change_halted kinds net c.args.state.now.book.grants (IsTurn kinds net (state_view c.args.state.now) c.args.command.now) c.change.result c.in_err-text-in-Grant.field-0.0 c.from_residual.result (state_view c.change.new.state) _ _ _ _ _ _ _ c.in_err-text-in-Grant.was ended c.change.ensures.changed
 
 pub returns-in_ok-text-in-Grant-clause-through : goal.returns-in_ok-text-in-Grant-clause-through
 returns-in_ok-text-in-Grant-clause-through g c =
     let kinds : List Meaning = kinds_of (λ k. (goal.UnitKind-dyn g k).meaning k.1) c.args.machine.on.kinds.now in
     let P : Turn → Type 0 = IsTurn kinds c.args.machine.on.net.now (state_view c.args.state.now) c.args.command.now in
     let changed : IsChanged P (state_view c.change.new.state) c.as_slice.result.now (g.D.Tables.log c.args.device.now) (g.D.Tables.log c.change.new.device) = subst (λ (t : List ℕ). IsChanged P (state_view c.change.new.state) t (g.D.Tables.log c.args.device.now) (g.D.Tables.log c.change.new.device)) (sym c.as_slice.ensures) c.in_ok-text-in-Grant.ensures.changed in
-    replied P c.write_output.result (state_view c.change.new.state) c.as_slice.result.now (g.K.Sink.written c.args.sink.now) (g.K.Sink.written c.write_output.new.sink) _ _ changed c.write_output.ensures.written c.write_output.ensures.halted.no_device
+    replied kinds c.args.machine.on.net.now c.args.state.now.book.grants P c.write_output.result (state_view c.change.new.state) c.as_slice.result.now (g.K.Sink.written c.args.sink.now) (g.K.Sink.written c.write_output.new.sink) _ _ _ _ _ changed c.write_output.ensures.written c.write_output.ensures.halted.no_device (ready_tables _ c.args.machine c.change.new.state _ _ c.in_ok-text-in-Grant.ensures.ready)
 
 pub returns-in_default : goal.returns-in_default
 returns-in_default g c =
@@ -40,8 +33,7 @@ returns-in_default g c =
     let next : State = state_view c.answer_still.new.state in
     let still : is_change c.args.command.now ≡ false = search rules in
     record {
-      caught = not_stopped c.answer_still.result _ c.answer_still.ensures.halted.no_device;
-      through = still_through kinds net s next c.args.command.now c.answer_still.result (g.K.Sink.written c.args.sink.now) (g.K.Sink.written c.answer_still.new.sink) (g.D.Tables.log c.args.device.now) still (state_kept c.args.state.now c.answer_still.new.state c.answer_still.ensures.still.book c.answer_still.ensures.still.ids) c.answer_still.ensures.written c.answer_still.ensures.halted.no_device;
+      through = still_through kinds net s next c.args.command.now c.answer_still.result (g.K.Sink.written c.args.sink.now) (g.K.Sink.written c.answer_still.new.sink) _ _ _ c.args.device.now still (state_kept c.args.state.now c.answer_still.new.state c.answer_still.ensures.still.book c.answer_still.ensures.still.ids) c.answer_still.ensures.written c.answer_still.ensures.halted.no_device (ready_tables _ c.args.machine c.args.state.now _ _ c.requires.ready);
       ready = on_ok c.answer_still.result _ (record {
         machine = c.requires.ready.machine;
         state = c.answer_still.ensures.still.state;

@@ -10,7 +10,7 @@ use Rattle.dn_script.proofs.Endings.{halts_again, halts_later, memory_halts}
 use Rattle.dn_script.proofs.Kept.{machine_lawful, machine_owed}
 use Rattle.dn_script.proofs.Places.{first_place, first_rest, known_next, place, told_end, told_next}
 use Rattle.dn_script.proofs.Played.{IsGone, gone_start, gone_turned, halted_by, halted_unmade, played_whole}
-use Rattle.dn_script.proofs.Stopped.{words_told}
+use Rattle.dn_script.proofs.Sizes.{ready_tables}
 use Rattle.dn_script.proofs.script.answer_all.Goals as goal
 
 pub commands-init : goal.commands-init
@@ -27,7 +27,7 @@ commands-init g c =
 
 pub returns-in_err-command-clause-played : goal.returns-in_err-command-clause-played
 returns-in_err-command-clause-played g c =
-    λ log made. halted_unmade _ _ c.args.commands.now (place c.args.commands.now c.commands.rest) (state_view c.commands.state) c.from_residual.result _ _ _ _ _ (search rules) (omega arith) (c.commands.invariant.gone log made)
+    λ log made. halted_unmade _ _ c.args.commands.now (place c.args.commands.now c.commands.rest) (state_view c.commands.state) c.from_residual.result _ _ _ _ _ _ (search rules) (omega arith) (ready_tables _ c.args.machine c.commands.state _ _ c.commands.invariant.ready) (c.commands.invariant.gone log made)
 
 pub returns-in_err-command-clause-halted : goal.returns-in_err-command-clause-halted
 returns-in_err-command-clause-halted g c = memory_halts c.from_residual.result _ _ _ _ (search rules) c.commands.invariant.sink_counted c.commands.invariant.device_counted
@@ -35,7 +35,7 @@ returns-in_err-command-clause-halted g c = memory_halts c.from_residual.result _
 pub returns-in_err-ended-clause-played : goal.returns-in_err-ended-clause-played
 returns-in_err-ended-clause-played g c =
     let at = told_next c.args.commands.now c.commands.rest c.next.new.self _ c.in-Some.command c.commands.invariant.behind c.in_ok-command.ensures.next c.in-Some.is in
-    λ log made. halted_by _ _ c.args.commands.now (place c.args.commands.now c.commands.rest) c.in-Some.command (state_view c.commands.state) (state_view c.answer-ended.new.state) c.answer-ended.result c.in_err-ended.field-0.0 c.from_residual-in_err-ended.result _ _ _ _ _ _ _ c.in_err-ended.was (search rules) at.within at.at (c.commands.invariant.gone log made) c.answer-ended.ensures.through c.answer-ended.ensures.caught
+    λ log made. halted_by _ _ c.args.commands.now (place c.args.commands.now c.commands.rest) c.in-Some.command (state_view c.commands.state) (state_view c.answer-ended.new.state) c.answer-ended.result c.in_err-ended.field-0.0 c.from_residual-in_err-ended.result _ _ _ _ g.D.Tables.units g.D.Tables.words g.D.Tables.log c.commands.device c.answer-ended.new.device c.in_err-ended.was (search rules) at.within at.at (ready_tables _ c.args.machine c.commands.state _ _ c.commands.invariant.ready) (c.commands.invariant.gone log made) c.answer-ended.ensures.through
 
 pub returns-in_err-ended-clause-halted : goal.returns-in_err-ended-clause-halted
 returns-in_err-ended-clause-halted g c =
@@ -59,5 +59,4 @@ commands-preserved g c =
 pub returns-clause-played : goal.returns-clause-played
 returns-clause-played g c =
     let over : place c.args.commands.now c.commands.rest ≡ length c.args.commands.now = told_end c.args.commands.now c.commands.rest _ _ c.in_ok-command.ensures.next c.in_default.is in
-    let told = words_told _ _ c.commands.state.book.grants c.commands.state.book.set _ _ c.commands.invariant.ready.state.kept c.commands.invariant.ready.on_device in
-    λ log made. played_whole _ _ c.args.commands.now (place c.args.commands.now c.commands.rest) 0 (state_view c.commands.state) _ _ _ _ _ over refl told (c.commands.invariant.gone log made)
+    λ log made. played_whole _ _ c.args.commands.now (place c.args.commands.now c.commands.rest) 0 (state_view c.commands.state) _ _ _ _ _ _ over refl (ready_tables _ c.args.machine c.commands.state _ _ c.commands.invariant.ready) (c.commands.invariant.gone log made)

@@ -13,6 +13,7 @@ use Rattle.dn_tool.proofs.Demos.{IsTallied, line_status, one_at_most, shown_halt
 use Rattle.dn_script.proofs.Endings.{device_halts, halts_again, halts_later, memory_halts, sink_halts}
 use Rattle.dn_script.proofs.Places.{first_place, first_rest, known_next, place, told_end, told_next}
 use Rattle.dn_script.proofs.Kept.{machine_lawful, machine_owed}
+use Rattle.dn_script.proofs.Sizes.{ready_tables}
 use Rattle.dn_tool.proofs.demo.play_all.Goals as goal
 
 pub commands-init : goal.commands-init
@@ -30,12 +31,12 @@ commands-init g c =
 
 pub returns-in_err-command-clause-shown : goal.returns-in_err-command-clause-shown
 returns-in_err-command-clause-shown g c =
-    λ log made. shown_unread _ _ c.args.agents c.args.commands.now (place c.args.commands.now c.commands.rest) (state_view c.commands.state) c.from_residual.result _ _ _ _ c.commands.granted c.commands.revoked (search rules) (omega arith) (c.commands.invariant.tallied log made)
+    λ log made. shown_unread _ _ c.args.agents c.args.commands.now (place c.args.commands.now c.commands.rest) (state_view c.commands.state) c.from_residual.result _ _ _ _ _ c.commands.granted c.commands.revoked (search rules) (omega arith) (ready_tables _ c.args.machine c.commands.state _ _ c.commands.invariant.ready) (c.commands.invariant.tallied log made)
 
 pub returns-in_err-ended-clause-shown : goal.returns-in_err-ended-clause-shown
 returns-in_err-ended-clause-shown g c =
     let at = told_next c.args.commands.now c.commands.rest c.next.new.self _ c.in-Some.command c.commands.invariant.behind c.in_ok-command.ensures.next c.in-Some.is in
-    λ log made. shown_halted _ _ c.args.agents c.args.commands.now (place c.args.commands.now c.commands.rest) c.in-Some.command (state_view c.commands.state) (state_view c.play-ended.new.state) c.play-ended.result c.in_err-ended.field-0.0 c.from_residual-in_err-ended.result _ _ _ _ _ c.commands.granted c.commands.revoked c.in_err-ended.was (search rules) c.play-ended.ensures.halted.no_write at.within at.at (c.commands.invariant.tallied log made) c.play-ended.ensures.through c.play-ended.ensures.caught
+    λ log made. shown_halted _ _ c.args.agents c.args.commands.now (place c.args.commands.now c.commands.rest) c.in-Some.command (state_view c.commands.state) (state_view c.play-ended.new.state) c.play-ended.result c.in_err-ended.field-0.0 c.from_residual-in_err-ended.result _ _ g.D.Tables.units g.D.Tables.words g.D.Tables.log c.commands.device c.play-ended.new.device c.commands.granted c.commands.revoked c.in_err-ended.was (search rules) c.play-ended.ensures.halted.no_write at.within at.at (ready_tables _ c.args.machine c.commands.state _ _ c.commands.invariant.ready) (c.commands.invariant.tallied log made) c.play-ended.ensures.through
 
 pub returns-in_err-command-clause-halted : goal.returns-in_err-command-clause-halted
 returns-in_err-command-clause-halted g c = memory_halts c.from_residual.result _ _ _ _ (search rules) (counted_none _) c.commands.invariant.device_counted
@@ -88,7 +89,7 @@ returns-in_err-write_summary-clause-shown g c =
     let over : place c.args.commands.now c.commands.rest ≡ length c.args.commands.now = told_end c.args.commands.now c.commands.rest _ _ c.in_ok-command.ensures.next c.in_default.is in
     let ended : c.from_residual-in_err-write_summary.result ≡ Err c.in_err-write_summary.field-0.0 = search rules in
     let status : ending_status c.from_residual-in_err-write_summary.result ≡ line_status c.write_summary.result = ap ending_status ended ∙ sym (ap line_status c.in_err-write_summary.was) in
-    λ log made. shown_written _ _ c.args.agents c.args.commands.now (place c.args.commands.now c.commands.rest) (ending_status c.from_residual-in_err-write_summary.result) (state_view c.commands.state) c.write_summary.result _ _ _ _ _ c.commands.granted c.commands.revoked c.commands.state.book.set _ (omega (arith, over)) (omega (arith, over)) c.commands.invariant.ready.state.kept c.commands.invariant.ready.on_device (c.commands.invariant.tallied log made) status c.write_summary.ensures.halted.no_device c.write_summary.ensures.written
+    λ log made. shown_written _ _ c.args.agents c.args.commands.now (place c.args.commands.now c.commands.rest) (ending_status c.from_residual-in_err-write_summary.result) (state_view c.commands.state) c.write_summary.result _ _ _ _ _ _ c.commands.granted c.commands.revoked (omega (arith, over)) (omega (arith, over)) (ready_tables _ c.args.machine c.commands.state _ _ c.commands.invariant.ready) (c.commands.invariant.tallied log made) status c.write_summary.ensures.halted.no_device c.write_summary.ensures.written
 
 pub returns-in_err-write_summary-clause-halted : goal.returns-in_err-write_summary-clause-halted
 returns-in_err-write_summary-clause-halted g c =
@@ -98,4 +99,4 @@ returns-in_err-write_summary-clause-halted g c =
 pub returns-clause-shown : goal.returns-clause-shown
 returns-clause-shown g c =
     let over : place c.args.commands.now c.commands.rest ≡ length c.args.commands.now = told_end c.args.commands.now c.commands.rest _ _ c.in_ok-command.ensures.next c.in_default.is in
-    λ log made. shown_written _ _ c.args.agents c.args.commands.now (place c.args.commands.now c.commands.rest) 0 (state_view c.commands.state) c.write_summary.result _ _ _ _ _ c.commands.granted c.commands.revoked c.commands.state.book.set _ (omega (arith, over)) (omega (arith, over)) c.commands.invariant.ready.state.kept c.commands.invariant.ready.on_device (c.commands.invariant.tallied log made) (sym (ap line_status c.in_ok-write_summary.was)) c.write_summary.ensures.halted.no_device c.write_summary.ensures.written
+    λ log made. shown_written _ _ c.args.agents c.args.commands.now (place c.args.commands.now c.commands.rest) 0 (state_view c.commands.state) c.write_summary.result _ _ _ _ _ _ c.commands.granted c.commands.revoked (omega (arith, over)) (omega (arith, over)) (ready_tables _ c.args.machine c.commands.state _ _ c.commands.invariant.ready) (c.commands.invariant.tallied log made) (sym (ap line_status c.in_ok-write_summary.was)) c.write_summary.ensures.halted.no_device c.write_summary.ensures.written

@@ -15,13 +15,13 @@ returns-then-is_too_long-clause-answered g c =
     let kinds : List Meaning = kinds_of (λ k. (goal.UnitKind-dyn g k).meaning k.1) c.args.kinds.now in
     let line : c.as_bytes.result.now ≡ too_long_line = search rules in
     let said : IsSaid 4 too_long_line (ending_status c.say.result) (g.K.Sink.written c.args.sink.now) (g.K.Sink.written c.say.new.sink) = subst (λ (l : List ℕ). IsSaid 4 l (ending_status c.say.result) (g.K.Sink.written c.args.sink.now) (g.K.Sink.written c.say.new.sink)) line c.say.ensures.said in
-    subst (λ (a : Answer). IsAnswered kinds a (ending_status c.say.result) (g.K.Sink.written c.args.sink.now) (g.K.Sink.written c.say.new.sink) (g.D.Tables.log c.args.device.now) (g.D.Tables.log c.args.device.now) (g.D.Tables.words c.args.device.now)) (refused_long c.args.task kinds c.args.bytes.now (sym c.if-is_too_long.ensures)) said
+    subst (λ (a : Answer). IsAnswered kinds a (ending_status c.say.result) (g.K.Sink.written c.args.sink.now) (g.K.Sink.written c.say.new.sink) (g.D.Tables.log c.args.device.now) (g.D.Tables.log c.args.device.now) (g.D.Tables.units c.args.device.now) (g.D.Tables.words c.args.device.now)) (refused_long c.args.task kinds c.args.bytes.now (sym c.if-is_too_long.ensures)) said
 
 pub returns-clause-answered : goal.returns-clause-answered
 returns-clause-answered g c =
     let kinds : List Meaning = kinds_of (λ k. (goal.UnitKind-dyn g k).meaning k.1) c.args.kinds.now in
     let fits : is_too_long c.args.task c.args.bytes.now ≡ false = sym c.if-is_too_long.ensures in
-    subst (λ (a : Answer). IsAnswered kinds a (ending_status c.answer_text.result) (g.K.Sink.written c.args.sink.now) (g.K.Sink.written c.answer_text.new.sink) (g.D.Tables.log c.args.device.now) (g.D.Tables.log c.answer_text.new.device) (g.D.Tables.words c.answer_text.new.device))
+    subst (λ (a : Answer). IsAnswered kinds a (ending_status c.answer_text.result) (g.K.Sink.written c.args.sink.now) (g.K.Sink.written c.answer_text.new.sink) (g.D.Tables.log c.args.device.now) (g.D.Tables.log c.answer_text.new.device) (g.D.Tables.units c.answer_text.new.device) (g.D.Tables.words c.answer_text.new.device))
     (ap (text_answer c.args.task kinds) c.parts_of.ensures ∙ answered_by_parts c.args.task kinds c.args.bytes.now fits) c.answer_text.ensures.answered
 
 pub returns-clause-untouched : goal.returns-clause-untouched

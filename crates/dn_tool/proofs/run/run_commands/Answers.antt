@@ -13,7 +13,7 @@ pub returns-in_err-state-clause-answered : goal.returns-in_err-state-clause-answ
 returns-in_err-state-clause-answered g c =
     let kinds : List Meaning = kinds_of (λ k. (goal.UnitKind-dyn g k).meaning k.1) c.args.machine.on.kinds.now in
     let ended : c.from_residual.result ≡ Err (make_halt c.in_err-state.field-0.0) = search rules in
-    unmade_answer kinds c.args.machine.on.net.now c.args.agents c.args.commands.now c.make.result c.in_err-state.field-0.0 c.from_residual.result _ _ _ _ _ _ (machine_lawful _ c.args.machine c.requires.machine) c.in_err-state.was ended c.make.ensures.made
+    unmade_answer kinds c.args.machine.on.net.now c.args.agents c.args.commands.now c.make.result c.in_err-state.field-0.0 c.from_residual.result _ _ _ _ _ _ _ (machine_lawful _ c.args.machine c.requires.machine) c.in_err-state.was ended (record { units = c.requires.none; sized = g.met.D.Tables.sized c.args.device.now }) c.make.ensures.made
 
 pub returns-in-None-clause-answered : goal.returns-in-None-clause-answered
 returns-in-None-clause-answered g c =

@@ -1,4 +1,0 @@
-use Rattle.dn_place.proofs.first.fn.by_tables.exact.Goals as goal
-
-pub returns : goal.returns
-returns g c = rw c.into_placement-placement.ensures at c.exact.ensures.exact

@@ -1,0 +1,4 @@
+pub mod Changed
+pub mod Events
+pub mod Ready
+pub mod Slots

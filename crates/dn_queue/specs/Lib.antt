@@ -1,0 +1,4 @@
+pub mod Changing
+pub mod Queue
+pub mod Room
+pub mod Terms
