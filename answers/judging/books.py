@@ -1,12 +1,11 @@
-"""Books of live grants, and the turns of commands that change them, by the words of docs/model.md ("Books", "Grants and routes").
+"""Books of live grants, and the turns of commands that change them, by the words of docs/model.md ("Books", "Grants and
+routes").
 
 A command is a tuple of its word and what follows it, nodes by their names; an access that is not said is None."""
 
 import typing
 
-import nets
-import placements
-import units
+from judging import nets, placements, units
 
 MOST_GRANTS = 4096
 
@@ -41,7 +40,8 @@ class Book:
         return placements.Slots(held, uses, owned)
 
     def owed(self, access, name):
-        """The names owed to a name for an access: what it resolves to in the net, and what the live grants give there."""
+        """The names owed to a name for an access: what it resolves to in the net, and what the live grants give
+        there."""
         names = nets.resolved(self.net, name)
         for grant in self.grants:
             names = names | placements.added_name(grant.request, grant.placement.v, access, name)
@@ -58,7 +58,8 @@ def first_not_accepted(net, node, base, size):
     if size == 0:
         return base
     edge = max(base, net.edge)
-    return next((addr for addr in range(base, min(base + size, edge + 1)) if not nets.is_accepted(net, (node, addr))), None)
+    return next((addr for addr in range(base, min(base + size, edge + 1)) if not nets.is_accepted(net, (node, addr))),
+                None)
 
 
 def is_agent(net, node):

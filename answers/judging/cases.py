@@ -3,17 +3,7 @@
 import functools
 import typing
 
-import books
-import dice
-import drawn
-import narrow
-import nets
-import placements
-import replies
-import rules
-import scripts
-import shapes
-import units
+from judging import books, dice, drawn, narrow, nets, placements, replies, rules, scripts, shapes, units
 
 FIRST_SEED = 20170401
 """Where the seeds of each shape begin."""
@@ -34,7 +24,8 @@ SEEDS = {
     "lists": 60,
 }
 """How many seeds each shape has."""
-GATHERED = {"one_unit": 20, "two_units": 20, "three_units": 10, "fan": 20, "registers": 20, "bridges": 10, "ports": 20, "aliases": 20,
+GATHERED = {"one_unit": 20, "two_units": 20, "three_units": 10, "fan": 20, "registers": 20, "bridges": 10, "ports": 20,
+            "aliases": 20,
             "full": 20, "lists": 240}
 """How many seeds of a shape have buffers in pieces asked for over their nets."""
 BEGINNINGS = 6
@@ -84,7 +75,8 @@ def refused(name, thrown, net, fault):
 
 
 def of_seed(shape, seed):
-    """The cases of a net of a shape: commands over it; of one net in eight how it is printed; and of some, drawn out."""
+    """The cases of a net of a shape: commands over it; of one net in eight how it is printed; and of some, drawn
+    out."""
     thrown = dice.Dice(seed)
     name = f"{shape.__name__} {seed}"
     net = shape(thrown)
@@ -121,24 +113,28 @@ def of_pieces(shape, seed):
     name, script = f"{shape.__name__} {seed}, in pieces", scripts.Script(thrown, script.net, scripts.MANY_IDS)
     script.scattered()
     found, bits = [case_of(name, thrown, script)], thrown.roll(drawn.most_bits(script.net) + 1)
-    return found + ([drawn_out(f"{name}, by {bits} bits", thrown, found[0], bits)] if bits and thrown.once_in(3) else [])
+    return found + ([drawn_out(f"{name}, by {bits} bits", thrown, found[0], bits)] if bits and thrown.once_in(3)
+                    else [])
 
 
 def gathered(few=1, part=0, parts=1):
-    """The same of each shape that has some, and of one seed of so many; or of one part of these, where there are several."""
+    """The same of each shape that has some, and of one seed of so many; or of one part of these, where there are
+    several."""
     for shape in (each for each in SHAPES if each.__name__ in GATHERED):
         for seed in range(FIRST_SEED, FIRST_SEED + max(GATHERED[shape.__name__] // few, 1))[part::parts]:
             yield from of_pieces(shape, seed)
 
 
 def requests(net):
-    """Requests of all agents for one to four addresses from each below 6 of the first two nodes on, with each of the rights."""
+    """Requests of all agents for one to four addresses from each below 6 of the first two nodes on, with each of the
+    rights."""
     return [(net.nodes[agent].name, node.name, base, size, access) for agent in net.agents() for node in net.nodes[:2]
             if node.accepts for base in range(6) for size in range(1, 5) for access in (units.READ, units.WRITE, None)]
 
 
 def cut_down(thrown, net, most):
-    """The net with fewer slots, outputs and ports, so that there are at most so many additions. Windows stay as they are."""
+    """The net with fewer slots, outputs and ports, so that there are at most so many additions. Windows stay as they
+    are."""
     while count_of_additions(net, books.Book(net).slots()) > most:
         unit = thrown.one_of([net.nodes[number].unit for number in net.units()])
         if unit.slots > 1 and thrown.roll(3):
@@ -151,8 +147,8 @@ def cut_down(thrown, net, most):
 
 
 def begun(shape, seed, count, most=None):
-    """A script over a net of a shape in which so many changes were made, where it breaks no rule. Where it is to have at most
-    so many additions, it is cut down."""
+    """A script over a net of a shape in which so many changes were made, where it breaks no rule. Where it is to have
+    at most so many additions, it is cut down."""
     thrown = dice.Dice(seed)
     net = shape(thrown)
     if most and rules.fault(net) is None:
@@ -166,7 +162,8 @@ def begun(shape, seed, count, most=None):
 
 
 def of_all_requests(few=1):
-    """Each request of the fixed nets, over no live grant and over a few: what it is answered, and the tables with it."""
+    """Each request of the fixed nets, over no live grant and over a few: what it is answered, and the tables with
+    it."""
     for shape in REQUESTED:
         for seed in range(FIRST_SEED, FIRST_SEED + max(BEGINNINGS // few, 1)):
             thrown, script = begun(shape, seed, 0 if seed == FIRST_SEED else 8)
@@ -282,7 +279,8 @@ def of_name(name):
     """The cases of a name that was printed."""
     shape, seed = name.split(",")[0].split()[:2]
     if "," in name:
-        named = of_pieces(next(each for each in SHAPES if each.__name__ == shape), int(seed)) if ", in pieces" in name else None
+        named = of_pieces(next(each for each in SHAPES if each.__name__ == shape),
+                          int(seed)) if ", in pieces" in name else None
         made = named or [*of_all_nodes(), *of_all_requests(), *of_refusals(), *of_small_refusals()]
     else:
         made = of_seed(next(each for each in SHAPES if each.__name__ == shape), int(seed))

@@ -1,12 +1,12 @@
 """Nets and scripts that are drawn out: each address of a small net becomes a stretch of so many, a power of two.
 
-An address keeps its place in its stretch on every way, so a buffer of whole stretches stands where the small one stands, and all
-answers are those of the small net, drawn out likewise: so what is due over many addresses needs no search among them. What
-stands behind the edge of a net is behind that of the drawn one."""
+An address keeps its place in its stretch on every way, so a buffer of whole stretches stands where the small one
+stands, and all answers are those of the small net, drawn out likewise: so what is due over many addresses needs no
+search among them. What stands behind the edge of a net is behind that of the drawn one."""
 
 import re
 
-import nets
+from judging import nets
 
 NUMBERS = re.compile(rb"0x([0-9a-f]+)(?:-0x([0-9a-f]+))?")
 
@@ -26,7 +26,8 @@ class Drawing:
         return (addr + 1 << self.bits) - 1
 
     def node(self, node):
-        """A node whose blocks are drawn out; the slots of a unit are as many as before, and its page and outputs larger."""
+        """A node whose blocks are drawn out; the slots of a unit are as many as before, and its page and outputs
+        larger."""
         accepts = [(self.first(lo), self.last(hi)) for lo, hi in node.accepts]
         entries = [(self.first(lo), self.last(hi), [(number, self.first(addr)) for number, addr in dests])
                    for lo, hi, dests in node.entries]
@@ -41,7 +42,8 @@ class Drawing:
             return word, id, agent, node, self.first(base), size << self.bits, access
         if command[0] == "gather":
             word, agent, pieces, access = command
-            return word, agent, tuple((id, node, self.first(base), size << self.bits) for id, node, base, size in pieces), access
+            return word, agent, tuple((id, node, self.first(base), size << self.bits)
+                                      for id, node, base, size in pieces), access
         return tuple(self.first(part) if isinstance(part, int) else part for part in command)
 
     def output(self, output):
@@ -58,8 +60,8 @@ class Drawing:
 
 
 def most_bits(net):
-    """By how many bits a net can be drawn out, so that its edge is at most the last address; by none where it has vectors, whose
-    units have pages of one address."""
+    """By how many bits a net can be drawn out, so that its edge is at most the last address; by none where it has
+    vectors, whose units have pages of one address."""
     parts = [node.unit for node in net.nodes if node.unit]
     if any(node.role == "vectors" for node in net.nodes) or any(unit.kind == "vectors" for unit in parts):
         return 0

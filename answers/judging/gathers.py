@@ -1,5 +1,5 @@
-"""Buffers in pieces, by the words of docs/model.md ("Scattered placements"): every scattered placement is tried, in order, and of
-those that are admissible the first is taken.
+"""Buffers in pieces, by the words of docs/model.md ("Scattered placements"): every scattered placement is tried, in
+order, and of those that are admissible the first is taken.
 
 A piece is a tuple of its id, its node by its name, its base and its size."""
 
@@ -7,10 +7,7 @@ import functools
 import itertools
 import typing
 
-import books
-import nets
-import placements
-import units
+from judging import books, nets, placements, units
 
 
 class Scatter(typing.NamedTuple):
@@ -32,18 +29,20 @@ def starts_of(requests, v):
 
 
 def lone_hops(net, slots, request, v):
-    """The hops by which one alone leads from an address of the agent to the buffer, through free slots; by port, output and
-    input."""
+    """The hops by which one alone leads from an address of the agent to the buffer, through free slots; by port, output
+    and input."""
     if v + request.size > nets.TOP + 1:
         return []
     found = (hop for hop, in placements.ways(net, slots, request, (request.agent, v), 1))
-    return sorted((hop for hop in found if placements.is_free_hop(net, slots, request, hop)), key=lambda hop: (hop.port, hop.y, hop.x))
+    return sorted((hop for hop in found if placements.is_free_hop(net, slots, request, hop)),
+                  key=lambda hop: (hop.port, hop.y, hop.x))
 
 
 def stands(net, slots, request, v):
     """The buffer alone has an admissible placement by one hop at an address of the agent."""
     before = placements.seen(net, slots.held)
-    records = (placements.placed_records(net, request, placements.Placement(v, (hop,), 0)) for hop in lone_hops(net, slots, request, v))
+    records = (placements.placed_records(net, request, placements.Placement(v, (hop,), 0))
+               for hop in lone_hops(net, slots, request, v))
     return any(placements.gives(net, before, units.joined(slots.held, each), request, v) for each in records)
 
 
@@ -67,7 +66,8 @@ def scatters(net, slots, requests):
     """All scattered placements, by unit, by the agent's address, and then piece by piece by port, output and input."""
     known = functools.cache(lambda request, at: lone_hops(net, slots, request, at))
     for unit, v in itertools.product(net.units(), range(net.edge)):
-        choices = ([hop for hop in known(request, at) if hop.unit == unit] for request, at in zip(requests, starts_of(requests, v)))
+        choices = ([hop for hop in known(request, at) if hop.unit == unit]
+                   for request, at in zip(requests, starts_of(requests, v)))
         for hops in itertools.product(*all_or_none(choices)):
             if are_apart(net, requests, hops):
                 yield Scatter(unit, v, hops)
@@ -88,11 +88,13 @@ def scattered_records(net, requests, scatter):
 
 
 def gives_all(net, before, held, requests, scatter):
-    """Under records each agent resolves each address for each access as before, but that each piece is added at its addresses."""
+    """Under records each agent resolves each address for each access as before, but that each piece is added at its
+    addresses."""
     def added(access, name):
         return frozenset().union(*(placements.added_name(request, placement.v, access, name)
                                    for request, placement in grants_of(requests, scatter)))
-    return all(units.resolved_under(net, held, access, name) == names | added(access, name) for (access, name), names in before.items())
+    return all(units.resolved_under(net, held, access, name) == names | added(access, name)
+               for (access, name), names in before.items())
 
 
 def first(net, slots, requests):

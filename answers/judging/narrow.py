@@ -1,12 +1,12 @@
-"""Small nets in which a search has more to get wrong: windows that begin or end within a page, two ways to one place, units
-with many ports, and rows of three units. They are made by dice, as those of shapes.py are."""
+"""Small nets in which a search has more to get wrong: windows that begin or end within a page, two ways to one place,
+units with many ports, and rows of three units. They are made by dice, as those of shapes.py are."""
 
-from shapes import Draft, agents, bus, memory
+from judging.shapes import Draft, agents, bus, memory
 
 
 def crooked(dice, dests, most, ends=9):
-    """One to so many map entries, apart and in any order: each from any address of a destination on, and of any length; once in
-    a while one that has addresses of another entry again.
+    """One to so many map entries, apart and in any order: each from any address of a destination on, and of any length;
+    once in a while one that has addresses of another entry again.
 
     A destination is a name and how many addresses it has."""
     entries, at = [], dice.roll(2)
@@ -26,7 +26,8 @@ def crooked(dice, dests, most, ends=9):
 
 
 def way(draft, name, dests, outputs):
-    """A node on the way from a unit: all of the first destination from an address on, or crooked windows, or no window."""
+    """A node on the way from a unit: all of the first destination from an address on, or crooked windows, or no
+    window."""
     dice = draft.dice
     if dice.once_in(10):
         draft.node(name, over=dests[0][0])
@@ -54,7 +55,8 @@ def callers(draft, names, doors, direct):
 
 
 def ports(dice):
-    """A unit with three to eight ports, several of which lead to one memory: at other addresses, in part, or in two ways."""
+    """A unit with three to eight ports, several of which lead to one memory: at other addresses, in part, or in two
+    ways."""
     draft = Draft(dice)
     last = dice.between(3, 7)
     memory(draft, "ram", last)
@@ -70,7 +72,8 @@ def ports(dice):
     doors = [("fan", slots, page)]
     if dice.once_in(3):
         doors.append(("behind", dice.between(1, 2), dice.roll(2)))
-        draft.unit("behind", "remap", doors[1][2], doors[1][1], doors[1][2] + 2, dice.mixed(["ram", "rom"])[: dice.between(1, 2)])
+        draft.unit("behind", "remap", doors[1][2], doors[1][1], doors[1][2] + 2,
+                   dice.mixed(["ram", "rom"])[: dice.between(1, 2)])
         names[dice.roll(len(names))] = "behind"
     draft.unit("fan", "remap", page, slots, reach, names)
     callers(draft, ["a", "b", "c"][: dice.between(1, 3)], doors[: dice.between(1, 2)], "ram")
@@ -90,7 +93,8 @@ def inner_ports(draft, name, inner, others, outputs):
 
 
 def rows(dice):
-    """Three units in a row with crooked windows between them, each with one to three ports; agents come in at each of them."""
+    """Three units in a row with crooked windows between them, each with one to three ports; agents come in at each of
+    them."""
     draft = Draft(dice)
     last = dice.between(2, 5)
     memory(draft, "ram", last)
@@ -98,12 +102,15 @@ def rows(dice):
     slots = [dice.between(1, 4 if page < 2 else 2) for page in pages]
     reaches = [min(page + dice.between(1, 2), 3) for page in pages]
     way(draft, "third_to_ram", [("ram", last + 1)], 1 << reaches[2])
-    draft.unit("third", "remap", pages[2], slots[2], reaches[2], dice.mixed(["ram", "third_to_ram"])[: dice.between(1, 2)])
+    draft.unit("third", "remap", pages[2], slots[2], reaches[2],
+               dice.mixed(["ram", "third_to_ram"])[: dice.between(1, 2)])
     inner = "third", slots[2] << pages[2]
-    draft.unit("second", "remap", pages[1], slots[1], reaches[1], inner_ports(draft, "second", inner, ["ram"], 1 << reaches[1]))
+    draft.unit("second", "remap", pages[1], slots[1], reaches[1],
+               inner_ports(draft, "second", inner, ["ram"], 1 << reaches[1]))
     inner = "second", slots[1] << pages[1]
     others = dice.mixed(["ram", "third"])
-    draft.unit("first", "remap", pages[0], slots[0], reaches[0], inner_ports(draft, "first", inner, others, 1 << reaches[0]))
+    draft.unit("first", "remap", pages[0], slots[0], reaches[0],
+               inner_ports(draft, "first", inner, others, 1 << reaches[0]))
     doors = list(zip(["first", "second", "third"], slots, pages))
     callers(draft, ["a"], doors[:1], "ram")
     for name, door in zip("bc", doors[1:]):
@@ -126,7 +133,8 @@ def aliases(dice):
     if dice.once_in(2):
         small, count = dice.roll(page + 1), dice.between(2, 4)
         way(draft, "before", [("unit1", slots << page)], 8)
-        draft.unit("outer", "remap", small, count, min(small + 2, 3), dice.mixed(["before", "unit1"])[: dice.between(1, 2)])
+        draft.unit("outer", "remap", small, count, min(small + 2, 3),
+                   dice.mixed(["before", "unit1"])[: dice.between(1, 2)])
         doors.append(("outer", count, small))
     shared = crooked(dice, [(unit, count << size) for unit, count, size in doors[-1:]], 2, 8)
     draft.node("a", "agent", entries=shared)
@@ -140,7 +148,8 @@ def aliases(dice):
 
 
 def full(dice):
-    """Few slots of large pages near memory, which fill up, and many of small ones before them, which lead on to these."""
+    """Few slots of large pages near memory, which fill up, and many of small ones before them, which lead on to
+    these."""
     draft = Draft(dice)
     last = dice.between(3, 7)
     memory(draft, "ram", last)
@@ -152,12 +161,14 @@ def full(dice):
     if dice.once_in(3):
         size, slots = dice.roll(page + 1), dice.between(1, 3)
         way(draft, "before_near", [inner], 8)
-        draft.unit("between", "remap", size, slots, min(size + 2, 3), dice.mixed(["near", "before_near"])[: dice.between(1, 2)])
+        draft.unit("between", "remap", size, slots, min(size + 2, 3),
+                   dice.mixed(["near", "before_near"])[: dice.between(1, 2)])
         inner = "between", slots << size
     for name, unit in [("a", "left"), ("b", "right")][: dice.between(1, 2)]:
         size, slots = dice.roll(page), dice.between(2, 6)
         way(draft, f"{unit}_to", [inner], 8)
-        draft.unit(unit, "remap", size, slots, min(size + 3, 3), dice.mixed([inner[0], f"{unit}_to"])[: dice.between(1, 2)])
+        draft.unit(unit, "remap", size, slots, min(size + 3, 3),
+                   dice.mixed([inner[0], f"{unit}_to"])[: dice.between(1, 2)])
         doors.append((unit, slots, size))
         callers(draft, [name], doors[-1:], "ram")
     if dice.once_in(3):
@@ -179,7 +190,8 @@ def remappers(dice):
         ends.append(f"way{number}")
         way(draft, ends[-1], [(dice.one_of(cores), 4), (dice.one_of(cores), 4)], 8)
     kind = "remap" if page else "vectors"
-    draft.unit("near", kind, page, slots[0], page + dice.between(2, 3) - (page == 1), dice.mixed(ends)[: dice.between(1, 6)])
+    draft.unit("near", kind, page, slots[0], page + dice.between(2, 3) - (page == 1),
+               dice.mixed(ends)[: dice.between(1, 6)])
     doors = [("near", slots[0], page)]
     for number, name in enumerate(["middle", "far"][: dice.roll(3)], 1):
         inner = doors[-1][0], doors[-1][1] << doors[-1][2]
@@ -192,8 +204,8 @@ def remappers(dice):
 
 
 def split_windows(dice, slots, doors):
-    """One to three windows one after the other, each onto some of the slots of a unit; mostly from where a slot begins, and mostly
-    onto slots that no window before had.
+    """One to three windows one after the other, each onto some of the slots of a unit; mostly from where a slot begins,
+    and mostly onto slots that no window before had.
 
     A door is a unit and the exponent of its page."""
     entries, at, used = [], dice.roll(2), {}
@@ -203,14 +215,16 @@ def split_windows(dice, slots, doors):
         if first + count > slots[unit]:
             continue
         length = (count << page) - (dice.roll(1 << page) if dice.once_in(4) else 0)
-        entries.append((at, at + length - 1, [(unit, (first << page) + (dice.roll(1 << page) if dice.once_in(6) else 0))]))
+        entries.append((at, at + length - 1, [(unit, (first << page)
+                                               + (dice.roll(1 << page) if dice.once_in(6) else 0))]))
         used[unit] = first + count + dice.roll(2) - dice.once_in(8)
         at += length + dice.once_in(4)
     return dice.mixed(entries), used
 
 
 def lists(dice):
-    """One or two units with some ports and many slots, and agents with windows onto different slots: room for buffers in pieces."""
+    """One or two units with some ports and many slots, and agents with windows onto different slots: room for buffers
+    in pieces."""
     draft, doors, slots = Draft(dice), [], {}
     last = dice.between(5, 9)
     memory(draft, "ram", last)
@@ -227,7 +241,8 @@ def lists(dice):
     draft.node("a", "agent", entries=entries)
     if dice.once_in(2):
         left = {name: slots[name] - used.get(name, 0) for name, _ in doors}
-        beside = [(at, at + (left[name] << page) - 1, [(name, used.get(name, 0) << page)]) for at, (name, page) in enumerate(doors[:1])
+        beside = [(at, at + (left[name] << page) - 1, [(name, used.get(name, 0) << page)])
+                  for at, (name, page) in enumerate(doors[:1])
                   if left[name] > 0]
         draft.node("b", "agent", entries=beside if dice.roll(4) else entries)
     return draft.net()
@@ -237,8 +252,8 @@ SHAPES = (ports, rows, aliases, full, remappers, lists)
 
 
 def eight_ports(dice):
-    """A unit with eight ports: to a memory whole, twice; from another page or within a page on; in single addresses; beside
-    another memory; by `over`; and in part. Two agents have parts of its slots."""
+    """A unit with eight ports: to a memory whole, twice; from another page or within a page on; in single addresses;
+    beside another memory; by `over`; and in part. Two agents have parts of its slots."""
     draft = Draft(dice)
     draft.node("ram", accepts=[(0, 5)])
     draft.node("rom", accepts=[(0, 1)])
@@ -253,8 +268,8 @@ def eight_ports(dice):
 
 
 def crooked_row(dice):
-    """Three units in a row with windows between them that begin and end within pages, and two ways to one input; agents have an
-    input of the first unit twice, and inputs of the others."""
+    """Three units in a row with windows between them that begin and end within pages, and two ways to one input; agents
+    have an input of the first unit twice, and inputs of the others."""
     draft = Draft(dice)
     draft.node("ram", accepts=[(0, 3)])
     draft.unit("first", "remap", 1, 2, 2, ["before_second", "second"])
@@ -269,7 +284,8 @@ def crooked_row(dice):
 
 
 def row_of_remappers(dice):
-    """Three remappers in a row before the vectors of three cores, with a line that comes to an input of another line again."""
+    """Three remappers in a row before the vectors of three cores, with a line that comes to an input of another line
+    again."""
     draft = Draft(dice)
     for core, low in [("core0", 0), ("core1", 1), ("core2", 2)]:
         draft.node(core, "vectors", accepts=[(low, low + 1)])

@@ -1,14 +1,15 @@
 """Nets and what their names come to, by the words of docs/model.md ("The net").
 
-A name is a pair of a node's number and an address. All searches are plain: they look at each address below the edge of a
-net, so that nets are to be small."""
+A name is a pair of a node's number and an address. All searches are plain: they look at each address below the edge of
+a net, so that nets are to be small."""
 
 TOP = (1 << 56) - 1
 STEPS = 65
 
 
 class Unit:
-    """What a unit is: its kind, the exponent of its page, its slots, the bits of its outputs, and its ports by number."""
+    """What a unit is: its kind, the exponent of its page, its slots, the bits of its outputs, and its ports by
+    number."""
 
     def __init__(self, kind, page, slots, reach, ports):
         self.kind, self.page, self.slots, self.reach, self.ports = kind, page, slots, reach, list(ports)
@@ -51,7 +52,8 @@ class Net:
 
 
 def edge_of(nodes):
-    """An address past all blocks, all that blocks are sent to, and all slots: from it on an address goes by `over` alone."""
+    """An address past all blocks, all that blocks are sent to, and all slots: from it on an address goes by `over`
+    alone."""
     last = 0
     for node in nodes:
         last = max([last] + [hi for _, hi in node.accepts] + [hi for _, hi, _ in node.entries])
@@ -75,7 +77,8 @@ def is_stop(net, name):
 
 
 def decode(net, name):
-    """The destinations of the entry that covers a name, or the `over` node at 0, and by how much their addresses are raised."""
+    """The destinations of the entry that covers a name, or the `over` node at 0, and by how much their addresses are
+    raised."""
     number, addr = name
     node = net.nodes[number]
     if addr > TOP or is_accepted(net, name):

@@ -1,6 +1,7 @@
-"""Texts that are read by pieces: however many bytes a read gives, they are answered alike; and so is each front of a text."""
+"""Texts that are read by pieces: however many bytes a read gives, they are answered alike; and so is each front of a
+text."""
 
-import program
+from judging import program
 
 SIZES = (1, 16, 4096)
 
@@ -69,7 +70,8 @@ def of_cases(cases):
 
 
 def of_fronts(few=1):
-    """What each front of a text comes to by pieces of 1 to 16 bytes, with what it comes to at once; it is answered or refused.
+    """What each front of a text comes to by pieces of 1 to 16 bytes, with what it comes to at once; it is answered or
+    refused.
 
     Of so many fronts one is taken."""
     for size in range(0, len(EVERY) + 1, few):

@@ -1,11 +1,10 @@
-"""Placements, by the words of docs/model.md ("Placements"): every one of a request is tried, and of those that are admissible
-the first is taken. Additions ("Grants and routes") are tried likewise."""
+"""Placements, by the words of docs/model.md ("Placements"): every one of a request is tried, and of those that are
+admissible the first is taken. Additions ("Grants and routes") are tried likewise."""
 
 import itertools
 import typing
 
-import nets
-import units
+from judging import nets, units
 
 
 class Request(typing.NamedTuple):
@@ -216,7 +215,8 @@ def additions(net, slots, rights, most):
 
 
 def passes_owned(net, slots, held, name, end):
-    """Some chain from a name to an accepted one passes a slot that a live grant owns. All records held have both rights."""
+    """Some chain from a name to an accepted one passes a slot that a live grant owns. All records held have both
+    rights."""
     for stop in nets.stops(net, name):
         output = units.sent(net, held, units.READ, stop)
         if output is not None and end in units.resolved_under(net, held, units.READ, output):
@@ -245,7 +245,8 @@ def given_by(net, slots, before, added, rights):
 
 
 def all_given(net, slots, rights, most):
-    """What additions of at most so many records give exactly: pairs of an agent's name and the name that it is given."""
+    """What additions of at most so many records give exactly: pairs of an agent's name and the name that it is
+    given."""
     before = seen(net, slots.held)
     found = (given_by(net, slots, before, added, rights) for added in additions(net, slots, rights, most))
     return {pair for pair in found if pair is not None}

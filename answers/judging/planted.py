@@ -1,18 +1,12 @@
 """Wrong answers, planted one at a time: each must be found by some case, or the judge is blind to it.
 
-A wrong definition takes the place of a right one, and what the judge then says of the commands of a case stands for what a
-wrong program would answer. A wrong text is what the program would print with something changed."""
+A wrong definition takes the place of a right one, and what the judge then says of the commands of a case stands for
+what a wrong program would answer. A wrong text is what the program would print with something changed."""
 
 import contextlib
 import re
 
-import books
-import gathers
-import nets
-import placements
-import replies
-import rules
-import units
+from judging import books, gathers, nets, placements, replies, rules, units
 
 RIGHT = {module: dict(vars(module)) for module in (books, gathers, placements, replies, rules, units)}
 OWED, SLOTS = books.Book.owed, books.Book.slots
@@ -43,7 +37,8 @@ def second(net, slots, request, at=None):
     wide = right(placements, "placements")
     if found is None:
         return None
-    rest = [each for each in wide(net, slots, request, at) if placements.key_of(net, each) > placements.key_of(net, found)]
+    rest = [each for each in wide(net, slots, request, at) if placements.key_of(net, each) > placements.key_of(net,
+                                                                                                               found)]
     before = placements.seen(net, slots.held)
     for each in sorted(rest, key=lambda each: placements.key_of(net, each)):
         held = units.joined(slots.held, placements.placed_records(net, request, each))
@@ -125,7 +120,8 @@ def ever_used(book):
 def given_beside(net, slots, before, added, rights):
     """The first name that records give, whatever else they show."""
     for name in (name for access, name in before if access in rights):
-        found = right(placements, "given_by")(net, slots, {key: before[key] for key in before if key[1] == name}, added, rights)
+        found = right(placements, "given_by")(net, slots, {key: before[key] for key in before if key[1] == name}, added,
+                                              rights)
         if found:
             return found
     return None
@@ -164,7 +160,8 @@ def shared_too(book, id):
     reply = right(books, "revoked")(book, id)
     slots = gone and set(placements.placed_records(book.net, gone.request, gone.placement))
     book.grants = [grant for grant in book.grants
-                   if not slots or slots.isdisjoint(placements.placed_records(book.net, grant.request, grant.placement))]
+                   if not slots or slots.isdisjoint(placements.placed_records(book.net, grant.request,
+                                                                              grant.placement))]
     return reply
 
 
@@ -234,14 +231,16 @@ def some_compared(kept):
     def gives_all(net, before, held, requests, scatter):
         grants = gathers.grants_of(requests, scatter)[kept]
         return all(placements.gives(net, {each: names for each, names in before.items() if each[1][0] != request.agent
-                                          or placement.v <= each[1][1] < placement.v + request.size}, held, request, placement.v)
+                                          or placement.v <= each[1][1] < placement.v + request.size}, held, request,
+                                    placement.v)
                    for request, placement in grants)
     return gives_all
 
 
 def live_ids(book, agent, pieces):
     """An id of an earlier piece may come again."""
-    parts = [(f"{place}{piece[0]}" if not book.live(piece[0]) else piece[0], *piece[1:]) for place, piece in enumerate(pieces)]
+    parts = [(f"{place}{piece[0]}" if not book.live(piece[0]) else piece[0], *piece[1:])
+             for place, piece in enumerate(pieces)]
     return right(gathers, "refusal")(book, agent, parts)
 
 
@@ -267,7 +266,8 @@ def joined_rows(book, agent, access):
     """Rows that are adjacent and have one name each are one."""
     rows = []
     for lo, hi, names in right(replies, "rows_of")(book, agent, access):
-        if rows and rows[-1][1] == lo - 1 and len(names) == len(rows[-1][2]) == 1 and rows[-1][2] <= names | rows[-1][2]:
+        last = rows[-1] if rows else None
+        if last and last[1] == lo - 1 and len(names) == len(last[2]) == 1 and last[2] <= names | last[2]:
             rows[-1] = rows[-1][0], hi, rows[-1][2]
         else:
             rows.append((lo, hi, names))
@@ -289,7 +289,8 @@ def greatest_unit(net):
     """`Fork` tells the greatest unit that is reached."""
     return right(rules, "fork_fault")(net) and next(
         f"Fork {rules.shown(net, name)} {net.nodes[max(nets.stops(net, name))[0]].name}"
-        for name in nets.names_of(net, range(len(net.nodes))) if len(nets.steps(net, name)) > 1 and nets.stops(net, name))
+        for name in nets.names_of(net, range(len(net.nodes))) if len(nets.steps(net, name)) > 1
+        and nets.stops(net, name))
 
 
 def rows_of_three(net, count):
@@ -344,7 +345,8 @@ DEFINITIONS = [
      gives_where(lambda access, name, request, v: name[0] == request.agent)),
     ("other addresses of the agent are not looked at", placements, "gives",
      gives_where(lambda access, name, request, v: name[0] != request.agent or v <= name[1] < v + request.size)),
-    ("writing is not looked at", placements, "gives", gives_where(lambda access, name, request, v: access == units.READ)),
+    ("writing is not looked at", placements, "gives", gives_where(lambda access, name, request,
+                                                                  v: access == units.READ)),
     ("accesses that are not asked for are not looked at", placements, "gives",
      gives_where(lambda access, name, request, v: access in request.rights)),
     ("no slot is shared", placements, "is_usable", never_shared),
@@ -372,13 +374,15 @@ DEFINITIONS = [
     ("pieces share a slot", gathers, "are_apart", lambda net, requests, hops: True),
     ("the second admissible scattered placement is taken", gathers, "first", second_scatter),
     ("nothing in pieces is admissible", gathers, "first", lambda net, slots, requests: None),
-    ("of scattered placements the address is compared first", gathers, "scatters", scatters_by(lambda each: (each.v, each.unit, each.hops))),
+    ("of scattered placements the address is compared first", gathers, "scatters",
+     scatters_by(lambda each: (each.v, each.unit, each.hops))),
     ("of scattered placements the outputs are compared before the ports", gathers, "scatters",
      scatters_by(lambda each: (each.unit, each.v, [(hop.y, hop.port) for hop in each.hops]))),
     ("pieces are tried at the first address alone", gathers, "scatters", first_start),
     ("of each piece the first output alone is tried", gathers, "lone_hops",
      lambda net, slots, request, v: right(gathers, "lone_hops")(net, slots, request, v)[:1]),
-    ("every scattered placement is admissible", gathers, "gives_all", lambda net, before, held, requests, scatter: True),
+    ("every scattered placement is admissible", gathers, "gives_all", lambda net, before, held, requests,
+     scatter: True),
     ("the last piece is not looked at", gathers, "gives_all", some_compared(slice(-1))),
     ("the first piece alone is looked at", gathers, "gives_all", some_compared(slice(1))),
     ("an id of an earlier piece is taken again", gathers, "refusal", live_ids),
@@ -409,7 +413,8 @@ def changed(pattern, replacement):
 # Wrong texts: what is wrong, and what makes it of a right one.
 TEXTS = [
     ("an address is one more", changed(rb"at 0x(\d)\n", lambda found: b"at 0x%d\n" % (int(found[1]) + 1))),
-    ("a piece is not counted", changed(rb"at (0x\w+) pieces (\d)", lambda found: b"at %b pieces %d" % (found[1], int(found[2]) - 1))),
+    ("a piece is not counted", changed(rb"at (0x\w+) pieces (\d)",
+                                       lambda found: b"at %b pieces %d" % (found[1], int(found[2]) - 1))),
     ("the number of a piece is dropped", changed(rb"(IdUsed|NoTarget|NotAccepted) \d", rb"\1")),
     ("a row is dropped", changed(rb"\n0x[^\n]*", b"")),
     ("a name is dropped", changed(rb", [a-z]+@0x[0-9a-f]+", b"")),

@@ -30,13 +30,14 @@ def is_empty(pipe):
 
 
 def feed(running, pipe, text, size, deadline):
-    """Writes a text to a pipe, a piece when the one before it was read, as long as the program runs and there is time."""
+    """Writes a text to a pipe, a piece when the one before it was read, as long as the program runs and there is
+    time."""
     for at in range(0, len(text) + size, size):
         while not is_empty(pipe) and running.poll() is None:
             if time.monotonic() > deadline:
                 return
             os.sched_yield()
-        os.write(pipe, text[at : at + size])
+        os.write(pipe, text[at: at + size])
 
 
 def outcome_by_pieces(words, text, size):

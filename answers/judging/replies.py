@@ -1,9 +1,6 @@
 """The replies to commands, and the printed net, by docs/language.md."""
 
-import books
-import gathers
-import rules
-import units
+from judging import books, gathers, rules, units
 
 
 def said(access):
@@ -21,7 +18,8 @@ def resolve(book, node_name, addr, access):
     start, number = f"{node_name}@{addr:#x}{said(access)}: ", book.net.number(node_name)
     if number is None:
         return start + "no such node"
-    return start + names_text(book.net, units.resolved_under(book.net, book.slots().held, access or units.READ, (number, addr)))
+    return start + names_text(book.net, units.resolved_under(book.net, book.slots().held, access or units.READ,
+                                                             (number, addr)))
 
 
 def lookup(book, agent_name, addr, access):
@@ -37,7 +35,8 @@ def rows_of(book, agent, access):
     rows = []
     for addr in range(book.net.edge):
         names = book.owed(access, (agent, addr))
-        if names and rows and rows[-1][1] == addr - 1 and names == {(node, at + addr - rows[-1][0]) for node, at in rows[-1][2]}:
+        if names and rows and rows[-1][1] == addr - 1 and names == {(node, at + addr - rows[-1][0])
+                                                                    for node, at in rows[-1][2]}:
             rows[-1] = rows[-1][0], addr, rows[-1][2]
         elif names:
             rows.append((addr, addr, names))
@@ -57,7 +56,7 @@ def view(book, agent_name, access):
 def dump(book):
     """The bytes of the tables."""
     image = units.image_of(book.net, book.slots().held)
-    return "\n".join([f"dump bytes {len(image)}"] + [image[at : at + 32].hex() for at in range(0, len(image), 32)])
+    return "\n".join([f"dump bytes {len(image)}"] + [image[at: at + 32].hex() for at in range(0, len(image), 32)])
 
 
 def reply(book, command):
@@ -95,7 +94,8 @@ def statement_text(net, node):
     if node.accepts:
         parts.append("accept [" + ", ".join(block_text(lo, hi) for lo, hi in node.accepts) + "]")
     if node.entries:
-        entries = [block_text(lo, hi) + " to " + " and ".join(f"{net.nodes[number].name} at {addr:#x}" for number, addr in dests)
+        entries = [block_text(lo, hi) + " to " + " and ".join(f"{net.nodes[number].name} at {addr:#x}"
+                                                              for number, addr in dests)
                    for lo, hi, dests in node.entries]
         parts.append("map [" + ", ".join(entries) + "]")
     if node.over is not None:

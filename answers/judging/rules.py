@@ -1,7 +1,7 @@
-"""The rules on nets, by the words of docs/model.md ("The node rules", "The rules on walks"), for small nets: the line of the
-first one that is broken. `Wide` is left out: a net of a judge has few walks."""
+"""The rules on nets, by the words of docs/model.md ("The node rules", "The rules on walks"), for small nets: the line
+of the first one that is broken. `Wide` is left out: a net of a judge has few walks."""
 
-import nets
+from judging import nets
 
 SLOTS_LIMIT = 1048576
 VECTORS_LIMIT = 4096
@@ -62,7 +62,8 @@ def node_fault(net):
 
 def fits_shape(unit):
     """The shape of a unit is plain, and its kind fits it."""
-    plain = unit.page <= 40 and 1 <= unit.slots <= 262144 and unit.page <= unit.reach <= 56 and 1 <= len(unit.ports) <= 8
+    plain = (unit.page <= 40 and 1 <= unit.slots <= 262144 and unit.page <= unit.reach <= 56
+             and 1 <= len(unit.ports) <= 8)
     pages = {"vectors": 0, "radix": 12}
     return plain and (unit.kind != "pages" or len(unit.ports) == 1) and unit.page == pages.get(unit.kind, unit.page)
 
@@ -151,7 +152,8 @@ def is_large(net, row):
 
 
 def chain_fault(net):
-    """The line of the first row of four units; or of the first row of one, two or three with too many slots; or None."""
+    """The line of the first row of four units; or of the first row of one, two or three with too many slots; or
+    None."""
     rows = unit_rows(net, 4) or next(
         filter(None, ([row for row in unit_rows(net, count) if is_large(net, row)] for count in (1, 2, 3))), [])
     return "Chain " + " ".join(net.nodes[number].name for number in rows[0]) if rows else None

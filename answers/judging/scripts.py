@@ -2,12 +2,7 @@
 
 import itertools
 
-import books
-import gathers
-import nets
-import placements
-import replies
-import units
+from judging import books, gathers, nets, placements, replies, units
 
 IDS = ["g0", "g1", "g2", "g3", "g4", "g5"]
 MANY_IDS = [f"b{number}" for number in range(12)]
@@ -56,7 +51,8 @@ class Script:
 
     def live_id(self):
         """An id: mostly one that is live."""
-        return self.dice.one_of([grant.id for grant in self.book.grants] if self.book.grants and self.dice.roll(8) else self.ids)
+        return self.dice.one_of([grant.id for grant in self.book.grants] if self.book.grants and self.dice.roll(8)
+                                else self.ids)
 
     def shown_at(self, stop):
         """A name that some record could show at a stop, mostly the first of its page; or the first of any memory."""
@@ -96,7 +92,8 @@ class Script:
         return agent, self.net.nodes[request.node].name, max(base, 0), request.size
 
     def buffer(self):
-        """An agent, a node, a base and a size: beside a grant, or what some records could show, or whole pages, or anything."""
+        """An agent, a node, a base and a size: beside a grant, or what some records could show, or whole pages, or
+        anything."""
         if self.book.grants and self.dice.once_in(3):
             return self.beside()
         found = self.sight() if self.dice.roll(3) else None
@@ -159,7 +156,8 @@ class Script:
                 self.ask("view", agent, access)
 
     def addresses(self):
-        """Adds what each address of each agent comes to for each access, from the nets and from the bytes of the tables."""
+        """Adds what each address of each agent comes to for each access, from the nets and from the bytes of the
+        tables."""
         for agent in self.agents:
             for addr in range(min(self.net.edge, 20)):
                 for access in units.ACCESSES:
@@ -167,7 +165,8 @@ class Script:
                     self.ask("lookup", agent, addr, access)
 
     def mixed(self):
-        """Adds changes with a question here and there, the tables behind most changes, and at the end what all agents see."""
+        """Adds changes with a question here and there, the tables behind most changes, and at the end what all agents
+        see."""
         for _ in range(self.dice.between(6, 14)):
             self.change()
             if self.dice.roll(4):
@@ -179,8 +178,8 @@ class Script:
             self.addresses()
 
     def part(self):
-        """An agent, and a buffer of which some records could show it the first address: it begins and ends anywhere in a page,
-        mostly within what its node accepts."""
+        """An agent, and a buffer of which some records could show it the first address: it begins and ends anywhere in
+        a page, mostly within what its node accepts."""
         found = self.sight()
         if found is None:
             return self.buffer()
@@ -189,7 +188,8 @@ class Script:
         size = self.dice.one_of([1, 1, page, page, max(page // 2, 1), page + 1, 2 * page])
         begin = base // page * page if self.dice.once_in(2) else base
         room = next((by for by in range(size) if not nets.is_accepted(self.net, (node, begin + by))), size)
-        return self.net.nodes[agent].name, self.net.nodes[node].name, begin, room if room and self.dice.roll(8) else size
+        size = room if room and self.dice.roll(8) else size
+        return self.net.nodes[agent].name, self.net.nodes[node].name, begin, size
 
     def fitting(self):
         """An id, a buffer, and an access or none: the first of a few that is granted, or the last of them."""
@@ -223,8 +223,8 @@ class Script:
         return len(replies) > 1 and all(" refused: " in due for due in replies[-2:])
 
     def crowded(self):
-        """Adds buffers and parts of buffers until units are full, with some that are taken back and asked for anew, the tables
-        behind each of these, and at the end what all agents see."""
+        """Adds buffers and parts of buffers until units are full, with some that are taken back and asked for anew, the
+        tables behind each of these, and at the end what all agents see."""
         for _ in range(self.dice.between(8, 16)):
             if self.book.grants and self.dice.once_in(2 if self.is_refused() else 8):
                 self.given_again()
@@ -242,7 +242,8 @@ class Script:
             self.addresses()
 
     def piece_at(self, agent, at):
-        """A buffer that a record could show an agent from an address on, mostly by whole slots; or None where no unit is reached."""
+        """A buffer that a record could show an agent from an address on, mostly by whole slots; or None where no unit
+        is reached."""
         stops = sorted(nets.stops(self.net, (agent, at)))
         if not stops:
             return None
@@ -254,7 +255,8 @@ class Script:
     def run_of(self, count):
         """An agent and so many buffers that records of one unit could show it one after the other; or None."""
         names, slots, found = placements.asked_names(self.net), self.book.slots(), []
-        free = [name for name in names if any(slots.is_free(units.slot_of(self.net, stop)) for stop in nets.stops(self.net, name))]
+        free = [name for name in names if any(slots.is_free(units.slot_of(self.net, stop))
+                                              for stop in nets.stops(self.net, name))]
         if not names:
             return None
         agent, at = self.dice.one_of(free if free and self.dice.roll(12) else names)
@@ -270,14 +272,15 @@ class Script:
         return (self.net.nodes[agent].name, found) if found else None
 
     def pieces(self):
-        """An agent, one to four pieces and an access or none: mostly the first of a few lists that is granted, and one of which not
-        too many scattered placements are to be tried."""
+        """An agent, one to four pieces and an access or none: mostly the first of a few lists that is granted, and one
+        of which not too many scattered placements are to be tried."""
         made = []
         for last in (*[False] * TRIES, True):
             run = self.run_of(self.dice.one_of([1, 2, 2, 2, 3, 3, 4]))
             agent, parts = run or (self.mostly(self.agents), [(self.mostly(self.all), self.addr(), self.dice.roll(4))])
             free = self.dice.mixed([id for id in self.ids if not self.book.live(id)])
-            ids = [free[place] if place < len(free) and self.dice.roll(20) else self.dice.one_of(self.ids) for place in range(len(parts))]
+            ids = [free[place] if place < len(free) and self.dice.roll(20) else self.dice.one_of(self.ids)
+                   for place in range(len(parts))]
             made, access = tuple((id, *part) for id, part in zip(ids, parts)), self.access()
             number = self.net.number(agent)
             if gathers.refusal(self.book, number, made):
@@ -295,15 +298,16 @@ class Script:
         """Adds pieces of which each part may be wrong, so that one refusal comes before another."""
         pick = self.dice.one_of
         agent = pick([self.mostly(self.agents), self.mostly(self.agents), NO_NODE, pick(self.all)])
-        nodes = [pick([pick(self.all), pick(self.all), self.mostly(self.all), NO_NODE]) for _ in range(self.dice.between(1, 3))]
+        nodes = [pick([pick(self.all), pick(self.all), self.mostly(self.all), NO_NODE])
+                 for _ in range(self.dice.between(1, 3))]
         made = [(pick([self.new_id(), self.live_id()]), node, self.addr(), self.dice.roll(4)) for node in nodes]
         if not gathers.refusal(self.book, self.net.number(agent), made):
             made[0] = (made[0][0], NO_NODE, *made[0][2:])
         self.ask("gather", agent, tuple(made), self.access())
 
     def scattered(self):
-        """Adds buffers in pieces and buffers in one, some of which are taken back, the tables behind each of these, and at the end
-        what all agents see."""
+        """Adds buffers in pieces and buffers in one, some of which are taken back, the tables behind each of these, and
+        at the end what all agents see."""
         for _ in range(self.dice.between(6, 12)):
             if self.dice.once_in(8):
                 self.wrong_pieces()
@@ -319,7 +323,8 @@ class Script:
             self.addresses()
 
     def tried(self, word, *request):
-        """Adds a grant or a route, the tables that it leaves, and its revoke. Returns the reply, or None where it is refused."""
+        """Adds a grant or a route, the tables that it leaves, and its revoke. Returns the reply, or None where it is
+        refused."""
         self.ask(word, TRIED, *request)
         reply = self.due[-1]
         self.ask("dump")
@@ -329,7 +334,8 @@ class Script:
 
 def number_text(dice, number):
     """A number as it may be spelled."""
-    return dice.one_of([f"{number:#x}", f"{number:#x}", str(number), f"0x{number:X}", f"0{number}", f"({number + 3}-3)"]) \
+    return dice.one_of([f"{number:#x}", f"{number:#x}", str(number), f"0x{number:X}", f"0{number}",
+                        f"({number + 3}-3)"]) \
         if number < 1 << 63 else f"{number:#x}"
 
 
@@ -357,7 +363,8 @@ def spelled_node(dice, net, node):
     if node.accepts:
         parts.append("accept [" + ", ".join(spelled_block(dice, lo, hi) for lo, hi in node.accepts) + "]")
     if node.entries:
-        entries = [spelled_block(dice, lo, hi) + " to " + " and ".join(spelled_dest(dice, net, lo, dest) for dest in dests)
+        entries = [spelled_block(dice, lo, hi) + " to " + " and ".join(spelled_dest(dice, net, lo, dest)
+                                                                       for dest in dests)
                    for lo, hi, dests in node.entries]
         parts.append("map [" + ", ".join(entries) + "]")
     if node.over is not None:

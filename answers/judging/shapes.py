@@ -1,6 +1,6 @@
 """Small nets, made by dice: each shape is a sort of machine. Few break a rule, and the judge tells that line too."""
 
-import nets
+from judging import nets
 
 
 class Draft:
@@ -40,7 +40,8 @@ def memory(draft, name, last):
 
 
 def windows(dice, dests, most, ends=8):
-    """One to so many map entries, apart and in any order: each to an address of one of the destinations, once in a while to two.
+    """One to so many map entries, apart and in any order: each to an address of one of the destinations, once in a
+    while to two.
 
     A destination is a name and how many of its addresses an entry should stay within."""
     entries, at = [], dice.roll(3)
@@ -61,7 +62,8 @@ def windows(dice, dests, most, ends=8):
 
 
 def bus(draft, name, dests, outputs, wild=3):
-    """A bus: mostly one that has all of the first destination, from an address on that is no multiple of a page once in a while.
+    """A bus: mostly one that has all of the first destination, from an address on that is no multiple of a page once in
+    a while.
 
     Once in so many times its windows are any."""
     dice = draft.dice
@@ -165,7 +167,8 @@ def fan(dice):
     if dice.once_in(2):
         names = ["x", "y", "z"][: dice.between(2, 3)]
         page, slots = dice.roll(2), dice.between(2, 4)
-        draft.unit("wide", "remap", page, slots, min(page + 2, 3), dice.mixed(names + (["ram"] if dice.once_in(3) else [])))
+        draft.unit("wide", "remap", page, slots, min(page + 2, 3),
+                   dice.mixed(names + (["ram"] if dice.once_in(3) else [])))
         doors = [("wide", slots, page)]
         for name in names:
             doors.append((name, dice.between(1, 3), dice.roll(2)))
@@ -176,7 +179,8 @@ def fan(dice):
             agents(draft, ["b"], doors, "rom")
         return draft.net()
     page, slots = dice.between(1, 2), dice.between(1, 4)
-    draft.unit("shared", "remap", page, slots, min(page + dice.between(1, 2), 4), ["ram"] + (["rom"] if dice.once_in(2) else []))
+    draft.unit("shared", "remap", page, slots, min(page + dice.between(1, 2), 4),
+               ["ram"] + (["rom"] if dice.once_in(2) else []))
     for name, unit in [("a", "left"), ("b", "right")]:
         small, inputs = dice.roll(page + dice.roll(2)), dice.between(1, 4)
         draft.unit(unit, "remap", small, inputs, min(small + dice.between(2, 3), 4), ["shared"])
@@ -212,7 +216,8 @@ def lines(dice):
 
 
 def registers(dice):
-    """Small devices that a bus has at several places within pages, and units through which parts of a page are seen alone."""
+    """Small devices that a bus has at several places within pages, and units through which parts of a page are seen
+    alone."""
     draft = Draft(dice)
     devices = ["timer", "uart", "gpio"][: dice.between(2, 3)]
     for name in devices:
@@ -359,7 +364,8 @@ def two_remappers(dice):
 
 
 def neighbours(dice):
-    """Blocks that overlap and touch, two ways to one name, neighbours that go on and that break: an agent sees each node."""
+    """Blocks that overlap and touch, two ways to one name, neighbours that go on and that break: an agent sees each
+    node."""
     draft = Draft(dice)
     draft.node("a", accepts=[(8, 20), (0, 3), (4, 10)])
     draft.node("b", entries=[(0, 9, [("a", 0)]), (10, 19, [("a", 10)]), (20, 29, [("a", 10)])])

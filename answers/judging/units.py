@@ -4,7 +4,7 @@ Rights are a set of accesses. Records stand in a dictionary from a slot, (unit, 
 
 import typing
 
-import nets
+from judging import nets
 
 READ, WRITE = "read", "write"
 ACCESSES = (READ, WRITE)
@@ -36,7 +36,8 @@ def sent(net, held, access, stop):
 
 
 def resolved_under(net, held, access, name):
-    """What a name resolves to under records: what it resolves to in the net, and what its stops come to by their records."""
+    """What a name resolves to under records: what it resolves to in the net, and what its stops come to by their
+    records."""
     names = nets.resolved(net, name)
     for stop in nets.stops(net, name):
         output = sent(net, held, access, stop)

@@ -1,0 +1,1 @@
+"""The judge: plain searches over small nets, with no code of the program."""
