@@ -2,15 +2,15 @@
 
 #include <stdarg.h>
 
-#define SERIAL 0x3f8
-#define EXIT 0xf4
-#define TRAMPOLINE 0x8000
-#define LOCAL_APIC 0xfee00000ULL
-#define APIC_ID 0x20
-#define APIC_END 0xb0
+#define SERIAL        0x3f8
+#define EXIT          0xf4
+#define TRAMPOLINE    0x8000
+#define LOCAL_APIC    0xfee00000ULL
+#define APIC_ID       0x20
+#define APIC_END      0xb0
 #define APIC_SPURIOUS 0xf0
-#define APIC_COMMAND 0x300
-#define APIC_TARGET 0x310
+#define APIC_COMMAND  0x300
+#define APIC_TARGET   0x310
 
 volatile uint32_t arrivals[MOST_PROCESSORS][256];
 static volatile uint32_t second_is_up;

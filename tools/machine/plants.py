@@ -1,20 +1,25 @@
 """Faults that are planted in an image, in the layout or in the loader, to see that the trial finds each."""
 
 import copy
-from typing import Callable, NamedTuple
+from collections.abc import Callable
+from typing import NamedTuple
+
+from netconf_tools.layout import Layout, Unit, Viewer
+from netconf_tools.text import Trouble
 
 
 class Plant(NamedTuple):
-    """A fault in a few words, and what makes it: of images, of the layout, or a name that is defined in the loader."""
+    """A fault in a few words, and what makes it: of images, of the layout, or a change of the driver's text, which
+    stands there once and what takes its place."""
     what: str
-    image: Callable | None = None
-    layout: Callable | None = None
-    define: str = ""
+    image: Callable[[bytes, Layout], bytes] | None = None
+    layout: Callable[[Layout], None] | None = None
+    driver: tuple[str, str] | None = None
 
 
-def in_word(name, wanted, change):
+def in_word(name: str, wanted: Callable[[int], int], change: Callable[[int], int]) -> Callable[[bytes, Layout], bytes]:
     """A change of the first word of a unit's slots that is as wanted, in each image."""
-    def made(image, layout):
+    def made(image: bytes, layout: Layout) -> bytes:
         unit = next(unit for unit in layout.units if unit.name == name)
         words = [unit.begins + 8 * word for word in range(unit.slots * unit.words)]
         for at in words:
@@ -25,31 +30,31 @@ def in_word(name, wanted, change):
     return made
 
 
-def second_version(image, _):
+def second_version(image: bytes, _: Layout) -> bytes:
     """The image with the number of the first version."""
     return image[:4] + b"\x01" + image[5:]
 
 
-def with_unit(name, change):
+def with_unit(name: str, change: Callable[[Unit], None]) -> Callable[[Layout], None]:
     """A layout in which a unit is changed."""
-    def made(layout):
+    def made(layout: Layout) -> None:
         change(next(unit for unit in layout.units if unit.name == name))
     return made
 
 
-def with_agent(name, change):
+def with_agent(name: str, change: Callable[[Viewer], None]) -> Callable[[Layout], None]:
     """A layout in which an agent is changed."""
-    def made(layout):
+    def made(layout: Layout) -> None:
         change(next(agent for agent in layout.agents if agent.name == name))
     return made
 
 
-def small_pages(unit):
+def small_pages(unit: Unit) -> None:
     """Pages of 4 KiB in place of larger ones: of each slot the first quarter at a quarter of its output."""
     unit.page = 12
 
 
-def whole_slots(agent):
+def whole_slots(agent: Viewer) -> None:
     """A window that goes on to the end of its last slot."""
     agent.windows[-1].last |= 0x3fff
 
@@ -57,28 +62,46 @@ def whole_slots(agent):
 GATE, NO_WRITING = 1, 0x20
 
 PLANTS = {
-    "right": Plant("a bit of a record's rights", in_word("pages", lambda w: w & GATE and w & NO_WRITING, lambda w: w ^ NO_WRITING)),
+    "right": Plant("a bit of a record's rights", in_word("pages", lambda w: w & GATE and w & NO_WRITING,
+                                                         lambda w: w ^ NO_WRITING)),
     "page": Plant("a bit of a record's page", in_word("pages", lambda w: w & GATE, lambda w: w ^ 0x100)),
     "gate": Plant("the gate of a record", in_word("pages", lambda w: w & GATE, lambda w: w ^ GATE)),
-    "high": Plant("the bits of an output from 2^32 on are lost", define="PLANT_HIGH"),
+    "high": Plant("the bits of an output from 2^32 on are lost",
+                  driver=("leaf = host | (page", "leaf = (host & 0xffffffff) | (page")),
     "port": Plant("the port of a record", in_word("shared", lambda w: w & GATE, lambda w: w ^ 2)),
     "vector": Plant("a vector", in_word("remapper", lambda w: w >= 0x40, lambda w: w ^ 1)),
     "version": Plant("the number of the version", second_version),
-    "order": Plant("the half of a record that says that it counts is written first", define="PLANT_ORDER"),
+    "order": Plant("the half of a record that says that it counts is written first",
+                   driver=("    write_half(handle, 1, high);\n    write_half(handle, 0, low);\n",
+                           "    write_half(handle, 0, low);\n    write_half(handle, 1, high);\n")),
     "slot": Plant("large slots are taken for small ones", layout=with_unit("shared", small_pages)),
     "window": Plant("a window is taken to end with its last slot", layout=with_agent("nic", whole_slots)),
-    "fence": Plant("nothing is invalidated at a fence", define="PLANT_FENCE"),
+    "fence": Plant("nothing is invalidated at a fence",
+                   driver=("    (void)context;\n    if (vtd_forget()) return 1;\n", "    (void)context;\n")),
 }
 """The faults by their names."""
 
 
-def planted(name, images, layout):
-    """The images and the layout with a fault, and what is defined in the loader; all as they are where there is no name."""
+class Planted(NamedTuple):
+    """What is built: images, a layout, the text of the driver, and whether one failed comparison is enough."""
+    images: list[bytes]
+    layout: Layout
+    driver: str
+    stops_at_first: bool
+
+
+def planted(name: str | None, images: list[bytes], layout: Layout, driver: str) -> Planted:
+    """The images, the layout and the text of the driver with a fault; all as they are where there is no name."""
     if name is None:
-        return images, layout, []
+        return Planted(images, layout, driver, False)
     plant = PLANTS[name]
     images = [plant.image(image, layout) for image in images] if plant.image else images
     layout = copy.deepcopy(layout)
     if plant.layout:
         plant.layout(layout)
-    return images, layout, ["STOP_AT_FIRST", *([plant.define] if plant.define else [])]
+    if plant.driver:
+        before, after = plant.driver
+        if driver.count(before) != 1:
+            raise Trouble(f"the driver has the text that the fault {name} changes {driver.count(before)} times")
+        driver = driver.replace(before, after)
+    return Planted(images, layout, driver, True)

@@ -5,18 +5,18 @@
 #include "pc.h"
 #include "vtd.h"
 
-#define CARD_KIND 0x11e81234u           /* the card `edu` of QEMU */
-#define CARD_RAISE 0x60
-#define CARD_QUIET 0x64
-#define CARD_SOURCE 0x80
-#define CARD_TARGET 0x88
-#define CARD_COUNT 0x90
+#define CARD_KIND    0x11e81234u /* the card `edu` of QEMU */
+#define CARD_RAISE   0x60
+#define CARD_QUIET   0x64
+#define CARD_SOURCE  0x80
+#define CARD_TARGET  0x88
+#define CARD_COUNT   0x90
 #define CARD_COMMAND 0x98
-#define CARD_BUFFER 0x40000
-#define CARD_WORDS 511                  /* the card takes no copy that ends at its buffer's last byte */
-#define MOST_CARDS 8
-#define MOST_WORDS 0x40000              /* of memory: 2 MiB */
-#define SHOWN 40
+#define CARD_BUFFER  0x40000
+#define CARD_WORDS   511 /* the card takes no copy that ends at its buffer's last byte */
+#define MOST_CARDS   8
+#define MOST_WORDS   0x40000 /* of memory: 2 MiB */
+#define SHOWN        40
 
 struct piece {
     uint64_t address;
@@ -85,11 +85,13 @@ static void find_memory(void)
     uint32_t n;
     for (agent = 0; agent < board.agent_count; agent++) {
         const struct netconf_view *view = &board.agents[agent];
-        if (view->note[0] != 'p' || view->note[1] != 'r') continue;
+        if (vtd_note_part(view->note, "processor") == NULL) continue;
         for (n = 0; n < view->place_count; n++) {
-            struct piece piece = {view->places[n].address, (size_t)(view->places[n].last - view->places[n].first + 1) / 8, used};
+            struct piece piece = {view->places[n].address,
+                                  (size_t)(view->places[n].last - view->places[n].first + 1) / 8, used};
             used += piece.words;
-            if (piece_count == sizeof pieces / sizeof *pieces || used > MOST_WORDS) give_up("the description has too much memory");
+            if (piece_count == sizeof pieces / sizeof *pieces || used > MOST_WORDS)
+                give_up("the description has too much memory");
             pieces[piece_count++] = piece;
         }
     }
@@ -115,7 +117,8 @@ static void fill_memory(void)
     seed++;
     for (n = 0; n < piece_count; n++)
         for (word = 0; word < pieces[n].words; word++)
-            shadow[pieces[n].shadow + word] = memory_at(pieces[n].address)[word] = value_of(pieces[n].address + 8 * word);
+            shadow[pieces[n].shadow + word] = memory_at(pieces[n].address)[word] =
+                value_of(pieces[n].address + 8 * word);
 }
 
 /* Compares all memory with what it should have. */
@@ -142,7 +145,8 @@ static void find_cards(void)
     unsigned n, at;
     for (n = 0; n < sizeof cards / sizeof *cards; n++) {
         unsigned device = cards[n].device, function = cards[n].function;
-        if (n == MOST_CARDS || pci_read(device, function, 0) != CARD_KIND) give_up("a card is not where the description has it");
+        if (n == MOST_CARDS || pci_read(device, function, 0) != CARD_KIND)
+            give_up("a card is not where the description has it");
         registers[n] = pci_read(device, function, 0x10) & ~0xfu;
         pci_write(device, function, 4, pci_read(device, function, 4) | 6);
         for (at = pci_read(device, function, 0x34) & 0xfc; at != 0 && (pci_read(device, function, at) & 0xff) != 5;)
@@ -174,7 +178,7 @@ static uint64_t due_fault(const struct probe *probe)
     return probe->is_two && probe->second == NOWHERE ? probe->address + 8 : NOWHERE;
 }
 
-/* A fault as the I/O MMU recorded it. */
+/* A fault as the IOMMU recorded it. */
 struct fault {
     unsigned function;
     uint64_t page;
@@ -194,7 +198,7 @@ static int is_due(const struct probe *probe, const struct fault *fault)
     uint64_t due = due_fault(probe);
     if (due == NOWHERE) return !fault->is_there;
     return fault->is_there && fault->page == (due & ~0xfffULL) && fault->is_write == probe->is_write
-        && fault->function == 8u * cards[probe->card].device + cards[probe->card].function;
+           && fault->function == 8u * cards[probe->card].device + cards[probe->card].function;
 }
 
 /* Has a card make an access. Where the page may be accessed otherwise, QEMU records no fault if it still knows the page by that
@@ -211,7 +215,8 @@ static void make(const struct probe *probe, unsigned word)
     }
     if (differs(is_due(probe, &fault)))
         print("%s %s at %x: %s fault is recorded (page %x, function %x)\n", cards[probe->card].name,
-              probe->is_write ? "writes" : "reads", probe->address, fault.is_there ? "this" : "no", fault.page, (uint64_t)fault.function);
+              probe->is_write ? "writes" : "reads", probe->address, fault.is_there ? "this" : "no", fault.page,
+              (uint64_t)fault.function);
     end_of_comparison();
 }
 
@@ -220,7 +225,8 @@ static void show(const struct probe *probe)
 {
 #ifdef SHOW
     if (!probe->is_two && probe->first != NOWHERE && probe->address % 4096 == 0)
-        print("seen %d %s %s %x %x\n", step, cards[probe->card].name, probe->is_write ? "writes" : "reads", probe->address, probe->first);
+        print("seen %d %s %s %x %x\n", step, cards[probe->card].name, probe->is_write ? "writes" : "reads",
+              probe->address, probe->first);
 #else
     (void)probe;
 #endif
@@ -231,7 +237,8 @@ static void compare_word(const struct probe *probe, uint64_t target)
     uint64_t is = *memory_at(target), due = *shadow_at(target);
     if (is == due) show(probe);
     if (differs(is == due))
-        print("%s writes at %x: memory at %x has %x and should have %x\n", cards[probe->card].name, probe->address, target, is, due);
+        print("%s writes at %x: memory at %x has %x and should have %x\n", cards[probe->card].name, probe->address,
+              target, is, due);
     end_of_comparison();
 }
 
@@ -273,7 +280,8 @@ static void show_card(unsigned card, const struct pages *pages, const struct pro
         *shadow_at(pages->out_memory + 8 * word) = held[card][word];
         if (word < used && read[word] != NULL && is == held[card][word]) show(read[word]);
         if (word < used && read[word] != NULL && differs(is == held[card][word]))
-            print("%s reads at %x: it has %x and should have %x\n", cards[card].name, read[word]->address, is, held[card][word]);
+            print("%s reads at %x: it has %x and should have %x\n", cards[card].name, read[word]->address, is,
+                  held[card][word]);
         end_of_comparison();
     }
 }
@@ -341,15 +349,18 @@ static unsigned send(unsigned card, uint32_t handle, int is_due, unsigned *proce
 
 static void try_message(const struct message *message)
 {
-    unsigned processor = 0, vector = 0, count = send(message->card, message->handle, message->vector != 0, &processor, &vector);
-    int is_same = message->vector == 0 ? count == 0 : count == 1 && processor == message->processor && vector == message->vector;
+    unsigned processor = 0, vector = 0,
+             count = send(message->card, message->handle, message->vector != 0, &processor, &vector);
+    int is_same =
+        message->vector == 0 ? count == 0 : count == 1 && processor == message->processor && vector == message->vector;
 #ifdef SHOW
     if (count == 1 && is_same)
-        print("seen %d %s sends %d %x %x\n", step, cards[message->card].name, (unsigned)message->handle, (uint64_t)processor, (uint64_t)vector);
+        print("seen %d %s sends %d %x %x\n", step, cards[message->card].name, (unsigned)message->handle,
+              (uint64_t)processor, (uint64_t)vector);
 #endif
     if (differs(is_same))
-        print("%s sends %d: %d arrive, at processor %d as %x\n", cards[message->card].name, (unsigned)message->handle, count, processor,
-              (uint64_t)vector);
+        print("%s sends %d: %d arrive, at processor %d as %x\n", cards[message->card].name, (unsigned)message->handle,
+              count, processor, (uint64_t)vector);
     end_of_comparison();
 }
 
@@ -372,10 +383,12 @@ static void word_written(unsigned handle)
     for (card = 0; card < sizeof cards / sizeof *cards; card++) {
         unsigned processor = 0, vector = 0, count = send(card, handle, 0, &processor, &vector);
         int is_fine = count == 0
-            || (count == 1 && (is_expected(last_state, card, handle, processor, vector) || is_expected(next_state, card, handle, processor, vector)));
+                      || (count == 1
+                          && (is_expected(last_state, card, handle, processor, vector)
+                              || is_expected(next_state, card, handle, processor, vector)));
         if (differs(is_fine))
-            print("%s sends %d while its record is written: %d arrive, at processor %d as %x\n", cards[card].name, handle, count, processor,
-                  (uint64_t)vector);
+            print("%s sends %d while its record is written: %d arrive, at processor %d as %x\n", cards[card].name,
+                  handle, count, processor, (uint64_t)vector);
         end_of_comparison();
     }
 }
@@ -398,7 +411,7 @@ static void try_messages(const struct state *state)
     compare_memory("messages");
 }
 
-/* Tries a state that was loaded. Accesses for which nothing is forgotten come last, so that the I/O MMU knows each page that a
+/* Tries a state that was loaded. Accesses for which nothing is forgotten come last, so that the IOMMU knows each page that a
  * card may access when the next dump is loaded. */
 static void try_state(const struct state *state)
 {
@@ -426,7 +439,7 @@ void trial(void)
     start_processors();
     find_memory();
     find_cards();
-    if (vtd_start()) give_up("the I/O MMU does not start, or lacks what the driver needs");
+    if (vtd_start()) give_up("the IOMMU does not start, or lacks what the driver needs");
     vtd_word_written = word_written;
     vtd_fence_passed = fence_passed;
     try_state(&steps[0].loaded);
@@ -434,7 +447,7 @@ void trial(void)
     for (step = 1; step < sizeof steps / sizeof *steps; step++) {
         struct netconf_image *next = &images[step & 1];
         struct netconf_problem problem = netconf_open(next, &board, steps[step].image, steps[step].size);
-        if (problem.fault != NETCONF_FINE) give_up("the image is none of this description");
+        if (problem.fault != NETCONF_FAULT_NONE) give_up(netconf_fault_text(problem.fault));
         next_state = &steps[step].loaded;
         if (vtd_load(before, next)) give_up("the tables cannot be loaded");
         try_state(next_state);

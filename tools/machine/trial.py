@@ -1,13 +1,14 @@
-"""What the cards of a description may read, write and signal, asked of the program at each dump, as data for the trial."""
+"""What the cards of a description may read, write and signal, asked of the program at each dump, as data for the
+trial."""
 
 import random
 import re
 from dataclasses import dataclass
 
-from netconf_dump import image_in
-from netconf_layout import layout_of
-from netconf_source import commands_of, declarations_of
-from netconf_text import Trouble, name_of, run
+from netconf_tools.dump import image_in
+from netconf_tools.layout import layout_of
+from netconf_tools.source import commands_of, declarations_of
+from netconf_tools.text import Trouble, name_of, run
 
 PAGE = 0x1000
 WORD = 8
@@ -18,10 +19,20 @@ MESSAGES = range(0xfee00000, 0xfef00000)
 BEYOND = 4
 """How many pages below and above each window are tried."""
 
+Name = tuple[str, int]
+"""A node and an address of it."""
+
+Question = tuple[int, int, bool]
+"""An agent by its place among the agents, an address, and whether it is a write."""
+
+Answers = dict[Question, Name | None]
+"""What each question is answered: the name to which it comes, or nothing."""
+
 
 @dataclass(frozen=True)
 class Probe:
-    """One access: the agent by its place among the agents, the address, whether it is a write, and whether it takes two words."""
+    """One access: the agent by its place among the agents, the address, whether it is a write, and whether it takes two
+    words."""
     agent: int
     address: int
     is_write: bool
@@ -31,14 +42,15 @@ class Probe:
 class Trial:
     """A description with its layout, its cards, its dumps, and what is expected at each."""
 
-    def __init__(self, text):
+    def __init__(self, text: bytes) -> None:
         self.text = text.decode("latin-1")
         self.layout = layout_of(text)
-        self.processor = next((agent for agent in self.layout.agents if agent.notes == ["processor"]), None)
-        if self.processor is None:
+        processors = [agent for agent in self.layout.agents if agent.notes == ["processor"]]
+        if not processors:
             raise Trouble("no agent of the description has the note `processor`")
-        self.functions = {number: FUNCTION.fullmatch(note) for number, agent in enumerate(self.layout.agents) for note in agent.notes}
-        self.functions = {number: hit[0] for number, hit in self.functions.items() if hit}
+        self.processor = processors[0]
+        self.functions = {number: part for number, agent in enumerate(self.layout.agents) for note in agent.notes
+                          for part in note.split(", ") if FUNCTION.fullmatch(part)}
         lines = {number for number in self.functions if self.kind_of(number) == "vectors"}
         self.agents = [number for number in self.functions if number not in lines]
         self.lines = {self.functions[number]: number for number in sorted(lines)}
@@ -49,17 +61,17 @@ class Trial:
         self.handles = range(max((unit.slots for unit in self.layout.units if unit.kind == "vectors"), default=0) + 4)
         self.images, self.answers = self.ask()
 
-    def kind_of(self, number):
+    def kind_of(self, number: int) -> str:
         """The kind of the unit to which an agent comes."""
         windows = self.layout.agents[number].windows
         return self.layout.units[windows[0].unit].kind if windows else ""
 
-    def card_of(self, number):
+    def card_of(self, number: int) -> tuple[str, int, int]:
         """The name of a card, its device and its function."""
-        hit = FUNCTION.fullmatch(self.functions[number])
-        return self.layout.agents[number].name, int(hit[1], 16), int(hit[2])
+        device, _, function = self.functions[number].removeprefix("pci 0:").partition(".")
+        return self.layout.agents[number].name, int(device, 16), int(function)
 
-    def pages_of(self, number):
+    def pages_of(self, number: int) -> list[int]:
         """The pages that are tried of an agent: those of its windows, some below and above each, and those at which the
         processor has memory."""
         pages = {place.address & -PAGE for place in self.processor.places}
@@ -68,9 +80,11 @@ class Trial:
             pages.update(page * PAGE for page in range(max(first, 0), last + 1))
         return sorted(page for page in pages if page not in MESSAGES)
 
-    def all_probes(self):
-        """Each access that is tried: in each page its first word, its last and one between, and two words across its end."""
-        chance, probes = random.Random(45), []
+    def all_probes(self) -> list[Probe]:
+        """Each access that is tried: in each page its first word, its last and one between, and two words across its
+        end."""
+        chance = random.Random(45)
+        probes: list[Probe] = []
         for number in self.agents:
             pages = self.pages_of(number)
             for is_write in (False, True):
@@ -80,9 +94,9 @@ class Trial:
                 probes += [Probe(number, page + PAGE - WORD, is_write, True) for page in pages if page + PAGE in pages]
         return probes
 
-    def questions(self):
+    def questions(self) -> list[Question]:
         """The names that are looked up at each dump: each an agent, an address and an access."""
-        asked = {}
+        asked: dict[Question, None] = {}
         for probe in self.probes:
             for address in (probe.address, probe.address + WORD) if probe.is_two else (probe.address,):
                 asked[(probe.agent, address, probe.is_write)] = None
@@ -91,10 +105,11 @@ class Trial:
                 asked.update({(number, line, True): None for line in range(window.first, window.last + 1)})
         return list(asked)
 
-    def ask(self):
+    def ask(self) -> tuple[list[bytes], list[Answers]]:
         """The image of each dump, and what each question is answered at first and after each dump."""
         questions, names = self.questions(), [agent.name for agent in self.layout.agents]
-        lookups = [f"lookup {names[agent]} {address:#x} for {'write' if is_write else 'read'};" for agent, address, is_write in questions]
+        lookups = [f"lookup {names[agent]} {address:#x} for {'write' if is_write else 'read'};"
+                   for agent, address, is_write in questions]
         lines = [*lookups]
         for command in commands_of(self.text):
             if command.word in ("grant", "gather", "route", "revoke", "dump"):
@@ -111,7 +126,7 @@ class Trial:
         images = [image_in(output.encode("latin-1"), number + 1) for number in range(len(parts) - 1)]
         return images, [dict(zip(questions, map(self.answered, lines))) for lines in answers]
 
-    def answered(self, line):
+    def answered(self, line: str) -> Name | None:
         """The name to which a lookup comes, a node and an address, or nothing."""
         answer = line.split(": ", 1)[1]
         if answer == "nothing":
@@ -120,7 +135,7 @@ class Trial:
             raise Trouble(f"a card comes to several names at once: {line}")
         return name_of(answer)
 
-    def memory_of(self, name):
+    def memory_of(self, name: Name | None) -> int | None:
         """The processor's address of a name."""
         if name is None:
             return None
@@ -130,42 +145,47 @@ class Trial:
             raise Trouble(f"the processor does not see {node}@{at:#x}, which a card reaches")
         return place.address + at - place.first
 
-    def is_half(self, answers, probe):
+    def is_half(self, answers: Answers, probe: Probe) -> bool:
         """Whether some page of an access denies it and allows the other."""
-        pages = {address & -PAGE for address in (probe.address, probe.address + WORD if probe.is_two else probe.address)}
-        return any(answers[(probe.agent, page, probe.is_write)] is None and answers[(probe.agent, page, not probe.is_write)] is not None
+        pages = {address & -PAGE for address in (probe.address,
+                                                 probe.address + WORD if probe.is_two else probe.address)}
+        return any(answers[(probe.agent, page, probe.is_write)] is None
+                   and answers[(probe.agent, page, not probe.is_write)] is not None
                    for page in pages)
 
-    def at_fence(self, before, after):
-        """The answers right after the fence of a change: those of pages and lines that stay the same for both accesses."""
-        kept = {}
+    def at_fence(self, before: Answers, after: Answers) -> Answers:
+        """The answers right after the fence of a change: those of pages and lines that stay the same for both
+        accesses."""
+        kept: Answers = {}
         for (number, address, is_write), name in after.items():
             if number in self.agents:
                 page = address & -PAGE
-                is_same = all(before.get((number, page, access)) == after.get((number, page, access)) for access in (False, True))
+                is_same = all(before.get((number, page, access)) == after.get((number, page, access))
+                              for access in (False, True))
             else:
                 is_same = before[(number, address, is_write)] == name
             kept[(number, address, is_write)] = name if is_same else None
         return kept
 
 
-def number_text(value):
+def number_text(value: int | None) -> str:
     """An address as a constant, or NOWHERE."""
     return NOWHERE if value is None else f"UINT64_C({value:#x})"
 
 
-def array(kind, name, items):
+def array(kind: str, name: str, items: list[str]) -> tuple[str, str, int]:
     """A constant array in C, and the initializer that names it with its length."""
     if not items:
         return "", "NULL", 0
-    return f"static const {kind} {name}[] = {{\n" + "".join(f"    {item},\n" for item in items) + "};\n\n", name, len(items)
+    return f"static const {kind} {name}[] = {{\n" + "".join(f"    {item},\n"
+                                                            for item in items) + "};\n\n", name, len(items)
 
 
-def pages_texts(trial, answers):
+def pages_texts(trial: Trial, answers: Answers) -> list[str]:
     """For each card a page that it may read and one that it may write, as initializers: the first of each."""
     texts = []
     for number in trial.agents:
-        found = []
+        found: list[str] = []
         for access, other in ((False, True), (True, False)):
             pages = [page for page in trial.pages_of(number) if answers[(number, page, access)] is not None]
             pages.sort(key=lambda page: answers[(number, page, other)] is not None)
@@ -175,7 +195,7 @@ def pages_texts(trial, answers):
     return texts
 
 
-def probe_texts(trial, answers, is_short):
+def probe_texts(trial: Trial, answers: Answers, is_short: bool) -> list[str]:
     """The probes as initializers; where it is short, only the first words of pages."""
     texts = []
     for probe in trial.probes:
@@ -184,37 +204,42 @@ def probe_texts(trial, answers, is_short):
         first = trial.memory_of(answers[(probe.agent, probe.address, probe.is_write)])
         second = trial.memory_of(answers[(probe.agent, probe.address + WORD, probe.is_write)]) if probe.is_two else None
         numbers = trial.agents.index(probe.agent), probe.is_write, probe.is_two, trial.is_half(answers, probe)
-        texts.append(f"{{{number_text(probe.address)}, {number_text(first)}, {number_text(second)}, {', '.join(str(int(n)) for n in numbers)}}}")
+        texts.append(f"{{{number_text(probe.address)}, {number_text(first)}, {number_text(second)}, "
+                     f"{', '.join(str(int(n)) for n in numbers)}}}")
     return texts
 
 
-def message_texts(trial, answers):
+def message_texts(trial: Trial, answers: Answers) -> list[str]:
     """For each card and each handle where its message arrives."""
-    numbers = {port.name: int(note.split()[1]) for unit in trial.layout.units for port in unit.ports for note in port.notes
+    numbers = {port.name: int(note.split()[1]) for unit in trial.layout.units for port in unit.ports
+               for note in port.notes
                if note.startswith("apic ")}
     texts = []
     for card, number in enumerate(trial.agents):
         lines = trial.lines.get(trial.functions[number])
         for handle in trial.handles:
             windows = trial.layout.agents[lines].windows if lines is not None else []
-            inputs = {window.input + line - window.first: line for window in windows for line in range(window.first, window.last + 1)}
-            name = answers[(lines, inputs[handle], True)] if handle in inputs else None
+            inputs = {window.input + line - window.first: line for window in windows
+                      for line in range(window.first, window.last + 1)}
+            name = answers[(lines, inputs[handle], True)] if lines is not None and handle in inputs else None
             texts.append(f"{{{handle}, {card}, {numbers[name[0]] if name else 0}, {name[1] if name else 0}}}")
     return texts
 
 
-def state_text(trial, name, answers, is_short=False):
+def state_text(trial: Trial, name: str, answers: Answers, is_short: bool = False) -> tuple[str, str]:
     """A state as constants in C, and its initializer."""
     probes, messages, pages = (array(kind, f"{name}_{what}", items) for kind, what, items in (
-        ("struct probe", "probes", probe_texts(trial, answers, is_short)), ("struct message", "messages", message_texts(trial, answers)),
+        ("struct probe", "probes", probe_texts(trial, answers, is_short)),
+        ("struct message", "messages", message_texts(trial, answers)),
         ("struct pages", "pages", pages_texts(trial, answers))))
     return probes[0] + messages[0] + pages[0], f"{{{probes[1]}, {messages[1]}, {pages[1]}, {probes[2]}, {messages[2]}}}"
 
 
-def data_text(trial, images):
+def data_text(trial: Trial, images: list[bytes]) -> str:
     """The header with what the trial expects, and the images that it loads."""
     text = '/* Made by run of replies of the program. */\n#include "trial.h"\n\n'
-    text += array("struct card", "cards", [f'{{"{name}", {device}, {function}}}' for name, device, function in trial.cards])[0]
+    text += array("struct card", "cards", [f'{{"{name}", {device}, {function}}}'
+                                           for name, device, function in trial.cards])[0]
     steps = []
     for number, answers in enumerate(trial.answers):
         image = images[number - 1] if number else b""
@@ -222,7 +247,8 @@ def data_text(trial, images):
             rows = [", ".join(str(byte) for byte in image[at:at + 32]) for at in range(0, len(image), 32)]
             text += array("unsigned char", f"image_{number}", rows)[0]
         loaded, loaded_name = state_text(trial, f"loaded_{number}", answers)
-        fence, fence_name = state_text(trial, f"fence_{number}", trial.at_fence(trial.answers[max(number - 1, 0)], answers), True)
+        fence, fence_name = state_text(trial, f"fence_{number}",
+                                       trial.at_fence(trial.answers[max(number - 1, 0)], answers), True)
         text += loaded + fence
         steps.append(f"{{{f'image_{number}' if number else 'NULL'}, {len(image)}, {fence_name}, {loaded_name}}}")
     return text + array("struct step", "steps", steps)[0]

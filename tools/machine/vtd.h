@@ -1,4 +1,4 @@
-/* A driver for the Intel I/O MMU (VT-d) that takes its tables from images: second-level tables for what devices read and
+/* A driver for the Intel IOMMU (VT-d) that takes its tables from images: second-level tables for what devices read and
  * write, and the table of interrupts. */
 #ifndef VTD_H
 #define VTD_H
@@ -17,13 +17,17 @@ int vtd_load(const struct netconf_image *before, const struct netconf_image *nex
 extern void (*vtd_word_written)(unsigned handle);
 extern void (*vtd_fence_passed)(void);
 
+/* The part of a note that begins with a word; the parts stand between commas. Returns what follows the word, as `0:3.0, x` of
+ * `a/path, pci 0:3.0, x` for `pci`, or NULL if there is none. */
+const char *vtd_note_part(const char *note, const char *word);
+
 /* The handle that a device puts into a message for a line of an agent, or UINT32_MAX if the line is none. */
 uint32_t vtd_handle_of(const struct netconf_layout *layout, unsigned agent, uint64_t line);
 
-/* Has the I/O MMU forget all that it keeps of its tables. Returns 0, or 1 if it does not come to that. */
+/* Has the IOMMU forget all that it keeps of its tables. Returns 0, or 1 if it does not come to that. */
 int vtd_forget(void);
 
-/* The last fault that the I/O MMU recorded: returns 0 if there is none. `*function` is 8 times the device and the
+/* The last fault that the IOMMU recorded: returns 0 if there is none. `*function` is 8 times the device and the
  * function, `*page` the page of the address, and `*is_write` the access. It is forgotten. */
 int vtd_fault(unsigned *function, uint64_t *page, int *is_write);
 

@@ -5,6 +5,7 @@
 #include <stdlib.h>
 #include <string.h>
 
+#define NETCONF_IMAGE_IMPLEMENTATION
 #include "netconf_image.h"
 
 static struct netconf_layout layout;
@@ -67,7 +68,7 @@ static void read_layout(void)
     for (unit = 0; unit < layout.unit_count; unit++) {
         units[unit].name = units[unit].note = "";
         units[unit].node = (uint16_t)number();
-        units[unit].kind = (uint8_t)number();
+        units[unit].kind = (enum netconf_kind)number();
         units[unit].page = (uint8_t)number();
         units[unit].slots = (uint32_t)number();
         units[unit].reach = (uint8_t)number();
@@ -93,7 +94,7 @@ static void read_image(void)
         bytes[which][n] = (unsigned char)value;
     }
     problem = netconf_open(&images[which], &layout, bytes[which], size);
-    is_open[which] = problem.fault == NETCONF_FINE;
+    is_open[which] = problem.fault == NETCONF_FAULT_NONE;
     printf("%s %" PRIu64 "\n", names[problem.fault], problem.place);
 }
 
@@ -113,26 +114,28 @@ static void print_slots(void)
     uint32_t slot;
     for (unit = 0; unit <= layout.unit_count; unit++)
         for (slot = 0; slot <= (unit < layout.unit_count ? layout.units[unit].slots : 0); slot++)
-            if (netconf_slot(from, unit, slot, &record))
-                printf("%u %" PRIu32 " %u %" PRIu64 " %u %u\n", unit, slot, record.port, record.output, record.may_read, record.may_write);
+            if (netconf_record_at(from, unit, slot, &record))
+                printf("%u %" PRIu32 " %u %" PRIu64 " %u %u\n", unit, slot, record.port, record.output, record.may_read,
+                       record.may_write);
     puts("end");
 }
 
 static void print_lookup(void)
 {
     const struct netconf_image *from = image();
-    unsigned agent = (unsigned)number(), unit = 0, port = 0;
-    uint64_t address = number(), output = 0;
-    enum netconf_access access = number() ? NETCONF_WRITE : NETCONF_READ;
-    enum netconf_answer answer = netconf_lookup(from, agent, address, access, &unit, &port, &output);
-    if (answer == NETCONF_OUT) printf("out %u %u %" PRIu64 "\n", unit, port, output);
-    else puts(answer == NETCONF_FIXED ? "fixed" : "nothing");
+    unsigned agent = (unsigned)number();
+    uint64_t address = number();
+    enum netconf_access access = number() ? NETCONF_ACCESS_WRITE : NETCONF_ACCESS_READ;
+    struct netconf_exit found;
+    enum netconf_answer answer = netconf_lookup(from, agent, address, access, &found);
+    if (answer == NETCONF_ANSWER_OUT) printf("out %u %u %" PRIu64 "\n", found.unit, found.port, found.output);
+    else puts(answer == NETCONF_ANSWER_FIXED ? "fixed" : "nothing");
 }
 
 static void print_page(const char *what, unsigned agent, const struct netconf_page *page)
 {
-    printf("%s %u %" PRIu64 " %" PRIu64 " %u %u %u %" PRIu64 " %u %u\n", what, agent, page->first, page->last, page->size, page->unit, page->port,
-           page->output, page->may_read, page->may_write);
+    printf("%s %u %" PRIu64 " %" PRIu64 " %u %u %u %" PRIu64 " %u %u\n", what, agent, page->first, page->last,
+           page->size, page->unit, page->port, page->output, page->may_read, page->may_write);
 }
 
 static void print_pages(void)
@@ -142,7 +145,7 @@ static void print_pages(void)
     uint64_t sizes = number(), at = 0;
     struct netconf_page page;
     for (; netconf_next_page(from, agent, at, sizes, &page); at = page.last + 1)
-        print_page(page.answer == NETCONF_PAGE ? "page" : "uneven", agent, &page);
+        print_page(page.answer == NETCONF_PAGE_WHOLE ? "page" : "uneven", agent, &page);
     puts("end");
 }
 
@@ -154,7 +157,8 @@ static int event(void) { return ++events == stop_at ? 7 : 0; }
 static int put(void *context, unsigned unit, uint32_t slot, const struct netconf_record *record)
 {
     (void)context;
-    printf("put %u %" PRIu32 " %u %" PRIu64 " %u %u\n", unit, slot, record->port, record->output, record->may_read, record->may_write);
+    printf("put %u %" PRIu32 " %u %" PRIu64 " %u %u\n", unit, slot, record->port, record->output, record->may_read,
+           record->may_write);
     return event();
 }
 
@@ -203,7 +207,7 @@ static int uneven(void *context, unsigned agent, const struct netconf_page *page
 static void print_changes(const char *how)
 {
     const struct netconf_image *before = image(), *next = image();
-    struct netconf_device device = {NULL, put, clear, fence};
+    struct netconf_slot_device device = {NULL, put, clear, fence};
     struct netconf_word_device words = {NULL, write_word, fence};
     struct netconf_page_device pages = {NULL, map, unmap, fence, uneven};
     uint64_t sizes[64];
@@ -211,8 +215,8 @@ static void print_changes(const char *how)
     events = 0;
     stop_at = (unsigned)number();
     if (next == NULL) exit(2);
-    if (strcmp(how, "change") == 0) printf("end %d\n", netconf_change(before, next, &device));
-    else if (strcmp(how, "words") == 0) printf("end %d\n", netconf_words(before, next, &words));
+    if (strcmp(how, "change") == 0) printf("end %d\n", netconf_change_slots(before, next, &device));
+    else if (strcmp(how, "words") == 0) printf("end %d\n", netconf_change_words(before, next, &words));
     else {
         for (agent = 0; agent < layout.agent_count; agent++) sizes[agent] = number();
         printf("end %d\n", netconf_change_pages(before, next, sizes, &pages));

@@ -4,7 +4,7 @@ PAGE = 4096
 WORDS = 512
 
 
-def depth_of(count):
+def depth_of(count: int) -> int:
     """How many levels the tree of so many words has."""
     depth = 1
     while WORDS ** depth < count:
@@ -12,11 +12,12 @@ def depth_of(count):
     return depth
 
 
-def pages(words, depth, at):
+def pages(words: list[int], depth: int, at: int) -> bytes:
     """The bytes of the tree of words whose first page stands at a byte."""
     if depth == 1:
         return b"".join(word.to_bytes(8, "little") for word in words).ljust(PAGE, b"\0")
-    room, entries, below = WORDS ** (depth - 1), [], b""
+    entries: list[int] = []
+    room, below = int(WORDS ** (depth - 1)), b""
     for first in range(0, WORDS * room, room):
         piece, begin = words[first:first + room], at + PAGE + len(below)
         entries.append(begin + 1 if any(piece) else 0)
@@ -24,12 +25,12 @@ def pages(words, depth, at):
     return b"".join(entry.to_bytes(8, "little") for entry in entries) + below
 
 
-def tree(words):
+def tree(words: list[int]) -> bytes:
     """The bytes of the tree of words."""
     return pages(words, depth_of(len(words)), 0)
 
 
-def reply(name, words, pool):
+def reply(name: str, words: list[int], pool: int) -> str:
     """What `radix` prints of a unit with these words."""
     data = tree(words)
     count = len(data) // PAGE

@@ -9,4 +9,5 @@ if exists(':CompilerSet') != 2
 endif
 
 CompilerSet makeprg=netconf-lint\ %:S
-CompilerSet errorformat=%f:%l:\ refused:\ %m,%f:%l:\ %tarning:\ %m,%f:%l:\ %tote:\ %m,netconf-lint:\ %m
+CompilerSet errorformat=%f:%l:%c:\ %trror:\ %m,%f:%l:%c:\ %tarning:\ %m,%f:%l:%c:\ %tote:\ %m
+CompilerSet errorformat+=%f:%l:\ %trror:\ %m,%f:%l:\ %tarning:\ %m,%f:%l:\ %tote:\ %m,netconf-lint:\ %m,%-G\ \ %.%#

@@ -1,0 +1,1 @@
+"""The trial of tables on a machine of QEMU."""

@@ -1,0 +1,1 @@
+"""Tables in the formats of real IOMMUs, packed from what agents see, and read back."""
