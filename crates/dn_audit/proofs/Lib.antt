@@ -6,6 +6,7 @@ pub mod Gates
 pub mod Joined
 pub mod Nodes
 pub mod One
+pub mod ShutOut
 pub mod Seeing
 pub mod Seers
 pub mod Several

@@ -1,7 +1,9 @@
 -- What slots of an image hold: records, and shut-out records.
-use Rattle.std.specs.Prelude.{ℕ, zero, suc, ◌+◌, ◌-◌, ◌*◌, ◌%◌, Bool, if◌then◌else◌, ◌&&◌, ◌==◌, not, is_some, List, [], ◌∷◌, ◌++◌, drop, slice_index_or, Option, Some, None}
+use Rattle.std.specs.Prelude.{◌≡◌, ◌↔◌, ◌<◌, ℕ, zero, suc, ◌+◌, ◌-◌, ◌*◌, ◌%◌, Bool, true, if◌then◌else◌, ◌&&◌, ◌==◌, not, is_some, List, [], ◌∷◌, ◌++◌, drop, slice_index_or, Option, Some, None}
 use Rattle.dn_net.specs.declared.node.NodeDecl.{NodeDecl}
 use Rattle.dn_net.specs.declared.node.Unit.{Unit as UnitPart}
+use Rattle.dn_net.specs.Chain.{Member}
+use Rattle.dn_net.specs.Decode.{unit_at}
 use Rattle.dn_kind.specs.declared.rights.Access.TheVariants.{Read, Write}
 use Rattle.dn_kind.specs.declared.unit_kind.Record.{Record}
 use Rattle.dn_kind.specs.Kind.{Meaning}
@@ -64,3 +66,18 @@ shut_of_nodes kinds h node [] words = []
 shut_of_nodes kinds h node (n ∷ ns) words =
     shut_of_unit kinds node n.unit (first_words words) (h node)
     ++ shut_of_nodes kinds h (suc node) ns (drop 1 words)
+
+-- the slot is shut out: its node is a unit that has it, the words have its gate set, and the records have none there
+pub record IsShutOut (net : List NodeDecl) (kinds : List Meaning) (h : Held) (words : List (List ℕ))
+    (node slot : ℕ) : Type 0 where
+  pub unit : UnitPart
+  pub is_unit : unit_at net node ≡ Some unit
+  pub within : slot < unit.slots
+  pub gate : has_gate (width_of kinds unit) (first_words (drop node words)) slot ≡ true
+  pub empty : h node slot ≡ None
+
+-- The slots that are listed are exactly those that are shut out.
+abbrev pub ShutAreShutOut : Type 0
+ShutAreShutOut = (net : List NodeDecl) (kinds : List Meaning) (h : Held) (words : List (List ℕ))
+    (node slot : ℕ) → Member (record { unit = node; slot = slot }) (shut_of_nodes kinds h 0 net words)
+    ↔ IsShutOut net kinds h words node slot

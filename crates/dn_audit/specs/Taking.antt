@@ -25,9 +25,9 @@ pub record IsStored {K : Type 0} {V : K → Type 0} (means : (k : K) × V k → 
   pub version : image.version ≡ version_of image.bytes.now
 
 -- what the bytes say
-abbrev pub words_in : {K : Type 0} {V : K → Type 0} → ((k : K) × V k → Meaning) →
+abbrev pub image_says : {K : Type 0} {V : K → Type 0} → ((k : K) × V k → Meaning) →
     StoredImage K V → ImageWords
-words_in means image = record {
+image_says means image = record {
   version = image.version;
   words = image_words image.on.net.now (kinds_of means image.on.kinds.now) image.bytes.now;
 }
@@ -36,7 +36,7 @@ words_in means image = record {
 abbrev pub records_in : {K : Type 0} {V : K → Type 0} → ((k : K) × V k → Meaning) →
     StoredImage K V → Held
 records_in means image =
-    image_records image.on.net.now (kinds_of means image.on.kinds.now) (words_in means image)
+    image_records image.on.net.now (kinds_of means image.on.kinds.now) (image_says means image)
 
 -- the records before a slot of a node
 abbrev pub front_records : Held → ℕ → ℕ → Held

@@ -1,6 +1,6 @@
 //! The input of an audit: reading up to a limit, and the parts that the first byte 0 parts.
 
-ghost use Rattle.std.specs.Prelude.{◌≡◌, ◌-◌, ◌<◌, ◌≤◌, length, take, IfOk, IfSome, IsErrOf, vec_len};
+ghost use Rattle.std.specs.Prelude.{◌≡◌, ◌++◌, ◌-◌, ◌<◌, ◌≤◌, length, take, IfOk, IfSome, IsErrOf, vec_len};
 ghost use Rattle.std.specs.Option.{option_copied};
 ghost use Rattle.dn_base.specs.Terms.{AtEnd, IsCounted, Taken, TakenAtMost, is_input_fault};
 ghost use Rattle.dn_audit.specs.Terms.{image_part, text_part, zero_at};
@@ -33,6 +33,8 @@ pub fn read_up_to<S: Source>(
     ensures front { IfOk result (λ input.
         IfSome (S.left source.old) (λ told. input.items ≡ take limit told)) }
     ensures at_most { TakenAtMost limit (S.left source.old) (S.left source.new) }
+    // What was read is what the reads of this call gave.
+    ensures given { IfOk result (λ input. S.given source.new ≡ S.given source.old ++ input.items) }
     // A fault comes only before the limit was taken: no read is made after that.
     ensures before_limit { IsErrOf result InputFault.Failed →
         TakenAtMost (limit - 1) (S.left source.old) (S.left source.new) }

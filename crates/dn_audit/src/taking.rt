@@ -5,7 +5,7 @@ ghost use Rattle.dn_net.specs.Terms.{unit_at};
 ghost use Rattle.dn_kind.specs.Terms.{kinds_of};
 ghost use Rattle.dn_tables.specs.Terms.{FitsNet};
 ghost use Rattle.dn_image.specs.Terms.{width_of, word_count, words_spelled};
-ghost use Rattle.dn_audit.specs.Terms.{HoldsRecords, IsFilledTo, IsStored, held_of_nodes, held_of_unit, records_in, shut_of_nodes, shut_of_unit, shut_slot, words_in};
+ghost use Rattle.dn_audit.specs.Terms.{HoldsRecords, IsFilledTo, IsStored, held_of_nodes, held_of_unit, records_in, shut_of_nodes, shut_of_unit, shut_slot, image_says};
 
 use crate::OutOfMemory;
 use crate::report::Shut;
@@ -37,7 +37,7 @@ pub(crate) fn take(alloc: Global, image: StoredImage) -> Result<(TableSet, Found
         ≡ held_of_nodes (records_in meaning image.entry) 0 image.entry.on.net.now) }
     ensures shut { IfOk result (λ taken. taken.1.shut
         ≡ shut_of_nodes (kinds_of meaning image.entry.on.kinds.now) (records_in meaning image.entry)
-        0 image.entry.on.net.now (words_in meaning image.entry).words) }
+        0 image.entry.on.net.now (image_says meaning image.entry).words) }
 {
     let mut device = Sizes::none(alloc);
     let mut tables = TableSet::make(alloc, image.on, &mut device).or(Err(OutOfMemory))?;
@@ -76,7 +76,7 @@ fn take_node<D: Tables>(
     ensures shut { OnOk result (found.new.shut ≡ found.old.shut
         ++ shut_of_unit (kinds_of meaning image.entry.on.kinds.now) node
         (unit_at image.entry.on.net.now node)
-        (slice_index_or (words_in meaning image.entry).words node [])
+        (slice_index_or (image_says meaning image.entry).words node [])
         (records_in meaning image.entry node)) }
 {
     let Some(unit) = image.on.net.unit(node) else {
@@ -105,7 +105,7 @@ fn take_slot<D: Tables>(
     requires slot { slot < unit.now.slots }
     requires room { 8 * word_count (kinds_of meaning image.on.kinds.now) (Some unit.now)
         ≤ length bytes.now }
-    requires words { slice_get (words_in meaning image).words node ≡ Some (words_spelled
+    requires words { slice_get (image_says meaning image).words node ≡ Some (words_spelled
         (word_count (kinds_of meaning image.on.kinds.now) (Some unit.now)) bytes.now) }
     requires few { found.old.records < 2 ^ 31 }
     requires filled { IsFilledTo image.on.net.now (kinds_of meaning image.on.kinds.now)
@@ -117,7 +117,7 @@ fn take_slot<D: Tables>(
         + (if is_some (records_in meaning image.entry node slot) then 1 else 0)) }
     ensures shut { OnOk result (found.new.shut ≡ found.old.shut
         ++ shut_slot node (width_of (kinds_of meaning image.entry.on.kinds.now) unit.now)
-        (slice_index_or (words_in meaning image.entry).words node [])
+        (slice_index_or (image_says meaning image.entry).words node [])
         (records_in meaning image.entry node) slot) }
 {
     let kinds = image.on.kinds;

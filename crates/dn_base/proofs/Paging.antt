@@ -5,7 +5,7 @@ use Rattle.std.proofs.lemmas.List.{get_or_past, length-set, length-replicate, ge
 use Rattle.std.proofs.lemmas.List.FromFn.{fill_by_all, get_or-map-range_with_len, length-map-range_with_len}
 use Rattle.dn_base.proofs.Booleans.{and_from}
 use Rattle.dn_base.proofs.Orders.{cases_eq, cases_lt, lt-ltb}
-use Rattle.dn_base.specs.Paged.{ArePaged, item_at, item_by, paged_items, unmade}
+use Rattle.dn_base.specs.Paged.{ArePaged, NoneFrom, item_at, item_by, paged_items, unmade}
 
 -- THE PAGES
 
@@ -32,6 +32,9 @@ fresh_pages n capacity count h k =
       whole = λ i l. absurd (omega (arith, l, zeros n i));
       apart = λ i j d l m. absurd (omega (arith, l, zeros n i));
     }
+
+pub fresh_none : (n : ℕ) → NoneFrom 0 (replicate n 0)
+fresh_none n = record { within = omega arith; none = λ page l. zeros n page }
 
 -- one page less is to be made
 one_made : (ends : List ℕ) (page n : ℕ) → page < length ends → get_or ends page 0 ≡ 0 → unmade ends ≡ suc (unmade (set ends page (suc n)))
@@ -84,6 +87,13 @@ module _ {items capacity count page : ℕ} {ends : List ℕ} (f : ArePaged items
       are_apart i j (inr ne) (inr other) d l m =
           let apart = f.apart i j d (omega (arith, there i ne, l)) (omega (arith, there i ne, there j other, m)) in
           omega (arith, there i ne, there j other, apart)
+
+-- a page was made, and none behind it
+pub none_behind : (top page high : ℕ) (ends es : List ℕ) → NoneFrom top ends → length es ≡ length ends → page < length ends → ((other : ℕ) → page < other → get_or es other 0 ≡ get_or ends other 0) → top ≤ high → page < high → high ≤ length ends → NoneFrom high es
+none_behind top page high ends es f size there later above over within = record {
+  within = omega (arith, size, within);
+  none = λ other l. later other (omega (arith, l, over)) ∙ f.none other (omega (arith, l, above));
+}
 
 -- a place has a page
 pub page_there : {items capacity count : ℕ} {ends : List ℕ} → ArePaged items capacity ends count → (at : ℕ) → at < count → at / 256 < length ends

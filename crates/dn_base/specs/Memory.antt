@@ -26,9 +26,10 @@ pub record IsCall (old new : CallState) (failed : Bool) : Type 0 where
   pub few : new.faults ≤ 2 ^ 32
   pub same : new.failing ≡ old.failing
 
--- bytes in memory: what is left, at most how many a call gives, and the calls
+-- bytes in memory: what is left, what was given so far, at most how many a call gives, and the calls
 pub record SourceState : Type 0 where
   pub left : List ℕ
+  pub given : List ℕ
   pub most : ℕ
   pub calls : CallState
 

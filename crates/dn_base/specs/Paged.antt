@@ -30,3 +30,8 @@ pub record ArePaged (items capacity : ℕ) (ends : List ℕ) (count : ℕ) : Typ
   pub within : (page : ℕ) → get_or ends page 0 ≤ items
   pub whole : (page : ℕ) → 0 < get_or ends page 0 → 256 ≤ get_or ends page 0
   pub apart : (page other : ℕ) → page ≢ other → 0 < get_or ends page 0 → get_or ends page 0 ≤ get_or ends other 0 → get_or ends page 0 + 256 ≤ get_or ends other 0
+
+-- the pages from this number on were not made
+pub record NoneFrom (top : ℕ) (ends : List ℕ) : Type 0 where
+  pub within : top ≤ length ends
+  pub none : (page : ℕ) → top ≤ page → get_or ends page 0 ≡ 0

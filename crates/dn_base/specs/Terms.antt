@@ -4,5 +4,5 @@ pub use Rattle.dn_base.specs.Device.{KeepsEvent, Logged, PlacedAt, UnitSize, has
 pub use Rattle.dn_base.specs.Faults.{is_input_fault, is_write_fault}
 pub use Rattle.dn_base.specs.Memory.{IsCall, faults_of, no_calls}
 pub use Rattle.dn_base.specs.Outside.{Added, AtEnd, Faults, IsCounted, IsWritten, Taken, TakenAtMost, input_limit, next_count}
-pub use Rattle.dn_base.specs.Paged.{ArePaged, item_at}
+pub use Rattle.dn_base.specs.Paged.{ArePaged, NoneFrom, item_at}
 pub use Rattle.dn_base.specs.Stream.{stream_faults}

@@ -2,7 +2,7 @@
 
 ghost use Rattle.std.specs.Prelude.{◌≡◌, ◌<◌, ◌≤◌, ◌+◌, ◌-◌, ◌*◌, ◌/◌, ◌++◌, ◌^◌, ℕ, get_or, length, nat_lt, replicate, slice_index_or, slice_set, vec_capacity, vec_len, IfOk, IsTrue};
 ghost use Rattle.std.specs.List.{list_all};
-ghost use Rattle.dn_base.specs.Terms.{ArePaged, item_at};
+ghost use Rattle.dn_base.specs.Terms.{ArePaged, NoneFrom, item_at};
 
 use std::alloc::{AllocError, Global};
 use std::marker::Model;
@@ -19,19 +19,22 @@ pub struct Filled<T> {
     items: Vec<T>,
     /// For each page where it ends among those, or 0 where it was not made.
     ends: Vec<usize>,
+    /// Behind the last page that was made.
+    top: usize,
     rest: T,
     count: usize,
 }
 
 impl<T> Model for Filled<T> {
     ghost use Rattle.std.specs.Prelude.{List, length, vec_capacity};
-    ghost use Rattle.dn_base.specs.Paged.{ArePaged, paged_items};
+    ghost use Rattle.dn_base.specs.Paged.{ArePaged, NoneFrom, paged_items};
 
     ghost Value = { List T };
 
     ghost view = { λ s. paged_items s.items.items s.ends.items s.rest s.count };
 
-    ghost invariant = { λ s. ArePaged (length s.items.items) (vec_capacity s.items) s.ends.items s.count };
+    ghost invariant = { λ s. ArePaged (length s.items.items) (vec_capacity s.items) s.ends.items s.count
+        × NoneFrom s.top s.ends.items };
 }
 
 impl<T: Copy> Filled<T> {
@@ -48,6 +51,7 @@ impl<T: Copy> Filled<T> {
         Ok(Filled {
             items,
             ends,
+            top: 0,
             rest: value,
             count,
         })
@@ -74,7 +78,9 @@ impl<T: Copy> Filled<T> {
         ensures { self.new ≡ slice_set self.old at item }
     {
         let rest = self.rest;
-        let end = page_end(&mut self.items, &mut self.ends, rest, self.count, at / PAGE);
+        let page = at / PAGE;
+        let end = page_end(&mut self.items, &mut self.ends, rest, self.count, page);
+        self.top = self.top.max(page + 1);
         let place = end - PAGE + at % PAGE;
         self.items[place] = item;
     }
@@ -82,19 +88,19 @@ impl<T: Copy> Filled<T> {
 
 impl Filled<u64> {
     /// From which place on each item is 0: behind the last page that was made, or behind all where the items of the
-    /// others are not 0. Time of the pages.
+    /// others are not 0.
     pub fn zeros_from(&self) -> usize
         ensures { (k : ℕ) → result ≤ k → get_or self.now k 0 ≡ 0 }
     {
         if self.rest != 0 {
             return self.count;
         }
-        let ends = self.ends.as_slice();
-        let mut pages = ends.len();
-        while pages > 0 && ends[pages - 1] == 0 {
-            pages -= 1;
-        }
-        pages * PAGE
+        self.top * PAGE
+    }
+
+    /// How many places the pages have that were made: an item that was never set may have one of them.
+    pub fn made(&self) -> usize {
+        self.items.len()
     }
 
     /// Each item is a number of 64 bits, for a proof of its caller. It looks at none of them.
@@ -155,6 +161,9 @@ fn page_end<T: Copy>(
         ends.new.items count }
     ensures end { result ≡ get_or ends.new.items page 0 }
     ensures made { 0 < result }
+    ensures pages { length ends.new.items ≡ length ends.old.items }
+    ensures later { (other : ℕ) → page < other
+        → get_or ends.new.items other 0 ≡ get_or ends.old.items other 0 }
     ensures same { (at : ℕ) → item_at items.new.items ends.new.items value at
         ≡ item_at items.old.items ends.old.items value at }
 {

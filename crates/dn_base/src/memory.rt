@@ -4,7 +4,7 @@
 //! value. A call fails exactly where its number stands in the object's list `failing`, so a call past
 //! number 2^32 - 1 never fails, and with an empty list none does.
 
-ghost use Rattle.std.specs.Prelude.{◌≡◌, ◌<◌, ◌≤◌, ◌↔◌, min, Some, [], length, take, IfOk, OnErr, is_err};
+ghost use Rattle.std.specs.Prelude.{◌≡◌, ◌<◌, ◌≤◌, ◌↔◌, ◌++◌, min, Some, [], length, take, IfOk, OnErr, is_err};
 ghost use Rattle.dn_base.specs.Terms.{Added, IsCall, IsCounted, Taken, faults_of, is_write_fault, no_calls};
 
 use crate::calls::Calls;
@@ -23,12 +23,17 @@ pub struct MemSource {
 }
 
 impl Model for MemSource {
-    ghost use Rattle.std.specs.Prelude.{◌<◌, ◌≤◌, drop, vec_len};
+    ghost use Rattle.std.specs.Prelude.{◌<◌, ◌≤◌, drop, take, vec_len};
     ghost use Rattle.dn_base.specs.Memory.{SourceState};
 
     ghost Value = { SourceState };
 
-    ghost view = { λ s. record { left = drop s.at s.bytes.items; most = s.most; calls = s.calls } };
+    ghost view = { λ s. record {
+      left = drop s.at s.bytes.items;
+      given = take s.at s.bytes.items;
+      most = s.most;
+      calls = s.calls;
+    } };
 
     ghost invariant = { λ s. (s.at ≤ vec_len s.bytes) × (0 < s.most) };
 }
@@ -39,7 +44,7 @@ impl MemSource {
     pub fn new(bytes: Vec<u8>, most: usize, failing: Vec<u32>) -> MemSource
         requires { 0 < most }
         ensures { result ≡
-            record { left = bytes.items; most = most; calls = no_calls failing.items } }
+            record { left = bytes.items; given = []; most = most; calls = no_calls failing.items } }
     {
         MemSource {
             bytes,
@@ -52,6 +57,8 @@ impl MemSource {
 
 impl Source for MemSource {
     ghost left = { λ s. Some s.left };
+
+    ghost given = { λ s. s.given };
 
     ghost faults = { λ s. faults_of s.calls };
 
@@ -69,6 +76,8 @@ impl Source for MemSource {
         ensures end { IfOk result (λ n. 0 < length into.old → n ≡ 0 → self.new.left ≡ []) }
         ensures only_end { IfOk result (λ n. 0 < length into.old → n ≡ 0 ↔ self.old.left ≡ []) }
         ensures untaken { OnErr result (self.new.left ≡ self.old.left) }
+        ensures gave { IfOk result (λ n. self.new.given ≡ self.old.given ++ take n into.new) }
+        ensures ungiven { OnErr result (self.new.given ≡ self.old.given) }
         ensures counted { IsCounted (faults_of self.old.calls)
             (faults_of self.new.calls) (is_err result) }
         ensures called { IsCall self.old.calls self.new.calls (is_err result) }

@@ -1,6 +1,6 @@
 //! What bytes come from, and the fault of a read.
 
-ghost use Rattle.std.specs.Prelude.{◌≡◌, ℕ, ◌<◌, ◌≤◌, ◌↔◌, Option, List, [], length, take, IfOk, IfSome, OnErr, is_err};
+ghost use Rattle.std.specs.Prelude.{◌≡◌, ℕ, ◌<◌, ◌≤◌, ◌↔◌, ◌++◌, Option, List, [], length, take, IfOk, IfSome, OnErr, is_err};
 ghost use Rattle.dn_base.specs.Terms.{AtEnd, Faults, IsCounted, Taken};
 
 use thiserror::Error;
@@ -17,6 +17,9 @@ pub enum ReadFault {
 pub trait Source {
     /// The bytes that are left, where the source tells them.
     ghost left: { Self → Option (List ℕ) };
+
+    /// The bytes that its reads gave so far, in order.
+    ghost given: { Self → List ℕ };
 
     /// What the source tells of its faults.
     ghost faults: { Self → Faults };
@@ -38,5 +41,7 @@ pub trait Source {
         ensures only_end { IfOk result (λ n. 0 < length into.old →
             IfSome (left self.old) (λ rest. n ≡ 0 ↔ rest ≡ [])) }
         ensures untaken { OnErr result (left self.new ≡ left self.old) }
+        ensures gave { IfOk result (λ n. given self.new ≡ given self.old ++ take n into.new) }
+        ensures ungiven { OnErr result (given self.new ≡ given self.old) }
         ensures counted { IsCounted (faults self.old) (faults self.new) (is_err result) };
 }

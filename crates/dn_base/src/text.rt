@@ -49,7 +49,7 @@ impl Text {
         self.text
     }
 
-    /// The same text once more. Only the number of those who hold it is changed.
+    /// Another holder of this text, which is not copied: only the number of its holders changes.
     pub fn share(&self) -> Result<Text, AllocError>
         ensures { IfOk result (λ t. t ≡ self.now) }
     {

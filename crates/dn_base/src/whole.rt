@@ -1,6 +1,6 @@
 //! Reading a source to its end, and writing a whole piece.
 
-ghost use Rattle.std.specs.Prelude.{◌≡◌, ◌-◌, ◌<◌, ◌≤◌, [], take, IfOk, IfSome, IsErrOf, is_err, is_ok, vec_len};
+ghost use Rattle.std.specs.Prelude.{◌≡◌, ◌++◌, ◌-◌, ◌<◌, ◌≤◌, [], take, IfOk, IfSome, IsErrOf, is_err, is_ok, vec_len};
 ghost use Rattle.dn_base.specs.Terms.{AtEnd, IsCounted, IsWritten, Taken, TakenAtMost, input_limit, is_input_fault, is_write_fault};
 
 use crate::sink::{Sink, WriteFault};
@@ -42,6 +42,8 @@ pub fn read_whole<S: Source>(alloc: Global, source: &mut S) -> Result<Vec<u8>, I
     ensures front { IfOk result (λ text.
         IfSome (S.left source.old) (λ told. text.items ≡ take input_limit told)) }
     ensures at_most { TakenAtMost input_limit (S.left source.old) (S.left source.new) }
+    // What was read is what the reads of this call gave.
+    ensures given { IfOk result (λ text. S.given source.new ≡ S.given source.old ++ text.items) }
     // A fault comes only before the limit was taken: no read is made after that.
     ensures before_limit { IsErrOf result InputFault.Failed →
         TakenAtMost (input_limit - 1) (S.left source.old) (S.left source.new) }

@@ -20,5 +20,11 @@ pub mod Moments
 pub mod Flown
 pub mod Scripts
 pub mod Sizes
+pub mod Decided
+pub mod Listed
+pub mod Suitable
+pub mod Sought
+pub mod Scatters
+pub mod SomeTurn
 pub mod Stopped
 pub mod Pages

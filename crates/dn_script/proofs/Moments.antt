@@ -26,7 +26,7 @@ use Rattle.dn_tables.specs.declared.placement.Hop.{Hop}
 use Rattle.dn_gather.specs.declared.piece.Piece.{Piece}
 use Rattle.dn_gather.specs.declared.scatter.Scatter.{Scatter}
 use Rattle.dn_gather.specs.Gather.{IsScattered, grants_of}
-use Rattle.dn_gather.specs.Grants.{AreGrantsFor, gather_events, grant_at, grants_at}
+use Rattle.dn_gather.specs.Grants.{AreGrantsFor, gather_events, piece_grant, grants_at}
 use Rattle.dn_gather.proofs.Allowed.{scattered_grants}
 use Rattle.dn_gather.proofs.Coming.{pieces_come_in_turn}
 use Rattle.dn_script.specs.Books.{IsKeptFaithful}
@@ -170,7 +170,7 @@ module _ (kinds : List Meaning) (net : List NodeDecl) (lawful : All IsLawful kin
   pieces_rise agent rights unit book cleared v [] hops sound f = subst (λ (b : List GrantPart). Rises book cleared [] b cleared) (sym (append-nil book)) (rises_none book cleared sound)
   pieces_rise agent rights unit book cleared v (p ∷ ps) [] sound f = absurd f.placed
   pieces_rise agent rights unit book cleared v (p ∷ ps) (hop ∷ hops) sound f =
-      let g : GrantPart = grant_at agent rights v p hop in
+      let g : GrantPart = piece_grant agent rights v p hop in
       let gs : List GrantPart = grants_at agent rights (v + p.size) ps hops in
       let after : List GrantPart = book ++ g ∷ [] in
       let es : List TableEvent = grant_events net kinds book cleared g in

@@ -1,5 +1,5 @@
 -- A command that meets a sound book has one turn, and a script over a legal net one list of turns.
-use Rattle.std.proofs.Common.{◌≡◌, ◌∙◌, sym, ap, subst, refl, arith, ℕ, ◌<◌, ◌==◌, ◌⊎◌, inl, inr, false, true, List, [], ◌∷◌, length, Option, Some, None, eq-eqb}
+use Rattle.std.proofs.Common.{◌≡◌, ◌∙◌, sym, ap, subst, refl, arith, ℕ, zero, suc, ◌<◌, ◌==◌, ◌⊎◌, inl, inr, false, true, List, [], ◌∷◌, length, take, Option, Some, None, eq-eqb}
 use Rattle.dn_base.proofs.Members.{member_none}
 use Rattle.std.proofs.lemmas.Option.{same_Some}
 use Rattle.dn_net.specs.declared.node.NodeDecl.{NodeDecl}
@@ -36,7 +36,7 @@ use Rattle.dn_script.specs.Asked.{number_or_none, numbered, request_of, rights_o
 use Rattle.dn_script.specs.Books.{IsKeptFaithful}
 use Rattle.dn_script.specs.Changed.{gather_refused_text, gathered_text, grant_refused_text, granted_text, revoked_text, route_refused_text, routed_text}
 use Rattle.dn_script.specs.Ids.{id_number, with_id}
-use Rattle.dn_script.specs.Turn.{AreTurns, IsGatherTurn, IsGrantTurn, IsRevokeTurn, IsRouteTurn, State, Turn, TurnIsOne, TurnsAreOne, reply_turn, start, state_with_id, state_with_ids, turn_with_grant, turn_with_grants}
+use Rattle.dn_script.specs.Turn.{AreTurns, FirstTurnsAreFirst, IsGatherTurn, IsGrantTurn, IsRevokeTurn, IsRouteTurn, State, Turn, TurnIsOne, TurnsAreOne, reply_turn, start, state_with_id, state_with_ids, turn_with_grant, turn_with_grants}
 use Rattle.dn_script.proofs.Books.{empty_kept, turn_keeps}
 
 -- a refusal is that for want of a placement, or the one that needs no search
@@ -189,3 +189,13 @@ one_by_one kinds net s (c ∷ cs) ts us legal kept g h =
 
 pub turns_are_one : TurnsAreOne
 turns_are_one kinds net commands turns others legal g h = one_by_one kinds net start commands turns others legal (empty_kept net legal) g h
+
+-- the first turns are turns of the first commands
+front_turns : (kinds : List Meaning) (net : List NodeDecl) (s : State) (cs : List Command) (ts : List Turn) (count : ℕ) → AreTurns kinds net s cs ts → AreTurns kinds net s (take count cs) (take count ts)
+front_turns kinds net s cs ts zero h = refl
+front_turns kinds net s [] ts (suc count) h = ap (take (suc count)) h
+front_turns kinds net s (c ∷ cs) ts (suc count) h = (h.0, take count h.1, ap (take (suc count)) h.2, h.3, front_turns kinds net h.0.next cs h.1 count h.4)
+
+pub first_turns_are_first : FirstTurnsAreFirst
+first_turns_are_first kinds net commands count first turns legal h all =
+    turns_are_one kinds net (take count commands) first (take count turns) legal h (front_turns kinds net start commands turns count all)

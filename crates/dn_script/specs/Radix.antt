@@ -27,8 +27,8 @@ tree_text name ws (Ok bytes) = pages_heading name (tree_pages ws) ++ lines_text 
 tree_text name ws (Err need) = pool_text name need
 
 -- the words of a node in the tables of a book
-abbrev pub node_words : List Meaning → List NodeDecl → List GrantPart → ℕ → List ℕ
-node_words kinds net book n = slice_index_or (tables_of net kinds book) n []
+abbrev pub book_words : List Meaning → List NodeDecl → List GrantPart → ℕ → List ℕ
+book_words kinds net book n = slice_index_or (tables_of net kinds book) n []
 
 -- a node that has these parts of a unit, where it has any
 abbrev pub node_with : ℕ → Option UnitPart → Option ℕ
@@ -36,17 +36,17 @@ node_with n None = None
 node_with n (Some u) = Some n
 
 -- a node that a command names, where it is a unit
-abbrev pub unit_of : List NodeDecl → Option ℕ → Option ℕ
-unit_of net None = None
-unit_of net (Some n) = node_with n (unit_at net n)
+abbrev pub named_unit : List NodeDecl → Option ℕ → Option ℕ
+named_unit net None = None
+named_unit net (Some n) = node_with n (unit_at net n)
 
 -- the reply to `radix` by the unit, where there is one
 abbrev pub radix_by : List Meaning → List NodeDecl → List GrantPart → List ℕ → ℕ → Option ℕ → List ℕ
 radix_by kinds net book name pool None = node_refused_text (codes "radix") name (codes "NoUnit")
 radix_by kinds net book name pool (Some n) =
-    tree_text name (node_words kinds net book n) (built (node_words kinds net book n) pool)
+    tree_text name (book_words kinds net book n) (built (book_words kinds net book n) pool)
 
 -- the reply to `radix`
 abbrev pub radix_text : List Meaning → List NodeDecl → List GrantPart → Target → ℕ → List ℕ
 radix_text kinds net book target pool =
-    radix_by kinds net book target.text pool (unit_of net target.node)
+    radix_by kinds net book target.text pool (named_unit net target.node)

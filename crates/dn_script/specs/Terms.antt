@@ -8,9 +8,9 @@ pub use Rattle.dn_script.specs.Halt.{HaltsByDevice, HaltsByEither, HaltsBySink, 
 pub use Rattle.dn_script.specs.Ids.{id_number, with_id}
 pub use Rattle.dn_script.specs.Machine.{IsMachine, MayRun}
 pub use Rattle.dn_script.specs.Played.{IsPlayed, IsPlayedOn}
-pub use Rattle.dn_script.specs.Radix.{node_words, pages_heading, pool_text, tree_text, unit_of}
+pub use Rattle.dn_script.specs.Radix.{book_words, pages_heading, pool_text, tree_text, named_unit}
 pub use Rattle.dn_script.specs.Reshape.{absorb_text, absorbed_text, limit_text, made_text, no_node_text, reason_text, refusal_text, split_text, unfit_text}
 pub use Rattle.dn_script.specs.State.{CameThrough, IsChangeDone, IsFirstView, IsReady, IsReadyOn, IsStill, MayBegin, state_view}
-pub use Rattle.dn_script.specs.Turn.{IsGatherTurn, IsGrantTurn, IsRevokeTurn, IsRouteTurn, IsTurn, TurnIsOne, TurnsAreOne, is_change, is_pieced, reply, start}
+pub use Rattle.dn_script.specs.Turn.{CommandHasTurn, FirstTurnsAreFirst, IsGatherTurn, IsGrantTurn, IsRevokeTurn, IsRouteTurn, IsTurn, ScriptHasTurns, TurnIsOne, TurnsAreOne, is_change, is_pieced, reply, start}
 pub use Rattle.dn_script.specs.Unmade.{AreUnmade, IsPassed, IsUnfit, IsUnfitFor}
 pub use Rattle.dn_script.specs.Viewed.{OwedRowsAreNormal, owed_rows, view_heading, viewed_text}

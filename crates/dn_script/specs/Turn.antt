@@ -1,6 +1,6 @@
 -- The turns of a script: what each command does to the device, what it is answered by, and the state
 -- that it leaves.
-use Rattle.std.specs.Prelude.{◌≡◌, ℕ, ◌⊎◌, Bool, true, false, List, [], ◌∷◌, ◌++◌, length}
+use Rattle.std.specs.Prelude.{◌≡◌, ℕ, ◌⊎◌, Bool, true, false, List, [], ◌∷◌, ◌++◌, length, take}
 use Rattle.std.specs.List.{flat_map}
 use Rattle.dn_base.specs.declared.device.TableEvent.{TableEvent}
 use Rattle.dn_net.specs.declared.node.NodeDecl.{NodeDecl}
@@ -250,6 +250,16 @@ replies_of turns = flat_map (λ t. t.reply) turns
 abbrev pub events_of : List Turn → List TableEvent
 events_of turns = flat_map (λ t. t.events) turns
 
+-- A command that meets a sound book over a legal net has a turn.
+abbrev pub CommandHasTurn : Type 0
+CommandHasTurn = (kinds : List Meaning) (net : List NodeDecl) (s : State) (c : Command) → IsLegalNet net →
+    IsSound net s.book → (t : Turn) × IsTurn kinds net s c t
+
+-- A script over a legal net has a list of turns.
+abbrev pub ScriptHasTurns : Type 0
+ScriptHasTurns = (kinds : List Meaning) (net : List NodeDecl) (commands : List Command) → IsLegalNet net →
+    (turns : List Turn) × AreTurns kinds net start commands turns
+
 -- A command that meets a sound book has one turn at most.
 abbrev pub TurnIsOne : Type 0
 TurnIsOne = (kinds : List Meaning) (net : List NodeDecl) (s : State) (c : Command) (t u : Turn) →
@@ -260,3 +270,9 @@ abbrev pub TurnsAreOne : Type 0
 TurnsAreOne = (kinds : List Meaning) (net : List NodeDecl) (commands : List Command)
     (turns others : List Turn) → IsLegalNet net → AreTurns kinds net start commands turns →
     AreTurns kinds net start commands others → turns ≡ others
+
+-- The turns of the first commands of a script over a legal net are the first turns of the script.
+abbrev pub FirstTurnsAreFirst : Type 0
+FirstTurnsAreFirst = (kinds : List Meaning) (net : List NodeDecl) (commands : List Command) (count : ℕ)
+    (first turns : List Turn) → IsLegalNet net → AreTurns kinds net start (take count commands) first →
+    AreTurns kinds net start commands turns → first ≡ take count turns

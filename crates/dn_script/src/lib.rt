@@ -1,9 +1,17 @@
 //! Scripts: the commands of a text are answered one after the other, on a machine.
 //!
-//! [`script`] answers the commands: [`state`] is what is kept meanwhile on a [`machine`], [`change`] does grants, routes
-//! and revokes under their [`ids`], and [`pieces`] grants buffers in pieces. [`reply`] spells the other answers, those to
-//! `split` and `absorb` by [`reshape`] and that to `radix` by [`radix`]. What is written goes to a sink by [`output`],
-//! and [`lines`] some at once; [`halt`] says why an answer stops.
+//! ```text
+//! let mut state = Session::make(alloc, machine, &mut device)?;
+//! script::answer_all(alloc, machine, &mut state, &commands, &mut sink, &mut device)?;
+//! ```
+//!
+//! Each command has a turn: its events on the device, its reply, and the book after it. A reply is
+//! written before the next command begins, and [`halt`] says why a script stops before its end.
+//!
+//! [`state`] is what is kept meanwhile on a [`machine`], [`change`] does grants, routes and revokes
+//! under their [`ids`], and [`pieces`] grants buffers in pieces. [`reply`] spells the other
+//! answers, those to `split` and `absorb` by [`reshape`] and that to `radix` by [`radix`]. What is
+//! written goes to a sink by [`output`], and [`lines`] some at once.
 #![tactic(auto)]
 
 pub mod change;

@@ -6,7 +6,7 @@ ghost use Rattle.dn_net.specs.Terms.{over_within, unit_at};
 ghost use Rattle.dn_kind.specs.Terms.{kinds_of};
 ghost use Rattle.dn_radix.specs.Terms.{built};
 ghost use Rattle.dn_print.specs.Terms.{lines_text};
-ghost use Rattle.dn_script.specs.Terms.{HaltsBySink, IsReady, Writes, node_words, pages_heading, pool_text, tree_text, unit_of};
+ghost use Rattle.dn_script.specs.Terms.{HaltsBySink, IsReady, Writes, book_words, pages_heading, pool_text, tree_text, named_unit};
 
 use crate::OutOfMemory;
 use crate::halt::RunHalt;
@@ -26,7 +26,7 @@ const PAGE: usize = 4096;
 /// A node that a command names, where it is a unit.
 pub fn unit_of(net: &Net, node: Option<u16>) -> Option<u16>
     requires { IsTrue (over_within (length net.now) node) }
-    ensures which { result ≡ unit_of net.now node }
+    ensures which { result ≡ named_unit net.now node }
     ensures unit { IfSome result (λ n. IsSome (unit_at net.now n)) }
 {
     let Some(node) = node else {
@@ -47,7 +47,7 @@ pub fn unit_words(
 ) -> Result<Vec<u64>, OutOfMemory>
     requires ready { IsReady meaning machine state.now }
     requires unit { IsSome (unit_at machine.on.net.now unit) }
-    ensures words { IfOk result (λ v. v.items ≡ node_words (kinds_of
+    ensures words { IfOk result (λ v. v.items ≡ book_words (kinds_of
         meaning machine.entry.on.kinds.now) machine.entry.on.net.now state.now.book.grants unit) }
     ensures few { IfOk result (λ v. length v.items ≤ 1048576) }
 {

@@ -1,7 +1,8 @@
 -- The answer to what was read of the source is the answer to all its bytes.
-use Rattle.std.proofs.Common.{arith, ◌≡◌, ◌∙◌, ap, sym, subst, cond, ◌<◌, ◌⊎◌, inl, inr, Bool, true, false, nat_lt, List, [], ◌++◌, length, Option, Some, None, Result, Ok, Err, append-nil, length-append, refl, ℕ}
+use Rattle.std.proofs.Common.{arith, ◌≡◌, ◌∙◌, ap, sym, subst, cond, ◌<◌, ◌≤◌, ◌⊎◌, inl, inr, Bool, true, false, nat_lt, List, [], ◌++◌, length, take, Option, Some, None, Result, Ok, Err, append-nil, length-append, refl, ℕ}
 use Rattle.std.specs.Option.{IfSome}
 use Rattle.dn_base.specs.Outside.{Taken, AtEnd, input_limit}
+use Rattle.dn_base.proofs.Lists.{take_past}
 use Rattle.dn_parse.specs.Whole.{too_long}
 use Rattle.dn_parse.proofs.Judge.{text_too_long}
 use Rattle.dn_kind.specs.Kind.{Meaning}
@@ -80,6 +81,11 @@ told_or (Some told) bytes = told
 pub told_is : (left : Option (List ℕ)) (bytes : List ℕ) → IfSome left (λ source. source ≡ told_or left bytes)
 told_is None bytes = tt
 told_is (Some told) bytes = refl
+
+-- what was read is so much of what the source told, where it tells that
+pub gave_all : (left : Option (List ℕ)) (bytes : List ℕ) (limit : ℕ) → length bytes ≤ limit → IfSome left (λ told. bytes ≡ take limit told) → bytes ≡ take limit (told_or left bytes)
+gave_all None bytes limit few front = sym (take_past bytes limit few)
+gave_all (Some told) bytes limit few front = front
 
 -- what holds of the answer to what was read holds of the answer to all bytes, where the source tells them
 pub input_answer : (left after : Option (List ℕ)) (w : List (List ℕ)) (task : Task) (kinds : List Meaning) (bytes : List ℕ) (P : Answer → Type 0) → task_of w ≡ Some task → task_reads task ≡ true → Taken left after bytes → (length bytes < limit_for (Some task) → AtEnd after) → P (bytes_answer task kinds bytes) → P (answer w kinds (told_or left bytes))

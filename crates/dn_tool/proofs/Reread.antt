@@ -28,7 +28,7 @@ use Rattle.dn_parse.specs.Whole.{TextFault, text_reading}
 use Rattle.dn_net.specs.Parts.{parts_of_node}
 use Rattle.dn_scope.specs.Faults.{ExpansionFault}
 use Rattle.dn_module.specs.Expand.{Expansion, expansion_of}
-use Rattle.dn_print.specs.Spelled.{IsFull}
+use Rattle.dn_print.specs.Spelled.{IsFullName}
 use Rattle.dn_print.specs.Printable.{IsPrintableBlock, IsPrintableEntry, HasPrintableUnit, IsPrintableNode, IsPrintable}
 use Rattle.dn_print.proofs.Drafted.{printable_back}
 use Rattle.dn_print.proofs.Formed.{each_both}
@@ -70,7 +70,7 @@ abbrev HasDests : Entry → Type 0
 HasDests e = 1 ≤ length e.dests
 
 record Says (kinds : List Meaning) (n : NodeDecl) : Type 0 where
-  name : IsFull n.text
+  name : IsFullName n.text
   some : Each HasDests n.entries
   unit : HasPrintableUnit kinds n.unit
 
@@ -163,7 +163,7 @@ net_says kinds net h = each_implied (IsPrintableNode kinds) (Says kinds) (printa
 
 -- SPLITTING
 -- the name of a new node: that of the divided one, a dot, and `accK`
-accepter_full : (text : List ℕ) (k : ℕ) → IsFull text → IsFull (accepter_text text k)
+accepter_full : (text : List ℕ) (k : ℕ) → IsFullName text → IsFullName (accepter_text text k)
 accepter_full text k h = full_both text (codes "acc" ++ decimal k) h (full_one (record { title = codes "acc" ++ decimal k; index = None }) (acc_title k, tt))
 
 accepter_says : (kinds : List Meaning) (before : List NodeDecl) (n : NodeDecl) → Says kinds n → Says kinds (accepter before n)

@@ -1,5 +1,5 @@
 -- A run that ended before there was an answer.
-use Rattle.std.proofs.Common.{◌≡◌, ◌≢◌, ◌∙◌, ◌==◌, sym, subst, cond, refl, arith, Bool, true, false, not, inr, List, [], ◌∷◌, Option, Some, None, Ok, Err, is_ok, Result, ℕ}
+use Rattle.std.proofs.Common.{◌≡◌, ◌≢◌, ◌∙◌, ◌==◌, sym, subst, cond, refl, arith, Bool, true, false, not, ◌⊎◌, inl, inr, List, [], ◌∷◌, Option, Some, None, Ok, Err, is_ok, Result, ℕ, eq-eqb}
 use Rattle.std.specs.List.{All}
 use Rattle.std.specs.Option.{IfSome}
 use Rattle.dn_base.specs.declared.device.DeviceOrMemory.{DeviceOrMemory}
@@ -7,6 +7,7 @@ use Rattle.dn_base.specs.declared.device.TableEvent.{TableEvent}
 use Rattle.dn_base.specs.declared.device.UnitWords.{UnitWords}
 use Rattle.dn_base.specs.Device.{UnitSize, is_device_fault, sizes_of}
 use Rattle.dn_base.specs.Outside.{IsWritten}
+use Rattle.dn_base.proofs.Booleans.{true≢false}
 use Rattle.dn_base.proofs.Logs.{Logged-none}
 use Rattle.dn_base.proofs.Told.{Added-none, if_some_then, written_none}
 use Rattle.dn_net.specs.declared.node.NodeDecl.{NodeDecl}
@@ -127,6 +128,7 @@ pub unanswered : (kinds : List Meaning) (a : Answer) (status : ℕ) (b d : Optio
 unanswered kinds (said own output) status b d log log' sizes told' lawful legal free not_sink not_device only same unlogged none = record {
   exact = λ e. cc;
   written = subst (λ (w : Bool). IsWritten b d (not (is_free_status status)) w output) (sym not_sink) (subst (λ (f : Bool). IsWritten b d (not f) false output) (sym free) (written_none b d output same));
+  no_device = λ e. true≢false (sym (eq-eqb status 6 e) ∙ not_device);
 }
 unanswered kinds (played net commands) status b d log log' sizes told' lawful legal free not_sink not_device only same unlogged none = unplayed kinds net commands status b d log log' sizes told' lawful legal free not_sink not_device same unlogged none
 unanswered kinds (shown agents net commands) status b d log log' sizes told' lawful legal free not_sink not_device only same unlogged none = inr (record {
@@ -141,10 +143,15 @@ unmade_answer kinds net None commands r fault ended told log log' before sizes w
 unmade_answer kinds net (Some agents) commands r fault ended told log log' before sizes words words' known is by none made = shown_unmade kinds net agents commands r fault ended told log log' sizes words words' known is by (sized_none before words none) made
 
 -- a run that did nothing, over a device that has no unit, came to the answer to whatever the source holds
-pub did_nothing : {D : Type 0} (w : List (List ℕ)) (kinds : List Meaning) (left : Option (List ℕ)) (status : ℕ) (b : Option (List ℕ)) (units : D → List UnitSize) (words : D → Option (List UnitWords)) (log : D → Option (List TableEvent)) (d : D) → All IsLawful kinds → is_free_status status ≡ true → (status == 3) ≡ false → (status == 6) ≡ false → ((bytes : List ℕ) → is_shown (answer w kinds bytes) ≡ true → status ≡ 7) → HasNoUnit (units d) (words d) → IsRunAnswered w kinds left status b b units words log d d
-did_nothing w kinds left status b units words log d lawful free not_sink not_device only none = record {
-  bytes = told_or left [];
-  read = λ _. told_is left [];
-  answered = unanswered kinds (answer w kinds (told_or left [])) status b b (log d) (log d) (units d) (words d) lawful (answer_legal w kinds (told_or left [])) free not_sink not_device (only (told_or left [])) refl refl none;
+pub did_nothing : {S D : Type 0} (w : List (List ℕ)) (kinds : List Meaning) (left : S → Option (List ℕ)) (given : S → List ℕ) (source source' : S) (status : ℕ) (b : Option (List ℕ)) (units : D → List UnitSize) (words : D → Option (List UnitWords)) (log : D → Option (List TableEvent)) (d : D) → All IsLawful kinds → is_free_status status ≡ true → (status == 3) ≡ false → (status == 6) ≡ false → (status ≡ 2) ⊎ (status ≡ 7) → ((bytes : List ℕ) → is_shown (answer w kinds bytes) ≡ true → status ≡ 7) → HasNoUnit (units d) (words d) → IsRunAnswered w kinds left given source source' status b b units words log d d
+did_nothing w kinds left given source source' status b units words log d lawful free not_sink not_device unread only none = record {
+  bytes = told_or (left source) [];
+  read = λ _. told_is (left source) [];
+  gave = λ _ not_read not_memory. absurd (by unread not_read not_memory);
+  answered = unanswered kinds (answer w kinds (told_or (left source) [])) status b b (log d) (log d) (units d) (words d) lawful (answer_legal w kinds (told_or (left source) [])) free not_sink not_device (only (told_or (left source) [])) refl refl none;
   untouched = λ _. refl;
 }
+  where
+    by : (status ≡ 2) ⊎ (status ≡ 7) → (status ≢ 2) → (status ≢ 7) → ⊥
+    by (inl e) not_read not_memory = not_read e
+    by (inr e) not_read not_memory = not_memory e

@@ -1,5 +1,5 @@
 -- The answer of the program: a status and what is written, or a script that is run, or a demonstration.
-use Rattle.std.specs.Prelude.{◌≡◌, ℕ, ◌==◌, Bool, true, false, if◌then◌else◌, not, List, ◌++◌, codes, Option, Some, None, Result, Ok, Err}
+use Rattle.std.specs.Prelude.{◌≡◌, ◌≢◌, ℕ, ◌==◌, Bool, true, false, if◌then◌else◌, not, List, ◌++◌, codes, take, Option, Some, None, Result, Ok, Err}
 use Rattle.std.specs.Option.{IfSome}
 use Rattle.dn_base.specs.declared.device.TableEvent.{TableEvent}
 use Rattle.dn_base.specs.declared.device.UnitWords.{UnitWords}
@@ -14,11 +14,11 @@ use Rattle.dn_words.specs.declared.words.Task.TheVariants.{Run, Check, Audit, De
 use Rattle.dn_words.specs.Words.{task_of}
 use Rattle.dn_demo.specs.Text.{demo_text}
 use Rattle.dn_module.specs.Expand.{Expansion}
-use Rattle.dn_tool.specs.Audited.{Outcome, image_answer}
+use Rattle.dn_tool.specs.Audited.{AuditOutcome, image_answer}
 use Rattle.dn_tool.specs.Compiled.{compilation, with_refusal}
 use Rattle.dn_tool.specs.Demo.{IsShown}
 use Rattle.dn_script.specs.Halt.{is_free_status}
-use Rattle.dn_tool.specs.Input.{Parts, is_too_long, parts_of}
+use Rattle.dn_tool.specs.Input.{Parts, is_too_long, limit_for, parts_of}
 use Rattle.dn_script.specs.Played.{IsPlayed}
 use Rattle.dn_tool.specs.declared.refusal.Refusal.{Refusal}
 
@@ -110,14 +110,16 @@ abbrev pub answer : List (List ℕ) → List Meaning → List ℕ → Answer
 answer words kinds bytes = asked_answer (task_of words) kinds bytes
 
 -- A status and an output were the answer of a run: a status that is not free is the answer's, and
--- exactly the output was written then. At any other a prefix of it was, and at status 3 not all of it.
+-- exactly the output was written then. At any other a prefix of it was, and at status 3 not all of it. No call of
+-- the device was asked for, so the status is not 6.
 pub record IsSaid (own : ℕ) (output : List ℕ) (status : ℕ) (before after : Option (List ℕ))
     : Type 0 where
   pub exact : is_free_status status ≡ false → status ≡ own
   pub written : IsWritten before after (not (is_free_status status)) (status == 3) output
+  pub no_device : status ≢ 6
 
 -- the same of an outcome
-abbrev pub IsOutcome : Outcome → ℕ → Option (List ℕ) → Option (List ℕ) → Type 0
+abbrev pub IsOutcome : AuditOutcome → ℕ → Option (List ℕ) → Option (List ℕ) → Type 0
 IsOutcome o status before after = IsSaid o.status o.output status before after
 
 -- a run with this status gave an answer, as far as it came
@@ -130,14 +132,18 @@ IsAnswered kinds (played net commands) status before after log log' units' told'
 IsAnswered kinds (shown agents net commands) status before after log log' units' told' =
     IsShown kinds net agents commands status before after log log' units' told'
 
--- There are bytes to whose answer a run with this status came, and they are those that the source told, where the words
--- read it and it tells them. Where that answer is no script the device is as it was.
-pub record IsRunAnswered {D : Type 0} (words : List (List ℕ)) (kinds : List Meaning)
-    (left : Option (List ℕ)) (status : ℕ) (before after : Option (List ℕ)) (units : D → List UnitSize)
+-- There are bytes to whose answer a run with this status came. Where the words read the source they are those that it told,
+-- where it tells them; and wherever the run came past reading its reads gave exactly these bytes, or as many of them as
+-- the limit. Where that answer is no script the device is as it was.
+pub record IsRunAnswered {S D : Type 0} (words : List (List ℕ)) (kinds : List Meaning)
+    (left : S → Option (List ℕ)) (given : S → List ℕ) (source source' : S) (status : ℕ)
+    (before after : Option (List ℕ)) (units : D → List UnitSize)
     (told : D → Option (List UnitWords)) (log : D → Option (List TableEvent)) (device device' : D)
     : Type 0 where
   pub bytes : List ℕ
-  pub read : reads words ≡ true → IfSome left (λ source. source ≡ bytes)
+  pub read : reads words ≡ true → IfSome (left source) (λ whole. whole ≡ bytes)
+  pub gave : reads words ≡ true → (status ≢ 2) → (status ≢ 7) →
+      given source' ≡ given source ++ take (limit_for (task_of words)) bytes
   pub answered : IsAnswered kinds (answer words kinds bytes) status before after (log device)
       (log device') (units device') (told device')
   pub untouched : is_script (answer words kinds bytes) ≡ false → device' ≡ device

@@ -7,7 +7,7 @@ use Rattle.dn_audit.specs.Text.{audit_text, broken_text}
 use Rattle.dn_audit.specs.Told.{ToldAudit, audit_reading}
 
 -- a status and what is written
-pub record Outcome : Type 0 where
+pub record AuditOutcome : Type 0 where
   pub status : ℕ
   pub output : List ℕ
 
@@ -20,11 +20,11 @@ abbrev pub broken_line : BrokenImage → List ℕ
 broken_line broken = codes "refused: " ++ (broken_text broken ++ codes "\n")
 
 -- the answer to what an audit tells of bytes: the line of their refusal, or the text of the report
-abbrev pub audit_answer : List NodeDecl → Result ToldAudit BrokenImage → Outcome
+abbrev pub audit_answer : List NodeDecl → Result ToldAudit BrokenImage → AuditOutcome
 audit_answer net (Err broken) = record { status = 4; output = broken_line broken }
 audit_answer net (Ok report) = record { status = 0; output = audit_text net report }
 
 -- the answer to an image, where there is one
-abbrev pub image_answer : List Meaning → List NodeDecl → Option (List ℕ) → Outcome
+abbrev pub image_answer : List Meaning → List NodeDecl → Option (List ℕ) → AuditOutcome
 image_answer kinds net None = record { status = 4; output = no_image_line }
 image_answer kinds net (Some bytes) = audit_answer net (audit_reading net kinds bytes)

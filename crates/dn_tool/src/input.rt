@@ -1,6 +1,6 @@
 //! What is read of the source: a text, and with `audit` an image after it.
 
-ghost use Rattle.std.specs.Prelude.{◌≡◌, ◌-◌, ◌<◌, take, vec_len, IfOk, IfSome, IsErrOf, Some};
+ghost use Rattle.std.specs.Prelude.{◌≡◌, ◌++◌, ◌-◌, ◌<◌, ◌≤◌, take, vec_len, IfOk, IfSome, IsErrOf, Some};
 ghost use Rattle.dn_base.specs.Terms.{AtEnd, IsCounted, Taken, TakenAtMost, is_input_fault};
 ghost use Rattle.dn_tool.specs.Terms.{is_too_long, limit_for, parts_of, parts_view};
 
@@ -31,6 +31,7 @@ pub(crate) fn read_input<S: Source>(
     task: Task,
     source: &mut S,
 ) -> Result<Vec<u8>, InputFault>
+    ensures within { IfOk result (λ bytes. vec_len bytes ≤ limit_for (Some task)) }
     ensures taken { IfOk result (λ bytes.
         Taken (S.left source.old) (S.left source.new) bytes.items) }
     ensures end { IfOk result (λ bytes.
@@ -38,6 +39,8 @@ pub(crate) fn read_input<S: Source>(
     ensures front { IfOk result (λ bytes. IfSome (S.left source.old)
         (λ told. bytes.items ≡ take (limit_for (Some task)) told)) }
     ensures at_most { TakenAtMost (limit_for (Some task)) (S.left source.old) (S.left source.new) }
+    // What was read is what the reads of this call gave.
+    ensures given { IfOk result (λ bytes. S.given source.new ≡ S.given source.old ++ bytes.items) }
     // A fault comes only before the limit was taken: no read is made after that.
     ensures before_limit { IsErrOf result InputFault.Failed →
         TakenAtMost (limit_for (Some task) - 1) (S.left source.old) (S.left source.new) }

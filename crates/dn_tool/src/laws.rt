@@ -1,7 +1,7 @@
 //! Laws on scripts, on the rows that they print and on the nets that commands make, each the
 //! contract of a function that does nothing.
 
-ghost use Rattle.dn_script.specs.Terms.{BookImageIsRead, BooksStayFaithful, DumpTellsTables, FaithfulImageGivesOwed, LookupsAreGiven, OwedRowsAreNormal, TurnIsOne, TurnsAreOne};
+ghost use Rattle.dn_script.specs.Terms.{BookImageIsRead, BooksStayFaithful, CommandHasTurn, DumpTellsTables, FaithfulImageGivesOwed, FirstTurnsAreFirst, LookupsAreGiven, OwedRowsAreNormal, ScriptHasTurns, TurnIsOne, TurnsAreOne};
 ghost use Rattle.dn_tool.specs.Terms.{AbsorbIsReadBack, CompiledIsReadBack, SplitIsReadBack};
 
 /// The book after each number of the turns of a script over a legal net is sound and faithful.
@@ -9,15 +9,30 @@ pub fn books_stay_faithful()
     ensures { BooksStayFaithful }
 {}
 
+/// A command that meets a sound book over a legal net has a turn.
+pub fn command_has_turn()
+    ensures { CommandHasTurn }
+{}
+
 /// A command that meets a sound book over a legal net has one turn at most.
 pub fn turn_is_one()
     ensures { TurnIsOne }
+{}
+
+/// A script over a legal net has a list of turns.
+pub fn script_has_turns()
+    ensures { ScriptHasTurns }
 {}
 
 /// A script over a legal net has one list of turns at most: what it does to the device, and what is written, is
 /// told by its net, its kinds and its commands.
 pub fn turns_are_one()
     ensures { TurnsAreOne }
+{}
+
+/// The turns of the first commands of a script over a legal net are the first turns of the script.
+pub fn first_turns_are_first()
+    ensures { FirstTurnsAreFirst }
 {}
 
 /// In each schedule of a first part of the events of a script over a legal net, each lookup that has ended
@@ -56,7 +71,9 @@ pub fn split_net_is_read_back()
     ensures { SplitIsReadBack }
 {}
 
-/// The same of the net that absorbing a node of a printable legal net makes.
+/// The net that absorbing a node of a printable legal net makes is printable: its text, which `absorb`
+/// prints below its heading, is read and expanded to that net where it is no longer than a text may be,
+/// 4,194,304 bytes.
 pub fn absorbed_net_is_read_back()
     ensures { AbsorbIsReadBack }
 {}

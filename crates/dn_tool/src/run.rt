@@ -61,8 +61,8 @@ pub fn run<S: Source, K: Sink, D: Tables>(
     // There are bytes to whose answer the run came, and where the words read the source and it tells its
     // bytes they are these: a status and an output, and then the device is as it was; or a script, as far
     // as the run came over it.
-    ensures answered { IsRunAnswered words.now (kinds_of meaning kinds.now) (S.left source.old)
-        result (K.written sink.old) (K.written sink.new) D.units D.words D.log
+    ensures answered { IsRunAnswered words.now (kinds_of meaning kinds.now) S.left S.given
+        source.old source.new result (K.written sink.old) (K.written sink.new) D.units D.words D.log
         device.old device.new }
     // With `check` and `audit` the device is as it was, whatever the answer is.
     ensures checked { task_of words.now ≡ Some Task.Check → device.new ≡ device.old }

@@ -7,12 +7,13 @@ use Rattle.dn_tool.specs.Answer.{IsRunAnswered}
 use Rattle.netconf.specs.Shipped.{program_kinds}
 
 -- what holds of a device that had no unit holds of the units that it was given
-pub units_alone : {D : Type 0} (words : List (List ℕ)) (kinds kinds' : List Meaning) (left : Option (List ℕ)) (status : ℕ) (before after : Option (List ℕ)) (units : D → List UnitSize) (device device' : D) → IsRunAnswered words kinds left status before after units (λ _. None) (λ _. None) device device' → kinds ≡ kinds' → units device ≡ [] → (made : List UnitSize) × IsRunAnswered {D = List UnitSize} words kinds' left status before after (λ sizes. sizes) (λ _. None) (λ _. None) [] made
-units_alone words kinds kinds' left status before after units device device' a same none = (
+pub units_alone : {S D : Type 0} (words : List (List ℕ)) (kinds kinds' : List Meaning) (left : S → Option (List ℕ)) (given : S → List ℕ) (source source' : S) (status : ℕ) (before after : Option (List ℕ)) (units : D → List UnitSize) (device device' : D) → IsRunAnswered words kinds left given source source' status before after units (λ _. None) (λ _. None) device device' → kinds ≡ kinds' → units device ≡ [] → (made : List UnitSize) × IsRunAnswered {D = List UnitSize} words kinds' left given source source' status before after (λ sizes. sizes) (λ _. None) (λ _. None) [] made
+units_alone words kinds kinds' left given source source' status before after units device device' a same none = (
   units device',
-  subst (λ (ks : List Meaning). IsRunAnswered {D = List UnitSize} words ks left status before after (λ sizes. sizes) (λ _. None) (λ _. None) [] (units device')) same (record {
+  subst (λ (ks : List Meaning). IsRunAnswered {D = List UnitSize} words ks left given source source' status before after (λ sizes. sizes) (λ _. None) (λ _. None) [] (units device')) same (record {
     bytes = a.bytes;
     read = a.read;
+    gave = a.gave;
     answered = a.answered;
     untouched = λ said. ap units (a.untouched said) ∙ none;
   }),

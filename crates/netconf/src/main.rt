@@ -69,7 +69,7 @@ fn answer<S: Source, K: Sink>(
 ) -> Result<u8, AllocError>
     // Of the device the units are told that were made, and neither words nor a log.
     ensures answered { IfOk result (λ status. (units : List UnitSize) × IsRunAnswered words.now
-        program_kinds (S.left source.old) status (K.written sink.old) (K.written sink.new)
+        program_kinds S.left S.given source.old source.new status (K.written sink.old) (K.written sink.new)
         (λ made. made) (λ _. None) (λ _. None) [] units) }
     ensures read { IfOk result (λ status.
         IsReadFor words.now status S.left S.faults source.old source.new) }

@@ -14,7 +14,7 @@ means z = (own-1.entry z.0).1.meaning z.1
 pub returns-clause-answered : goal.returns-clause-answered
 returns-clause-answered g c =
     let told = means_by {V = λ k. (own-1.entry k).0.Denot} means in
-    units_alone _ _ program_kinds _ _ _ _ _ _ _ c.run.ensures.answered
+    units_alone _ _ program_kinds _ _ _ _ _ _ _ _ _ _ c.run.ensures.answered
     (added_kinds (λ k. means (k.vtable, k.value)) _ _ _ _ _ _ _ _ _ c.none-kinds.ensures.empty c.in_ok-add.ensures.ok c.in_ok-add-2.ensures.ok c.in_ok-add-3.ensures.ok c.in_ok-add-4.ensures.ok
     (told pages _ (λ v. refl) c.into_dyn_box.result.vtable c.into_dyn_box.ensures.0 c.into_dyn_box.result.value)
     (told remap _ (λ v. refl) c.into_dyn_box-in_ok-new-2.result.vtable c.into_dyn_box-in_ok-new-2.ensures.0 c.into_dyn_box-in_ok-new-2.result.value)

@@ -7,7 +7,7 @@ use Rattle.dn_tables.proofs.Slots.{all_of_map}
 use Rattle.dn_tables.specs.Set.{FitsNet, IsOnDevice, fresh_set}
 use Rattle.dn_book.proofs.Packed.{AreKindsOf}
 use Rattle.dn_tables.specs.Sizes.{sizes_by}
-use Rattle.dn_audit.specs.Taking.{records_in, words_in}
+use Rattle.dn_audit.specs.Taking.{records_in, image_says}
 use Rattle.dn_audit.proofs.Counting.{held_next, shut_next}
 use Rattle.dn_audit.proofs.Filled.{filled_all, filled_first, image_held}
 use Rattle.dn_audit.proofs.taking.take.Goals as goal
@@ -33,7 +33,7 @@ loop-node-preserved g c =
     let net = c.args.image.on.net.now in
     let kinds : List Meaning = kinds_of (λ k. (goal.UnitKind-dyn g k).meaning k.1) c.args.image.on.kinds.now in
     let h : Held = records_in (λ k. (goal.UnitKind-dyn g k).meaning k.1) c.args.image in
-    let words : List (List ℕ) = (words_in (λ k. (goal.UnitKind-dyn g k).meaning k.1) c.args.image).words in
+    let words : List (List ℕ) = (image_says (λ k. (goal.UnitKind-dyn g k).meaning k.1) c.args.image).words in
     let here : c.loop-node.node < length net = (let t = c.loop-node-test.true in let n = c.nodes-node-end.ensures in omega (arith, t, n)) in
     record {
       filled = c.in_ok-take_node.ensures.filled;
@@ -49,4 +49,4 @@ returns-clause-holds g c =
     let lawful : All IsLawful kinds = all_of_map _ c.args.image.on.kinds.now.list.items c.requires.image.on.lawful in
     let are : AreKindsOf net kinds = record { lawful = lawful; shaped = c.requires.image.on.shaped } in
     let all : length net ≤ c.loop-node.node = (let t = c.loop-node-test.false in let n = c.nodes-node-end.ensures in omega (arith, t, n)) in
-    filled_all net kinds are (records_in (λ k. (goal.UnitKind-dyn g k).meaning k.1) c.args.image) c.loop-node.node _ _ _ (image_held net kinds (words_in (λ k. (goal.UnitKind-dyn g k).meaning k.1) c.args.image) lawful) all c.loop-node.invariant.filled
+    filled_all net kinds are (records_in (λ k. (goal.UnitKind-dyn g k).meaning k.1) c.args.image) c.loop-node.node _ _ _ (image_held net kinds (image_says (λ k. (goal.UnitKind-dyn g k).meaning k.1) c.args.image) lawful) all c.loop-node.invariant.filled

@@ -3,14 +3,14 @@ use Rattle.std.proofs.Common.{◌≡◌, ◌+◌, ◌*◌, ◌≤◌, ◌++◌, 
 use Rattle.dn_kind.specs.Kinded.{kinds_of}
 use Rattle.dn_audit.specs.Records.{held_of_nodes, shut_of_nodes}
 use Rattle.dn_tables.specs.Sizes.{sizes_by}
-use Rattle.dn_audit.specs.Taking.{IsFilledTo, records_in, words_in}
+use Rattle.dn_audit.specs.Taking.{IsFilledTo, records_in, image_says}
 use Rattle.dn_audit.proofs.taking.take.Given as goal
 
 abbrev pub invariant-loop-node : goal.invariant-loop-node
 invariant-loop-node g l =
     let kinds = kinds_of (λ k. (goal.UnitKind-dyn g k).meaning k.1) l.image.on.kinds.now in
     let h = records_in (λ k. (goal.UnitKind-dyn g k).meaning k.1) l.image in
-    let words = (words_in (λ k. (goal.UnitKind-dyn g k).meaning k.1) l.image).words in
+    let words = (image_says (λ k. (goal.UnitKind-dyn g k).meaning k.1) l.image).words in
     record {
       filled : IsFilledTo l.image.on.net.now kinds h l.node 0 l.tables (sizes_by l.device.sizes.items) None;
       records : l.found.records + held_of_nodes h l.node (drop l.node l.image.on.net.now) ≡ held_of_nodes h 0 l.image.on.net.now;

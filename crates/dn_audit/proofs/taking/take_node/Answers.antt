@@ -9,7 +9,7 @@ use Rattle.dn_image.specs.Image.{width_of}
 use Rattle.dn_image.proofs.Places.{few_slots}
 use Rattle.dn_audit.specs.declared.report.Shut.{Shut}
 use Rattle.dn_audit.specs.Records.{held_of_unit, shut_of_unit}
-use Rattle.dn_audit.specs.Taking.{records_in, words_in}
+use Rattle.dn_audit.specs.Taking.{records_in, image_says}
 use Rattle.dn_audit.proofs.Counting.{held_done, held_more, one_most, shut_done, shut_more}
 use Rattle.dn_audit.proofs.Filled.{filled_plain, filled_unit, image_held}
 use Rattle.dn_audit.proofs.taking.take_node.Given.{Over}
@@ -18,7 +18,7 @@ use Rattle.dn_audit.proofs.taking.take_node.Goals as goal
 
 -- the records of the image are those of tables
 held : (g : Over) (c : After-unit g) → AreHeld c.args.image.on.net.now (records_in (λ k. (goal.UnitKind-dyn g k).meaning k.1) c.args.image)
-held g c = image_held c.args.image.on.net.now (kinds_of (λ k. (goal.UnitKind-dyn g k).meaning k.1) c.args.image.on.kinds.now) (words_in (λ k. (goal.UnitKind-dyn g k).meaning k.1) c.args.image) (all_of_map _ c.args.image.on.kinds.now.list.items c.requires.image.on.lawful)
+held g c = image_held c.args.image.on.net.now (kinds_of (λ k. (goal.UnitKind-dyn g k).meaning k.1) c.args.image.on.kinds.now) (image_says (λ k. (goal.UnitKind-dyn g k).meaning k.1) c.args.image) (all_of_map _ c.args.image.on.kinds.now.list.items c.requires.image.on.lawful)
 
 -- the unit that was found is that of the node
 here : (g : Over) (c : In-Some g) → unit_at c.args.image.on.net.now c.args.node ≡ Some c.in-Some.unit.now
@@ -49,7 +49,7 @@ loop-slot-preserved g c =
       filled = c.in_ok-take_slot.ensures.filled;
       records = held_more _ _ c.loop-slot.slot c.in-Some.unit.now.slots _ ((records_in (λ k. (goal.UnitKind-dyn g k).meaning k.1) c.args.image) c.args.node) slot c.loop-slot.invariant.records more;
       few = omega (arith, few, more, one);
-      shut = shut_more c.args.node (width_of (kinds_of (λ k. (goal.UnitKind-dyn g k).meaning k.1) c.args.image.on.kinds.now) c.in-Some.unit.now) (slice_index_or (words_in (λ k. (goal.UnitKind-dyn g k).meaning k.1) c.args.image).words c.args.node []) ((records_in (λ k. (goal.UnitKind-dyn g k).meaning k.1) c.args.image) c.args.node) c.loop-slot.slot c.in-Some.unit.now.slots _ _ _ slot c.loop-slot.invariant.shut c.in_ok-take_slot.ensures.shut;
+      shut = shut_more c.args.node (width_of (kinds_of (λ k. (goal.UnitKind-dyn g k).meaning k.1) c.args.image.on.kinds.now) c.in-Some.unit.now) (slice_index_or (image_says (λ k. (goal.UnitKind-dyn g k).meaning k.1) c.args.image).words c.args.node []) ((records_in (λ k. (goal.UnitKind-dyn g k).meaning k.1) c.args.image) c.args.node) c.loop-slot.slot c.in-Some.unit.now.slots _ _ _ slot c.loop-slot.invariant.shut c.in_ok-take_slot.ensures.shut;
     }
 
 pub returns-clause-filled : goal.returns-clause-filled
@@ -77,6 +77,6 @@ returns-clause-few g c =
 pub returns-clause-shut : goal.returns-clause-shut
 returns-clause-shut g c =
     let all : c.in-Some.unit.now.slots ≤ c.loop-slot.slot = (let t = c.loop-slot-test.false in omega (arith, t)) in
-    let none = shut_done c.args.node (width_of (kinds_of (λ k. (goal.UnitKind-dyn g k).meaning k.1) c.args.image.on.kinds.now) c.in-Some.unit.now) (slice_index_or (words_in (λ k. (goal.UnitKind-dyn g k).meaning k.1) c.args.image).words c.args.node []) ((records_in (λ k. (goal.UnitKind-dyn g k).meaning k.1) c.args.image) c.args.node) c.loop-slot.slot c.in-Some.unit.now.slots all in
+    let none = shut_done c.args.node (width_of (kinds_of (λ k. (goal.UnitKind-dyn g k).meaning k.1) c.args.image.on.kinds.now) c.in-Some.unit.now) (slice_index_or (image_says (λ k. (goal.UnitKind-dyn g k).meaning k.1) c.args.image).words c.args.node []) ((records_in (λ k. (goal.UnitKind-dyn g k).meaning k.1) c.args.image) c.args.node) c.loop-slot.slot c.in-Some.unit.now.slots all in
     sym (append-nil _) ∙ ap (λ (l : List Shut). c.loop-slot.found.shut ++ l) (sym none) ∙ c.loop-slot.invariant.shut
-    ∙ ap (λ o. c.args.found.now.shut ++ shut_of_unit (kinds_of (λ k. (goal.UnitKind-dyn g k).meaning k.1) c.args.image.on.kinds.now) c.args.node o (slice_index_or (words_in (λ k. (goal.UnitKind-dyn g k).meaning k.1) c.args.image).words c.args.node []) ((records_in (λ k. (goal.UnitKind-dyn g k).meaning k.1) c.args.image) c.args.node)) (sym (here g (goal.at.returns-clause-shut g c).In-Some))
+    ∙ ap (λ o. c.args.found.now.shut ++ shut_of_unit (kinds_of (λ k. (goal.UnitKind-dyn g k).meaning k.1) c.args.image.on.kinds.now) c.args.node o (slice_index_or (image_says (λ k. (goal.UnitKind-dyn g k).meaning k.1) c.args.image).words c.args.node []) ((records_in (λ k. (goal.UnitKind-dyn g k).meaning k.1) c.args.image) c.args.node)) (sym (here g (goal.at.returns-clause-shut g c).In-Some))

@@ -12,7 +12,7 @@ use Rattle.dn_book.proofs.Packed.{AreKindsOf}
 use Rattle.dn_view.proofs.Held.{slot_there}
 use Rattle.dn_audit.specs.declared.report.Shut.{Shut}
 use Rattle.dn_audit.specs.Records.{shut_slot}
-use Rattle.dn_audit.specs.Taking.{records_in, words_in}
+use Rattle.dn_audit.specs.Taking.{records_in, image_says}
 use Rattle.dn_audit.proofs.Counting.{index_of, shut_none, shut_some}
 use Rattle.dn_audit.proofs.Filled.{filled_pass, filled_put, image_held, put_empty, put_packable, record_is}
 use Rattle.dn_audit.proofs.taking.take_slot.Given.{Over}
@@ -26,14 +26,14 @@ kinds_are : (g : Over) (c : After-counted_record-record g) → AreKindsOf c.args
 kinds_are g c = record { lawful = lawful_kinds g c; shaped = c.requires.image.on.shaped }
 
 held : (g : Over) (c : After-counted_record-record g) → AreHeld c.args.image.on.net.now (records_in (λ k. (goal.UnitKind-dyn g k).meaning k.1) c.args.image)
-held g c = image_held c.args.image.on.net.now (kinds_of (λ k. (goal.UnitKind-dyn g k).meaning k.1) c.args.image.on.kinds.now) (words_in (λ k. (goal.UnitKind-dyn g k).meaning k.1) c.args.image) (lawful_kinds g c)
+held g c = image_held c.args.image.on.net.now (kinds_of (λ k. (goal.UnitKind-dyn g k).meaning k.1) c.args.image.on.kinds.now) (image_says (λ k. (goal.UnitKind-dyn g k).meaning k.1) c.args.image) (lawful_kinds g c)
 
 -- the record that was read is that of the image
 read : (g : Over) (c : After-counted_record-record g) → c.counted_record-record.result ≡ records_in (λ k. (goal.UnitKind-dyn g k).meaning k.1) c.args.image c.args.node c.args.slot
 read g c = c.counted_record-record.ensures ∙ record_is c.args.image.on.net.now (kinds_of (λ k. (goal.UnitKind-dyn g k).meaning k.1) c.args.image.on.kinds.now) c.args.image.bytes.now c.args.image.version c.args.node c.args.slot c.args.unit.now _ (lawful_kinds g c) c.requires.unit c.requires.words
 
 -- the words of the unit
-words : (g : Over) (c : After-counted_record-record g) → slice_index_or (words_in (λ k. (goal.UnitKind-dyn g k).meaning k.1) c.args.image).words c.args.node [] ≡ words_spelled (word_count (kinds_of (λ k. (goal.UnitKind-dyn g k).meaning k.1) c.args.image.on.kinds.now) (Some c.args.unit.now)) c.args.bytes.now
+words : (g : Over) (c : After-counted_record-record g) → slice_index_or (image_says (λ k. (goal.UnitKind-dyn g k).meaning k.1) c.args.image).words c.args.node [] ≡ words_spelled (word_count (kinds_of (λ k. (goal.UnitKind-dyn g k).meaning k.1) c.args.image.on.kinds.now) (Some c.args.unit.now)) c.args.bytes.now
 words g c = index_of _ c.args.node [] _ c.requires.words
 
 pub put-requires-clause-there : goal.put-requires-clause-there

@@ -1,5 +1,5 @@
 use Rattle.std.proofs.Common.{◌≡◌, ◌∙◌, ◌+◌, ◌-◌, ◌≤◌, ap, sym, subst, get_or, length, replicate, slice_set, vec_capacity, vec_len, length-append, arith, rules, List, ℕ}
-use Rattle.std.proofs.lemmas.List.{length-replicate}
+use Rattle.std.proofs.lemmas.List.{get_or-set_other, length-replicate, length-set}
 use Rattle.dn_base.specs.Paged.{ArePaged, item_at}
 use Rattle.dn_base.proofs.Paging.{made_same, page_left, page_made}
 use Rattle.dn_base.proofs.filled.page_end.Given.{Over}
@@ -40,3 +40,13 @@ returns-clause-same g c =
     let more : ℕ = end - vec_len c.args.items.now in
     λ k. ap (λ xs. item_at xs (slice_set c.args.ends.now.items c.args.page end) c.args.value k) c.fill.ensures.items
     ∙ made_same c.args.value c.args.items.now.items c.args.ends.now.items (vec_capacity c.args.items.now) c.args.count c.args.page end more c.requires.paged c.requires.there (not_made g at) (omega (arith, size_is g at)) (omega (arith, c.len-end.ensures)) k
+
+pub returns-clause-pages : goal.returns-clause-pages
+returns-clause-pages g c =
+    let at = (goal.at.returns-clause-pages g c).After-len-end in
+    length-set c.args.ends.now.items c.args.page (at.len-end.result + 256)
+
+pub returns-clause-later : goal.returns-clause-later
+returns-clause-later g c other l =
+    let at = (goal.at.returns-clause-later g c).After-len-end in
+    get_or-set_other c.args.ends.now.items c.args.page other (at.len-end.result + 256) 0 (λ e. omega (arith, e, l))

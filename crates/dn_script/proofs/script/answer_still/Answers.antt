@@ -5,7 +5,7 @@ use Rattle.dn_kind.specs.Kinded.{kinds_of}
 use Rattle.dn_radix.specs.Built.{built}
 use Rattle.dn_script.specs.Found.{access_of, agent_of, node_refused_text}
 use Rattle.dn_script.specs.Halt.{Writes}
-use Rattle.dn_script.specs.Radix.{node_words, radix_by, radix_text, tree_text, unit_of}
+use Rattle.dn_script.specs.Radix.{book_words, radix_by, radix_text, tree_text, named_unit}
 use Rattle.dn_script.specs.Viewed.{owed_rows, view_by, view_text, viewed_text}
 use Rattle.dn_script.proofs.script.answer_still.Goals as goal
 
@@ -37,9 +37,9 @@ returns-in_ok-words-in-Some-unit_of-clause-written g c =
     let net = c.args.machine.on.net.now in
     let book = c.args.state.now.book.grants in
     let unit : ℕ = c.in-Some-unit_of.unit in
-    let words : c.deref.result.now ≡ node_words kinds net book unit = c.deref.ensures.value ∙ c.in_ok-words-in-Some-unit_of.ensures.words in
-    let told : Writes c.radix_reply.result (g.K.Sink.written c.args.sink.now) (g.K.Sink.written c.radix_reply.new.sink) (tree_text c.as_str-text-in-Radix.result.now (node_words kinds net book unit) (built (node_words kinds net book unit) c.in-Radix.pool)) = subst (λ (l : List ℕ). Writes c.radix_reply.result (g.K.Sink.written c.args.sink.now) (g.K.Sink.written c.radix_reply.new.sink) (tree_text c.as_str-text-in-Radix.result.now l (built l c.in-Radix.pool))) words c.radix_reply.ensures.written in
-    let is : radix_text kinds net book c.in-Radix.node c.in-Radix.pool ≡ tree_text c.as_str-text-in-Radix.result.now (node_words kinds net book unit) (built (node_words kinds net book unit) c.in-Radix.pool) = search rules in
+    let words : c.deref.result.now ≡ book_words kinds net book unit = c.deref.ensures.value ∙ c.in_ok-words-in-Some-unit_of.ensures.words in
+    let told : Writes c.radix_reply.result (g.K.Sink.written c.args.sink.now) (g.K.Sink.written c.radix_reply.new.sink) (tree_text c.as_str-text-in-Radix.result.now (book_words kinds net book unit) (built (book_words kinds net book unit) c.in-Radix.pool)) = subst (λ (l : List ℕ). Writes c.radix_reply.result (g.K.Sink.written c.args.sink.now) (g.K.Sink.written c.radix_reply.new.sink) (tree_text c.as_str-text-in-Radix.result.now l (built l c.in-Radix.pool))) words c.radix_reply.ensures.written in
+    let is : radix_text kinds net book c.in-Radix.node c.in-Radix.pool ≡ tree_text c.as_str-text-in-Radix.result.now (book_words kinds net book unit) (built (book_words kinds net book unit) c.in-Radix.pool) = search rules in
     rw c.in-Radix.is (subst (λ (t : List ℕ). Writes c.radix_reply.result (g.K.Sink.written c.args.sink.now) (g.K.Sink.written c.radix_reply.new.sink) t) (sym is) told)
 
 pub returns-in-None-unit_of-clause-written : goal.returns-in-None-unit_of-clause-written
@@ -48,6 +48,6 @@ returns-in-None-unit_of-clause-written g c =
     let net = c.args.machine.on.net.now in
     let book = c.args.state.now.book.grants in
     let node = c.in-Radix.node in
-    let none : unit_of net node.node ≡ None = search rules in
+    let none : named_unit net node.node ≡ None = search rules in
     let is : radix_text kinds net book node c.in-Radix.pool ≡ node_refused_text (codes "radix") c.as_str-text-in-Radix.result.now (codes "NoUnit") = ap (radix_by kinds net book node.text c.in-Radix.pool) none ∙ ap (λ (t : List ℕ). node_refused_text (codes "radix") t (codes "NoUnit")) (sym c.as_str-text-in-Radix.ensures) in
     rw c.in-Radix.is (subst (λ (t : List ℕ). Writes c.refuse_node-in-None-unit_of.result (g.K.Sink.written c.args.sink.now) (g.K.Sink.written c.refuse_node-in-None-unit_of.new.sink) t) (sym is) c.refuse_node-in-None-unit_of.ensures.written)

@@ -1,4 +1,4 @@
-use Rattle.std.proofs.Common.{rules, ◌≡◌, ◌∙◌, refl, sym, subst, ℕ, List, Option, Some, None, IfSome}
+use Rattle.std.proofs.Common.{arith, rules, ◌≡◌, ◌∙◌, refl, sym, subst, ℕ, List, Option, Some, None, IfSome}
 use Rattle.std.specs.String.{string_bytes}
 use Rattle.dn_base.proofs.Told.{written_none}
 use Rattle.dn_image.specs.Reading.{image_fault_view}
@@ -11,7 +11,7 @@ use Rattle.dn_tool.proofs.audit.refuse_image.Goals as goal
 -- of an output that may be there nothing was written, for want of memory
 unsaid : {A : Type 0} (o : Option A) (own : ℕ) (output : A → List ℕ) (told : Option (List ℕ)) → IfSome o (λ a. IsSaid own (output a) 7 told told)
 unsaid None own output told = tt
-unsaid (Some a) own output told = record { exact = λ e. cc; written = written_none told told (output a) refl }
+unsaid (Some a) own output told = record { exact = λ e. cc; written = written_none told told (output a) refl; no_device = λ e. omega arith }
 
 pub returns-in_err-line-clause-said : goal.returns-in_err-line-clause-said
 returns-in_err-line-clause-said g c =

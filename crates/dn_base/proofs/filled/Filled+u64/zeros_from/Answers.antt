@@ -17,5 +17,4 @@ pub returns : goal.returns
 returns c k l =
     let inside = c.self.inside in
     let none : inside.rest ≡ 0 = c.if-self-ne0.false in
-    let made : (page : ℕ) → c.loop-pages.pages ≤ page → get_or inside.ends.items page 0 ≡ 0 = subst (λ (ws : List ℕ). (page : ℕ) → c.loop-pages.pages ≤ page → get_or ws page 0 ≡ 0) c.as_slice-ends.ensures.value c.loop-pages.invariant.none in
-    subst (λ (ws : List ℕ). get_or ws k 0 ≡ 0) c.self.view_is (zeros_behind inside.items.items inside.ends.items inside.rest inside.count c.loop-pages.pages none made k l)
+    subst (λ (ws : List ℕ). get_or ws k 0 ≡ 0) c.self.view_is (zeros_behind inside.items.items inside.ends.items inside.rest inside.count inside.top none c.self.invariant.1.none k l)

@@ -6,7 +6,7 @@ use Rattle.dn_base.proofs.filled.Filled.get.Goals as goal
 pub shown-requires-clause-there : goal.shown-requires-clause-there
 shown-requires-clause-there g c =
     let inside = c.self.inside in
-    subst (λ (es : List ℕ). c.args.at / 256 < length es) (sym c.as_slice-2.ensures.value) (page_there c.self.invariant c.args.at (shown_within inside.rest inside.items.items inside.ends.items inside.count c.args.at c.args.self.now c.self.view_is c.requires))
+    subst (λ (es : List ℕ). c.args.at / 256 < length es) (sym c.as_slice-2.ensures.value) (page_there c.self.invariant.0 c.args.at (shown_within inside.rest inside.items.items inside.ends.items inside.count c.args.at c.args.self.now c.self.view_is c.requires))
 
 pub returns : goal.returns
 returns g c =
