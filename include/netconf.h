@@ -3,8 +3,8 @@
  * netconf as a library: a description of a platform is opened, buffers are granted and revoked at run time, and what is to
  * be written to the translation units for each change is told as a list of events.
  *
- * What a call answers with NETCONF_DONE or a refusal is proved of the code of the library. docs/library.md states it in words, with what a caller must
- * keep. No proof covers the C code that calls it.
+ * What a call answers is proved of the code of the library. docs/library.md states it in words, with what a caller must keep.
+ * No proof covers the C code that calls it.
  *
  * The library has no global data, starts no thread, takes no lock and calls no function of the system. It calls three
  * functions that the program provides, of one heap:
@@ -57,7 +57,7 @@ enum netconf_status {
     NETCONF_ID_USED = 16,
     /* The agent's number is that of no node, or of a node that is no agent. */
     NETCONF_NO_AGENT = 17,
-    /* The node's number is that of no node, or the node's addresses are interrupt vectors. */
+    /* The node's number is that of no node, or the node's addresses are interrupt vectors; for a route, they are none. */
     NETCONF_NO_TARGET = 18,
     /* The node does not accept all of the buffer. */
     NETCONF_NOT_ACCEPTED = 19,
@@ -68,7 +68,15 @@ enum netconf_status {
     /* No live grant has the id. */
     NETCONF_NO_GRANT = 22,
     /* No node has the name or the number. */
-    NETCONF_NO_NODE = 23
+    NETCONF_NO_NODE = 23,
+    /* The bytes are no image of the session's net: they end inside a field. */
+    NETCONF_IMAGE_SHORT = 24,
+    /* They have another mark, version or number of units. */
+    NETCONF_IMAGE_HEADER = 25,
+    /* They have another head of a unit. */
+    NETCONF_IMAGE_SHAPE = 26,
+    /* Bytes follow the last word. */
+    NETCONF_IMAGE_TRAILING = 27
 };
 
 /* Rights of a grant: the accesses that its agent may make. */
@@ -104,6 +112,50 @@ struct netconf_event {
     uint32_t unused;
     /* What the word is set to; else 0. */
     uint64_t value;
+};
+
+/* Accesses: what is asked of an address. */
+enum netconf_access {
+    NETCONF_FOR_READ = 1,
+    NETCONF_FOR_WRITE = 2
+};
+
+/* struct netconf_place - a node and an address in it */
+struct netconf_place {
+    /* The number of the node. */
+    uint32_t node;
+    /* 0. */
+    uint32_t unused;
+    /* The address in the node. */
+    uint64_t address;
+};
+
+/*
+ * struct netconf_row - addresses that lead to a node, one after another
+ *
+ * The first address leads to `place`, and each further one to the address behind that of the one before it.
+ */
+struct netconf_row {
+    /* The first address. */
+    uint64_t first;
+    /* The last address. */
+    uint64_t last;
+    /* Where the first address leads. */
+    struct netconf_place place;
+};
+
+/* struct netconf_piece - a piece of a buffer, which becomes a grant of its own */
+struct netconf_piece {
+    /* The id of its grant. */
+    uint32_t id;
+    /* The number of the node that accepts it. */
+    uint16_t node;
+    /* 0. */
+    uint16_t unused;
+    /* Its first address in the node. */
+    uint64_t base;
+    /* How many addresses it has, at least 1. */
+    uint64_t size;
 };
 
 /*
@@ -185,6 +237,48 @@ uint32_t netconf_grant_at(struct netconf *session, uint32_t id, uint16_t agent, 
                           uint64_t size, uint8_t rights, uint64_t at, uint64_t *address);
 
 /*
+ * netconf_gather - grant a buffer in pieces
+ * @session: the session
+ * @agent: the number of the agent's node
+ * @pieces: the pieces, in the order in which the agent is to see them
+ * @count: how many they are, 1 to 8
+ * @rights: one of enum netconf_rights
+ * @address: where the first address of the buffer in the agent is left
+ * @piece: where the number of a piece that is refused is left, counted from 0
+ *
+ * Grants the pieces so that the agent sees them at consecutive addresses, at the first admissible scattered placement
+ * (docs/language.md). Each is a grant of its own, and is revoked by its id.
+ *
+ * Returns NETCONF_DONE, or the first refusal that holds, in the order of enum netconf_status: NETCONF_ID_USED (a live grant
+ * or an earlier piece has the id of @piece), NETCONF_NO_AGENT, NETCONF_NO_TARGET (of @piece), NETCONF_NOT_ACCEPTED (of
+ * @piece, with the first address that is not accepted at @address), NETCONF_BOOK_FULL (4,096 grants would not be enough),
+ * NETCONF_NO_PLACEMENT; or NETCONF_CLOSED, NETCONF_BAD_ARGUMENT (@count or @rights) or NETCONF_NO_MEMORY. At each but
+ * NETCONF_DONE the session is as it was.
+ */
+uint32_t netconf_gather(struct netconf *session, uint16_t agent, const struct netconf_piece *pieces, size_t count,
+                        uint8_t rights, uint64_t *address, uint32_t *piece);
+
+/*
+ * netconf_route - route a line of an agent to an interrupt vector
+ * @session: the session
+ * @id: by which the route is revoked; that of no live grant
+ * @agent: the number of the agent's node
+ * @line: the address of the agent that is the line
+ * @node: the number of a node whose addresses are interrupt vectors
+ * @vector: where the vector is left
+ *
+ * Routes the line to the least vector of @node that no live grant has and that has an admissible placement at the line.
+ * It is a grant of one address, for reading and writing, and is revoked as one.
+ *
+ * Returns NETCONF_DONE, or the first refusal that holds, in the order of enum netconf_status: NETCONF_ID_USED,
+ * NETCONF_NO_AGENT, NETCONF_NO_TARGET (@node is no node, or its addresses are no vectors), NETCONF_BOOK_FULL,
+ * NETCONF_NO_PLACEMENT (no such vector is there); or NETCONF_CLOSED or NETCONF_NO_MEMORY. At each but NETCONF_DONE the
+ * session is as it was.
+ */
+uint32_t netconf_route(struct netconf *session, uint32_t id, uint16_t agent, uint64_t line, uint16_t node,
+                       uint64_t *vector);
+
+/*
  * netconf_revoke - take a grant out
  * @session: the session
  * @id: the id of a live grant
@@ -196,6 +290,104 @@ uint32_t netconf_grant_at(struct netconf *session, uint32_t id, uint16_t agent, 
  * was.
  */
 uint32_t netconf_revoke(struct netconf *session, uint32_t id);
+
+/*
+ * netconf_resolve - tell where an address leads
+ * @session: the session
+ * @node: the number of a node, most often an agent
+ * @address: an address of the node
+ * @access: one of enum netconf_access
+ * @places: where the places to which it leads are written, in ascending order of node and address
+ * @room: how many places there is room for
+ * @count: to how many places it leads
+ *
+ * Answers for the live grants, as though all that is pending were performed. An address of an agent leads to what the
+ * description gives it and to what live grants whose rights allow the access give it, and to nothing else. It leads
+ * nowhere where @count is 0. Where @count is more than @room, the first places are written.
+ *
+ * Returns NETCONF_DONE, NETCONF_NO_NODE, NETCONF_CLOSED, NETCONF_BAD_ARGUMENT (@access) or NETCONF_NO_MEMORY. The session
+ * is as it was.
+ */
+uint32_t netconf_resolve(struct netconf *session, uint16_t node, uint64_t address, uint8_t access,
+                         struct netconf_place *places, size_t room, size_t *count);
+
+/*
+ * netconf_view - tell what a node sees
+ * @session: the session
+ * @node: the number of a node, most often an agent
+ * @access: one of enum netconf_access
+ * @from: the number of the first row to write, counted from 0
+ * @rows: where rows are written
+ * @room: how many rows there is room for
+ * @count: how many rows there are in all
+ *
+ * Answers for the live grants, as though all that is pending were performed. The rows are as few as can be, in ascending
+ * order, and no two of other addresses overlap. An address that leads to several places is in as many rows, with the same
+ * first and last address, one after another, in ascending order of node and address. An address that is in no row leads
+ * nowhere. Each call makes all rows anew.
+ *
+ * Returns NETCONF_DONE, NETCONF_NO_NODE, NETCONF_CLOSED, NETCONF_BAD_ARGUMENT (@access) or NETCONF_NO_MEMORY. The session
+ * is as it was.
+ */
+uint32_t netconf_view(struct netconf *session, uint16_t node, uint8_t access, size_t from, struct netconf_row *rows,
+                      size_t room, size_t *count);
+
+/*
+ * netconf_image - write the image of the tables
+ * @session: the session
+ * @out: where the image is written
+ * @room: how many bytes there are at @out
+ * @written: how many bytes the image has
+ *
+ * The image is that of the live grants, as though all that is pending were performed. docs/image.md has its bytes, and
+ * tools/loader/netconf_image.h reads it.
+ *
+ * Returns NETCONF_DONE, NETCONF_CLOSED, NETCONF_TOO_SMALL or NETCONF_NO_MEMORY. The session is as it was.
+ */
+uint32_t netconf_image(struct netconf *session, uint8_t *out, size_t room, size_t *written);
+
+/*
+ * netconf_lookup - tell where an address of an agent leads under an image
+ * @session: the session
+ * @image: an image of the session's net, whoever made it
+ * @image_size: how many bytes it has
+ * @agent: the number of the agent's node
+ * @address: an address of the agent
+ * @access: one of enum netconf_access
+ * @places: where the places to which it leads are written, in ascending order of node and address
+ * @room: how many places there is room for
+ * @count: to how many places it leads
+ * @at: where the place of the first field that is wrong is left, if the bytes are no image: the number of a byte, or at
+ *      NETCONF_IMAGE_SHAPE that of a head, both counted from 0
+ *
+ * Answers under the records of the image in place of those of the live grants. Nothing but the header, the heads and the
+ * records on the way is read. The grants of the session do not matter.
+ *
+ * Returns NETCONF_DONE, NETCONF_NO_AGENT, NETCONF_IMAGE_SHORT, NETCONF_IMAGE_HEADER, NETCONF_IMAGE_SHAPE,
+ * NETCONF_IMAGE_TRAILING, NETCONF_CLOSED, NETCONF_BAD_ARGUMENT (@access) or NETCONF_NO_MEMORY. The session is as it was.
+ */
+uint32_t netconf_lookup(struct netconf *session, const uint8_t *image, size_t image_size, uint16_t agent,
+                        uint64_t address, uint8_t access, struct netconf_place *places, size_t room, size_t *count,
+                        uint64_t *at);
+
+/*
+ * netconf_audit - tell what all agents see under an image
+ * @session: the session
+ * @image: an image of the session's net, whoever made it
+ * @image_size: how many bytes it has
+ * @out: where the report is written, as `netconf audit` prints it; it is not ended by a 0
+ * @room: how many bytes there are at @out
+ * @written: how many bytes the report has
+ * @at: as that of netconf_lookup
+ *
+ * The report says for each agent and access what it sees under the records of the image, the slots with shut-out records,
+ * and the addresses that several agents see. docs/audit.md has its form.
+ *
+ * Returns NETCONF_DONE, NETCONF_IMAGE_SHORT, NETCONF_IMAGE_HEADER, NETCONF_IMAGE_SHAPE, NETCONF_IMAGE_TRAILING,
+ * NETCONF_CLOSED, NETCONF_TOO_SMALL or NETCONF_NO_MEMORY. The session is as it was.
+ */
+uint32_t netconf_audit(struct netconf *session, const uint8_t *image, size_t image_size, uint8_t *out, size_t room,
+                       size_t *written, uint64_t *at);
 
 /*
  * netconf_pending - read the events that are to be done
@@ -230,6 +422,22 @@ uint32_t netconf_settle(struct netconf *session);
  * It gives back all memory of the session, and takes none. It does nothing to the hardware.
  */
 void netconf_close(struct netconf *session);
+
+/*
+ * netconf_run - answer a text as the program does
+ * @text: the description and its commands
+ * @text_size: how many bytes it has
+ * @out: where the answer is written; it is not ended by a 0
+ * @room: how many bytes there are at @out
+ * @written: how many bytes the answer has; 0 for want of memory
+ * @exit_status: where the status with which the program ends is left: 0, or 4 where the text is refused; 0 for want of memory
+ *
+ * Does what `netconf run` does with the text on its standard input. No session is needed.
+ *
+ * Returns NETCONF_DONE, NETCONF_TOO_SMALL (of @out) or NETCONF_NO_MEMORY. At each but NETCONF_DONE @out is as it was.
+ */
+uint32_t netconf_run(const uint8_t *text, size_t text_size, uint8_t *out, size_t room, size_t *written,
+                     uint8_t *exit_status);
 
 /*
  * netconf_status_text - a status in words
@@ -268,6 +476,14 @@ static inline const char *netconf_status_text(uint32_t status)
         return "no live grant has the id";
     case NETCONF_NO_NODE:
         return "no such node";
+    case NETCONF_IMAGE_SHORT:
+        return "the image ends inside a field";
+    case NETCONF_IMAGE_HEADER:
+        return "the image has another mark, version or number of units";
+    case NETCONF_IMAGE_SHAPE:
+        return "the image has another head of a unit";
+    case NETCONF_IMAGE_TRAILING:
+        return "bytes follow the image";
     default:
         return "no status of the library";
     }

@@ -1,4 +1,13 @@
-//! A handle that C keeps of a session.
+//! A handle that C keeps of a session: null, or a pointer to a session that the handle owns.
+//!
+//! ```text
+//! let handle = Handle::of(session);      // owns the boxed session
+//! let session = handle.take(alloc);      // Some(session), and the handle is closed
+//! let none = handle.take(alloc);         // None
+//! ```
+//!
+//! Null is a closed handle, so a handle of C begins as zeros, and a second close does nothing. C
+//! may move the struct. It must not use two copies of it, which no proof can see.
 #![tactic(auto)]
 
 ghost use Rattle.std.specs.Prelude.{◌≡◌, None, Some, option_map};

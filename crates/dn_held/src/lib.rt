@@ -1,4 +1,13 @@
 //! A box taken apart: its pointer, which a handle of C can keep, and what it owns.
+//!
+//! ```text
+//! let loose = Loose::of(boxed);            // the pointer is to bytes
+//! let boxed = loose.into_box();
+//! ```
+//!
+//! A struct that crosses to C may hold no pointer to a type with a list in it. It holds the pointer
+//! of a `Loose`, and a ghost field says what stands there. The two walks are proved once, for any
+//! type.
 #![tactic(auto)]
 
 ghost use Rattle.std.specs.Prelude.{◌≡◌};

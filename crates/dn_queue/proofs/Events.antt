@@ -8,6 +8,7 @@ use Rattle.dn_net.specs.declared.node.NodeDecl.{NodeDecl}
 use Rattle.dn_net.specs.declared.node.Unit.{Unit as UnitPart}
 use Rattle.dn_net.specs.Chain.{Member}
 use Rattle.dn_net.specs.Decode.{unit_at}
+use Rattle.dn_net.specs.Legal.{IsLegalNet}
 use Rattle.dn_kind.specs.declared.rights.Rights.{Rights}
 use Rattle.dn_kind.specs.declared.unit_kind.Record.{Record}
 use Rattle.dn_kind.specs.Kind.{Meaning}
@@ -19,7 +20,8 @@ use Rattle.dn_tables.specs.declared.table.NodeTable.{NodeTable}
 use Rattle.dn_tables.specs.Writes.{clears_from, write_events, writes_from}
 use Rattle.dn_placement.specs.Records.{hop_rights}
 use Rattle.dn_book.specs.declared.grant.Grant.{Grant}
-use Rattle.dn_book.specs.Book.{records_of, without_id}
+use Rattle.dn_book.specs.Book.{IsSound, records_of, without_id}
+use Rattle.dn_book.specs.Laws.{IsGrantFor}
 use Rattle.dn_book.specs.Writes.{Put, clear_events, clear_events_by, clears_of, empty_slots, fence_events, grant_events, grant_slots, hop_slots, hop_slots_by, hops_slots, is_empty, joined_slots, kind_by, put_events, put_events_by, puts_of, revoke_events, slots_from}
 use Rattle.dn_book.proofs.Commit.{Coming}
 use Rattle.dn_book.proofs.Live.{clears_there, puts_held}
@@ -106,17 +108,20 @@ fence_few : (cleared : Bool) → length (fence_events cleared) ≤ 1
 fence_few true = omega arith
 fence_few false = omega arith
 
-pub grant_few : (net : List NodeDecl) (kinds : List Meaning) (book : List Grant) (g : Grant) (set : List NodeTable) → Coming net kinds book g set → (cleared : Bool) → length (grant_events net kinds book cleared g) ≤ event_room net g.request.size g.placement.hops
-grant_few net kinds book g set c cleared =
-    let k : AreKindsOf net kinds = record { lawful = c.lawful; shaped = c.legal.shaped } in
+-- of a grant that may come into a sound book
+pub sound_few : (net : List NodeDecl) (kinds : List Meaning) (book : List Grant) (g : Grant) → AreKindsOf net kinds → IsLegalNet net → IsSound net book → IsGrantFor net book g → (cleared : Bool) → length (grant_events net kinds book cleared g) ≤ event_room net g.request.size g.placement.hops
+sound_few net kinds book g k legal sound placed cleared =
     let e : length (grant_events net kinds book cleared g) ≡ length (fence_events cleared) + length (flat_map (put_events net kinds) (puts_of net book g)) = length-append (fence_events cleared) (flat_map (put_events net kinds) (puts_of net book g)) in
     let fence = fence_few cleared in
     let puts : length (flat_map (put_events net kinds) (puts_of net book g)) ≤ 4 * length (puts_of net book g) =
-    flat_few (put_events net kinds) (puts_of net book g) (λ s m. put_few net kinds k s (puts_held net c.legal.legal book g c.kept.sound c.placed s m)) in
+    flat_few (put_events net kinds) (puts_of net book g) (λ s m. put_few net kinds k s (puts_held net legal book g sound placed s m)) in
     let fewer : length (puts_of net book g) ≤ length (joined_slots (reverse (grant_slots net g))) = empty_fewer (records_of net book) (joined_slots (reverse (grant_slots net g))) in
     let all : length (joined_slots (reverse (grant_slots net g))) ≡ slots_taken net g.request.size g.placement.hops =
     joined_reverse (grant_slots net g) ∙ joined_length net g.request.size g.request.rights g.placement.own 0 g.placement.hops in
     omega arith
+
+pub grant_few : (net : List NodeDecl) (kinds : List Meaning) (book : List Grant) (g : Grant) (set : List NodeTable) → Coming net kinds book g set → (cleared : Bool) → length (grant_events net kinds book cleared g) ≤ event_room net g.request.size g.placement.hops
+grant_few net kinds book g set c cleared = sound_few net kinds book g (record { lawful = c.lawful; shaped = c.legal.shaped }) c.legal.legal c.kept.sound c.placed cleared
 
 pub revoke_few : (net : List NodeDecl) (kinds : List Meaning) (book : List Grant) (g : Grant) (set : List NodeTable) → Going net kinds book g set → length (revoke_events net kinds book g) ≤ event_room net g.request.size g.placement.hops
 revoke_few net kinds book g set c =

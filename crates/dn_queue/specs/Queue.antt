@@ -14,8 +14,8 @@ pub record QueueState : Type 0 where
   pub faults : ℕ
 
 -- how many words the units were given
-abbrev pub sizes_by : List Size → List UnitSize
-sizes_by sizes = map (λ s. record { unit = s.unit; words = s.words }) sizes
+abbrev pub unit_sizes : List Size → List UnitSize
+unit_sizes sizes = map (λ s. record { unit = s.unit; words = s.words }) sizes
 
 -- each fault is answered by the call in which it comes
 abbrev pub faults_at : QueueState → Faults

@@ -36,12 +36,12 @@ pub struct Queue {
 impl Model for Queue {
     ghost use Rattle.std.specs.Prelude.{◌≢◌, ◌≤◌};
     ghost use Rattle.std.specs.Vec.{vec_len, vec_capacity};
-    ghost use Rattle.dn_queue.specs.Queue.{QueueState, sizes_by};
+    ghost use Rattle.dn_queue.specs.Queue.{QueueState, unit_sizes};
 
     ghost Value = { QueueState };
 
     ghost view = { λ q. record {
-      units = sizes_by q.sizes.items;
+      units = unit_sizes q.sizes.items;
       events = q.events.items;
       room = q.room;
       faults = q.faults;

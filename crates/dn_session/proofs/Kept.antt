@@ -15,7 +15,7 @@ use Rattle.dn_book.specs.Tables.{IsKept}
 use Rattle.dn_tables.proofs.Slots.{all_of_map}
 use Rattle.dn_queue.specs.Queue.{QueueState}
 use Rattle.dn_queue.specs.Changing.{AreUnchanged, IsBookChanged}
-use Rattle.dn_session.specs.Changing.{IsChanged, LeadsTo}
+use Rattle.dn_session.specs.Changing.{IsSessionChanged, EventsLeadTo}
 use Rattle.dn_session.specs.Open.{IsOpen, SessionState}
 use Rattle.dn_session.specs.Shipped.{shipped_kinds}
 
@@ -35,7 +35,7 @@ changed_open net flats ks next cleared events book book' queue queue' shipped is
 }
 
 -- so it is changed, seen from outside
-pub changed_seen : (net : List NodeDecl) (ks : List Meaning) (next : List Grant) (cleared : Bool) (events : List TableEvent) (book book' : BookState) (queue queue' : QueueState) → IsBookChanged net ks next cleared events book book' queue queue' → LeadsTo net book.grants next events → IsChanged next cleared events (seen net book queue) (seen net book' queue')
+pub changed_seen : (net : List NodeDecl) (ks : List Meaning) (next : List Grant) (cleared : Bool) (events : List TableEvent) (book book' : BookState) (queue queue' : QueueState) → IsBookChanged net ks next cleared events book book' queue queue' → EventsLeadTo net book.grants next book.cleared cleared events → IsSessionChanged next cleared events (seen net book queue) (seen net book' queue')
 changed_seen net ks next cleared events book book' queue queue' done leads =
     record { net = refl; grants = done.grants; fenced = done.fenced; pending = done.pending; leads = leads }
 

@@ -1,6 +1,13 @@
+pub mod Gathered
+pub mod Gathering
 pub mod Granted
+pub mod History
 pub mod Kept
 pub mod Leads
+pub mod Most
 pub mod Placed
+pub mod Resolved
 pub mod Revoked
+pub mod Routed
 pub mod Shipped
+pub mod Stored

@@ -1,5 +1,5 @@
 -- A list to which the shipped kinds were added, one after another, has them.
-use Rattle.std.proofs.Common.{◌≡◌, ◌∙◌, ap, List, [], ◌∷◌, ◌++◌, map, false, true, true≢false, subst, sym, Result, Ok, Err, is_err, OnOk}
+use Rattle.std.proofs.Common.{◌≡◌, ◌∙◌, ap, List, [], ◌∷◌, ◌++◌, map, false, true≢false, subst, sym, Result, Ok, Err, is_err, OnOk}
 use Rattle.dn_kind.specs.Kind.{Meaning}
 use Rattle.dn_kinds.specs.Layouts.{pages, radix, remap, vectors}
 use Rattle.dn_session.specs.Shipped.{shipped_kinds}

@@ -13,7 +13,7 @@ use Rattle.dn_grant.specs.declared.refusal.GrantRefusal.{GrantRefusal}
 use Rattle.dn_grant.specs.declared.refusal.GrantRefusal.TheVariants.{NoPlacement}
 use Rattle.dn_grant.specs.Grant.{grant_of_request}
 use Rattle.dn_grant.specs.Refusal.{grant_refusal}
-use Rattle.dn_session.specs.Changing.{IsChanged}
+use Rattle.dn_session.specs.Changing.{IsSessionChanged}
 use Rattle.dn_session.specs.Open.{SessionState}
 use Rattle.dn_session.specs.Shipped.{shipped_kinds}
 
@@ -40,12 +40,12 @@ pub record IsUnplacedAt (net : List NodeDecl) (book : List Grant) (id : ℕ) (rq
 
 -- the session granted the request at an address of its agent, at the first admissible placement: the grant lives, and
 -- its events are pending after those that were
-pub record IsGranted (s : SessionState) (id : ℕ) (rq : Request) (at : Option ℕ) (v : ℕ) (s' : SessionState)
+pub record IsSessionGranted (s : SessionState) (id : ℕ) (rq : Request) (at : Option ℕ) (v : ℕ) (s' : SessionState)
     : Type 0 where
   pub place : Place
   pub placed : IsPlacedAt s.net s.book.grants id rq at place
   pub address : v ≡ place.v
-  pub changed : IsChanged (s.book.grants ++ grant_of_request id rq place ∷ []) false
+  pub changed : IsSessionChanged (s.book.grants ++ grant_of_request id rq place ∷ []) false
       (grant_events s.net shipped_kinds s.book.grants s.book.cleared (grant_of_request id rq place)) s s'
 
 -- the refusal is the first of the request that holds; that no placement is admissible is the last

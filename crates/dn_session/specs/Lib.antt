@@ -1,6 +1,12 @@
 pub mod Changing
+pub mod Gathering
 pub mod Granting
+pub mod History
 pub mod Open
 pub mod Revoking
+pub mod Room
+pub mod Routing
+pub mod Seeing
 pub mod Shipped
+pub mod Stored
 pub mod Terms

@@ -1,4 +1,17 @@
-//! A session: a net with its live grants, which change at run time, and what is to be done to the hardware for them.
+//! Sessions: a net with its live grants, which change at run time, and the events that are pending
+//! for the hardware.
+//!
+//! ```text
+//! let kinds = shipped_kinds!(alloc, Err(OutOfMemory));
+//! let mut session = Session::make(alloc, &kinds, net, &walks)?;
+//! let address = session.grant(alloc, 1, &request, None)?;    // Some(v): at this address
+//! for event in session.pending() { .. }                      // perform them in this order
+//! session.settle();
+//! ```
+//!
+//! Each call changes the session whole, and adds its events to those that are pending; or it
+//! answers an error, and nothing has changed. Under any prefix of the events of a call each name
+//! resolves as before the call or as after it.
 #![tactic(auto)]
 
 /// The kinds of units that the program ships, in order: `pages`, `remap`, `vectors` and `radix`. For want of memory the
@@ -38,4 +51,7 @@ macro_rules! shipped_kinds {
     }};
 }
 
+mod gather;
+pub mod laws;
+mod room;
 pub mod session;

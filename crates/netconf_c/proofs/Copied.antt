@@ -24,3 +24,9 @@ copied_next f all ys out from at d y l m is e =
     ∙ ap (λ x. set (map f (take at (drop from all)) ++ drop at ys) at (f x)) (sym (get_or-drop from all at d))
     ∙ copied_more f (drop from all) ys at d (omega arith) m
     ∙ ap (λ n. map f (take n (drop from all)) ++ drop n ys) more
+
+-- the next of the items from the first on
+pub copied_front : {X Y : Type 0} (f : X → Y) (xs : List X) (ys out : List Y) (at : ℕ) (d : X) (y : Y) → at < length xs → at < length ys → out ≡ map f (take at xs) ++ drop at ys → y ≡ f (get_or xs at d) → set out at y ≡ map f (take (at + 1) xs) ++ drop (at + 1) ys
+copied_front f xs ys out at d y l m is e =
+    let more : suc at ≡ at + 1 = omega arith in
+    (λ i. set (is i) at (e i)) ∙ copied_more f xs ys at d l m ∙ ap (λ n. map f (take n xs) ++ drop n ys) more

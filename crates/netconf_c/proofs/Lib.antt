@@ -1,2 +1,5 @@
 mod Copied
+mod Fault
 mod Opened
+mod Ran
+mod Unaccepted

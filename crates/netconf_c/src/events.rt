@@ -9,7 +9,8 @@ use dn_base::device::TableEvent;
 #[repr(C)]
 #[derive(Clone, Copy, Default)]
 pub struct Event {
-    /// 0: the unit has `word` words, all 0. 1: word `word` of the unit is `value`. 2: no lookup is in flight.
+    /// 0: the unit has `word` words, all 0. 1: word `word` of the unit is `value`. 2: no lookup is
+    /// in flight.
     pub kind: u32,
     /// The number of the unit's node.
     pub unit: u32,
@@ -50,11 +51,12 @@ fn event_of(event: TableEvent) -> Event
     }
 }
 
-/// Writes the events from a number on to the front of a slice, as many as there are or there is room for,
-/// and answers how many.
+/// Writes the events from a number on to the front of a slice, as many as there are or there is
+/// room for, and answers how many.
 pub(crate) fn copy_events(pending: &[TableEvent], from: usize, out: &mut [Event]) -> usize
     ensures count { result ≡ min (length pending.now - from) (length out.old) }
-    ensures copied { out.new ≡ map event_of (take result (drop from pending.now)) ++ drop result out.old }
+    ensures copied { out.new
+        ≡ map event_of (take result (drop from pending.now)) ++ drop result out.old }
 {
     let count = pending.len().saturating_sub(from).min(out.len());
     for at in 0..count {

@@ -14,7 +14,8 @@ use dn_session::shipped_kinds;
 use dn_tool::compile::{CompileFault, Platform, compile};
 use std::alloc::Global;
 
-/// A session of a description, in which no grant lives. The commands of the description are not run.
+/// A session of a description, in which no grant lives. The commands of the description are not
+/// run.
 ///
 /// # Errors
 ///
@@ -28,7 +29,7 @@ pub(crate) fn open(alloc: Global, text: &[u8]) -> Result<Session, CompileFault>
     open_with(alloc, &kinds, text)
 }
 
-/// The same with the shipped kinds.
+/// Opens a description with the shipped kinds.
 fn open_with(alloc: Global, kinds: &Kinds, text: &[u8]) -> Result<Session, CompileFault>
     requires kinds { AreKinds meaning kinds.now }
     requires shipped { kinds_of meaning kinds.now ≡ shipped_kinds }

@@ -17,6 +17,8 @@ pub(crate) const NO_MEMORY: u32 = 3;
 pub(crate) const TOO_SMALL: u32 = 4;
 /// The text breaks a rule, whose line was written.
 pub(crate) const REFUSED: u32 = 5;
+/// The agent's number is that of no node, or of a node that is no agent.
+pub(crate) const NO_AGENT: u32 = 17;
 /// No live grant has the id.
 pub(crate) const NO_GRANT: u32 = 22;
 /// No node has the name or the number.

@@ -2,7 +2,7 @@ use Rattle.std.proofs.Common.{◌≡◌, sym, subst, None}
 use Rattle.dn_placement.specs.Order.{IsFirst}
 use Rattle.dn_book.specs.Book.{slots_of}
 use Rattle.dn_grant.specs.Refusal.{grant_refusal}
-use Rattle.dn_session.specs.Granting.{IsGranted, IsRefused}
+use Rattle.dn_session.specs.Granting.{IsSessionGranted, IsRefused}
 use Rattle.dn_session.specs.Open.{SessionState}
 use Rattle.dn_session.proofs.Granted.{granted_seen, granted_told, none_told, unplaced_told}
 use Rattle.dn_session.proofs.Kept.{after_change, seen, shipped_lawful}
@@ -48,7 +48,7 @@ returns-clause-granted g c =
     let after : SessionState = seen c.self.inside.net c.commit.new.book c.commit.new.queue in
     elim c.match-commit.branch [
       | in-Ok w ↦ granted_told c.args.self.now after c.args.id c.args.request.now c.args.at c.match-commit.result c.v-v.result w.result-is
-          (subst (λ (s : SessionState). IsGranted s c.args.id c.args.request.now c.args.at c.v-v.result after) c.self.view_is
+          (subst (λ (s : SessionState). IsSessionGranted s c.args.id c.args.request.now c.args.at c.v-v.result after) c.self.view_is
           (granted_seen c.self.inside.net c.self.inside.flats _ c.self.inside.book c.commit.new.book c.self.inside.queue c.commit.new.queue c.args.id c.args.request.now c.args.at c.in-Ok-Some.placement c.v-v.result
           c.requires.shipped (shipped_lawful _ c.args.kinds.now c.requires.kinds c.requires.shipped) c.self.invariant (allowed g here) c.requires.rights (first g here) c.v-v.ensures w.in-Ok.ensures.done))
       | in-Err-commit w ↦ none_told c.args.self.now after c.args.id c.args.request.now c.args.at c.match-commit.result _ w.result-is
