@@ -11,7 +11,7 @@ use Rattle.std.proofs.lemmas.Option.{same_Some}
 use Rattle.slab.specs.Slab.{ContainsKey, Slab, Updates, get}
 use Rattle.dn_book.specs.declared.grant.Grant.{Grant}
 use Rattle.dn_book.specs.Book.{has_id, without_id}
-use Rattle.dn_book.specs.Placed.{AreHeld, ArePlaced, IsOfId, grants_at, without_place}
+use Rattle.dn_book.specs.Placed.{AreIdsHeld, AreFoundById, IsOfId, kept_grants, without_place}
 
 -- what is left of the room once there was room for one
 pub one_less : (n : ℕ) → max n 1 - 1 ≡ n - 1
@@ -36,11 +36,11 @@ own_test g own id e = ap (λ n. n == id) e ∙ turned own id
 -- EACH GRANT AT ITS PLACE
 
 -- each place has one grant
-pub length_at : (kept : Slab Grant) (es : List (ℕ × ℕ)) → AreHeld kept es → length (grants_at kept es) ≡ length es
+pub length_at : (kept : Slab Grant) (es : List (ℕ × ℕ)) → AreIdsHeld kept es → length (kept_grants kept es) ≡ length es
 length_at kept [] h = refl
 length_at kept (e ∷ es) h = go (length_at kept es h.1) (get kept e.1) h.0
   where
-    go : length (grants_at kept es) ≡ length es → (o : Option Grant) → IsOfId e.0 o → length (cons_option o (grants_at kept es)) ≡ suc (length es)
+    go : length (kept_grants kept es) ≡ length es → (o : Option Grant) → IsOfId e.0 o → length (cons_option o (kept_grants kept es)) ≡ suc (length es)
     go rest None i = absurd i
     go rest (Some g) i = ap suc rest
 
@@ -55,41 +55,41 @@ at_place kept None = None
 at_place kept (Some p) = get kept p
 
 -- the grant after so many others is kept at the place of its entry
-pub nth_at : (kept : Slab Grant) (es : List (ℕ × ℕ)) (i : ℕ) → AreHeld kept es → at_entry kept (slice_get es i) ≡ slice_get (grants_at kept es) i
+pub nth_at : (kept : Slab Grant) (es : List (ℕ × ℕ)) (i : ℕ) → AreIdsHeld kept es → at_entry kept (slice_get es i) ≡ slice_get (kept_grants kept es) i
 nth_at kept [] i h = refl
 nth_at kept (e ∷ es) zero h = go (get kept e.1) h.0
   where
-    go : (o : Option Grant) → IsOfId e.0 o → o ≡ slice_get (cons_option o (grants_at kept es)) zero
+    go : (o : Option Grant) → IsOfId e.0 o → o ≡ slice_get (cons_option o (kept_grants kept es)) zero
     go None i = absurd i
     go (Some g) i = refl
 nth_at kept (e ∷ es) (suc i) h = go (nth_at kept es i h.1) (get kept e.1) h.0
   where
-    go : at_entry kept (slice_get es i) ≡ slice_get (grants_at kept es) i → (o : Option Grant) → IsOfId e.0 o → at_entry kept (slice_get es i) ≡ slice_get (cons_option o (grants_at kept es)) (suc i)
+    go : at_entry kept (slice_get es i) ≡ slice_get (kept_grants kept es) i → (o : Option Grant) → IsOfId e.0 o → at_entry kept (slice_get es i) ≡ slice_get (cons_option o (kept_grants kept es)) (suc i)
     go rest None k = absurd k
     go rest (Some g) k = rest
 
 -- the place of an id has the first grant of it
-pub find_at : (kept : Slab Grant) (es : List (ℕ × ℕ)) (id : ℕ) → AreHeld kept es → at_place kept (lookup (nat_eq id) es) ≡ find (λ (g : Grant). g.id == id) (grants_at kept es)
+pub find_at : (kept : Slab Grant) (es : List (ℕ × ℕ)) (id : ℕ) → AreIdsHeld kept es → at_place kept (lookup (nat_eq id) es) ≡ find (λ (g : Grant). g.id == id) (kept_grants kept es)
 find_at kept [] id h = refl
 find_at kept (e ∷ es) id h = go (find_at kept es id h.1) (get kept e.1) refl h.0 (nat_eq id e.0) refl
   where
-    go : at_place kept (lookup (nat_eq id) es) ≡ find (λ (g : Grant). g.id == id) (grants_at kept es) → (o : Option Grant) → get kept e.1 ≡ o → IsOfId e.0 o → (b : Bool) → nat_eq id e.0 ≡ b → at_place kept (cond b (Some e.1) (lookup (nat_eq id) es)) ≡ find (λ (g : Grant). g.id == id) (cons_option o (grants_at kept es))
+    go : at_place kept (lookup (nat_eq id) es) ≡ find (λ (g : Grant). g.id == id) (kept_grants kept es) → (o : Option Grant) → get kept e.1 ≡ o → IsOfId e.0 o → (b : Bool) → nat_eq id e.0 ≡ b → at_place kept (cond b (Some e.1) (lookup (nat_eq id) es)) ≡ find (λ (g : Grant). g.id == id) (cons_option o (kept_grants kept es))
     go rest None f i b k = absurd i
-    go rest (Some g) f i true k = f ∙ ap (λ b. cond b (Some g) (find (λ (w : Grant). w.id == id) (grants_at kept es))) (sym (own_test g.id e.0 id i ∙ k))
-    go rest (Some g) f i false k = rest ∙ ap (λ b. cond b (Some g) (find (λ (w : Grant). w.id == id) (grants_at kept es))) (sym (own_test g.id e.0 id i ∙ k))
+    go rest (Some g) f i true k = f ∙ ap (λ b. cond b (Some g) (find (λ (w : Grant). w.id == id) (kept_grants kept es))) (sym (own_test g.id e.0 id i ∙ k))
+    go rest (Some g) f i false k = rest ∙ ap (λ b. cond b (Some g) (find (λ (w : Grant). w.id == id) (kept_grants kept es))) (sym (own_test g.id e.0 id i ∙ k))
 
 -- an id has a place exactly where a grant has it
-pub has_at : (kept : Slab Grant) (es : List (ℕ × ℕ)) (id : ℕ) → AreHeld kept es → is_some (lookup (nat_eq id) es) ≡ has_id id (grants_at kept es)
+pub has_at : (kept : Slab Grant) (es : List (ℕ × ℕ)) (id : ℕ) → AreIdsHeld kept es → is_some (lookup (nat_eq id) es) ≡ has_id id (kept_grants kept es)
 has_at kept [] id h = refl
 has_at kept (e ∷ es) id h = go (has_at kept es id h.1) (get kept e.1) h.0 (nat_eq id e.0) refl
   where
-    go : is_some (lookup (nat_eq id) es) ≡ has_id id (grants_at kept es) → (o : Option Grant) → IsOfId e.0 o → (b : Bool) → nat_eq id e.0 ≡ b → is_some (cond b (Some e.1) (lookup (nat_eq id) es)) ≡ has_id id (cons_option o (grants_at kept es))
+    go : is_some (lookup (nat_eq id) es) ≡ has_id id (kept_grants kept es) → (o : Option Grant) → IsOfId e.0 o → (b : Bool) → nat_eq id e.0 ≡ b → is_some (cond b (Some e.1) (lookup (nat_eq id) es)) ≡ has_id id (cons_option o (kept_grants kept es))
     go rest None i b k = absurd i
-    go rest (Some g) i true k = ap (λ b. b || has_id id (grants_at kept es)) (sym (own_test g.id e.0 id i ∙ k))
-    go rest (Some g) i false k = rest ∙ ap (λ b. b || has_id id (grants_at kept es)) (sym (own_test g.id e.0 id i ∙ k))
+    go rest (Some g) i true k = ap (λ b. b || has_id id (kept_grants kept es)) (sym (own_test g.id e.0 id i ∙ k))
+    go rest (Some g) i false k = rest ∙ ap (λ b. b || has_id id (kept_grants kept es)) (sym (own_test g.id e.0 id i ∙ k))
 
 -- the place of an id has a grant of it
-held_of : (kept : Slab Grant) (es : List (ℕ × ℕ)) (id p : ℕ) → AreHeld kept es → lookup (nat_eq id) es ≡ Some p → IsOfId id (get kept p)
+held_of : (kept : Slab Grant) (es : List (ℕ × ℕ)) (id p : ℕ) → AreIdsHeld kept es → lookup (nat_eq id) es ≡ Some p → IsOfId id (get kept p)
 held_of kept [] id p h e = let no : None ≡ Some p = e in cc
 held_of kept (x ∷ es) id p h e = go (λ f. held_of kept es id p h.1 f) (nat_eq id x.0) refl e
   where
@@ -100,7 +100,7 @@ held_of kept (x ∷ es) id p h e = go (λ f. held_of kept es id p h.1 f) (nat_eq
     go rest false k f = rest f
 
 -- so there is a grant at it
-pub is_kept : (kept : Slab Grant) (es is : List (ℕ × ℕ)) (id p : ℕ) → ArePlaced kept es is → lookup (nat_eq id) is ≡ Some p → ContainsKey kept p
+pub is_kept : (kept : Slab Grant) (es is : List (ℕ × ℕ)) (id p : ℕ) → AreFoundById kept es is → lookup (nat_eq id) is ≡ Some p → ContainsKey kept p
 is_kept kept es is id p a at = go (get kept p) (held_of kept es id p a.held (sym (a.found id) ∙ at))
   where
     go : (o : Option Grant) → IsOfId id o → is_some o ≡ true
@@ -114,25 +114,25 @@ not_vacant : (kept : Slab Grant) (id q p : ℕ) → IsOfId id (get kept q) → g
 not_vacant kept id q p i v e = subst (λ o. IsOfId id o) (ap (get kept) e ∙ v) i
 
 -- what was kept stays where it was
-held_still : (old new : Slab Grant) (p : ℕ) (o : Option Grant) (es : List (ℕ × ℕ)) → Updates old new p o → get old p ≡ None → AreHeld old es → AreHeld new es
+held_still : (old new : Slab Grant) (p : ℕ) (o : Option Grant) (es : List (ℕ × ℕ)) → Updates old new p o → get old p ≡ None → AreIdsHeld old es → AreIdsHeld new es
 held_still old new p o [] u v h = tt
 held_still old new p o (e ∷ es) u v h = (subst (λ w. IsOfId e.0 w) (sym (u.others e.1 (not_vacant old e.0 e.1 p h.0 v))) h.0, held_still old new p o es u v h.1)
 
-grants_still : (old new : Slab Grant) (p : ℕ) (o : Option Grant) (es : List (ℕ × ℕ)) → Updates old new p o → get old p ≡ None → AreHeld old es → grants_at new es ≡ grants_at old es
+grants_still : (old new : Slab Grant) (p : ℕ) (o : Option Grant) (es : List (ℕ × ℕ)) → Updates old new p o → get old p ≡ None → AreIdsHeld old es → kept_grants new es ≡ kept_grants old es
 grants_still old new p o [] u v h = refl
 grants_still old new p o (e ∷ es) u v h =
-    ap (λ w. cons_option w (grants_at new es)) (u.others e.1 (not_vacant old e.0 e.1 p h.0 v))
+    ap (λ w. cons_option w (kept_grants new es)) (u.others e.1 (not_vacant old e.0 e.1 p h.0 v))
     ∙ ap (λ l. cons_option (get old e.1) l) (grants_still old new p o es u v h.1)
 
-held_last : (kept : Slab Grant) (es : List (ℕ × ℕ)) (p : ℕ) (g : Grant) → get kept p ≡ Some g → AreHeld kept es → AreHeld kept (es ++ (g.id, p) ∷ [])
+held_last : (kept : Slab Grant) (es : List (ℕ × ℕ)) (p : ℕ) (g : Grant) → get kept p ≡ Some g → AreIdsHeld kept es → AreIdsHeld kept (es ++ (g.id, p) ∷ [])
 held_last kept [] p g e h = (subst (λ w. IsOfId g.id w) (sym e) refl, tt)
 held_last kept (x ∷ es) p g e h = (h.0, held_last kept es p g e h.1)
 
-grants_last : (kept : Slab Grant) (es : List (ℕ × ℕ)) (p : ℕ) (g : Grant) → get kept p ≡ Some g → AreHeld kept es → grants_at kept (es ++ (g.id, p) ∷ []) ≡ grants_at kept es ++ g ∷ []
+grants_last : (kept : Slab Grant) (es : List (ℕ × ℕ)) (p : ℕ) (g : Grant) → get kept p ≡ Some g → AreIdsHeld kept es → kept_grants kept (es ++ (g.id, p) ∷ []) ≡ kept_grants kept es ++ g ∷ []
 grants_last kept [] p g e h = ap (λ w. cons_option w []) e
 grants_last kept (x ∷ es) p g e h = go (grants_last kept es p g e h.1) (get kept x.1) h.0
   where
-    go : grants_at kept (es ++ (g.id, p) ∷ []) ≡ grants_at kept es ++ g ∷ [] → (o : Option Grant) → IsOfId x.0 o → cons_option o (grants_at kept (es ++ (g.id, p) ∷ [])) ≡ cons_option o (grants_at kept es) ++ g ∷ []
+    go : kept_grants kept (es ++ (g.id, p) ∷ []) ≡ kept_grants kept es ++ g ∷ [] → (o : Option Grant) → IsOfId x.0 o → cons_option o (kept_grants kept (es ++ (g.id, p) ∷ [])) ≡ cons_option o (kept_grants kept es) ++ g ∷ []
     go rest None i = absurd i
     go rest (Some w) i = ap (λ (l : List Grant). w ∷ l) rest
 
@@ -165,7 +165,7 @@ missing None e = refl
 missing (Some x) e = cc
 
 -- the grants are kept with one more
-pub placed_last : (old new : Slab Grant) (es is is' : List (ℕ × ℕ)) (p : ℕ) (g : Grant) → ArePlaced old es is → has_id g.id (grants_at old es) ≡ false → Updates old new p (Some g) → get old p ≡ None → ((q : ℕ) → lookup (nat_eq q) is' ≡ cond (nat_eq g.id q) (Some p) (lookup (nat_eq q) is)) → ArePlaced new (es ++ (g.id, p) ∷ []) is'
+pub placed_last : (old new : Slab Grant) (es is is' : List (ℕ × ℕ)) (p : ℕ) (g : Grant) → AreFoundById old es is → has_id g.id (kept_grants old es) ≡ false → Updates old new p (Some g) → get old p ≡ None → ((q : ℕ) → lookup (nat_eq q) is' ≡ cond (nat_eq g.id q) (Some p) (lookup (nat_eq q) is)) → AreFoundById new (es ++ (g.id, p) ∷ []) is'
 placed_last old new es is is' p g a none u v put = record {
   held = held_last new es p g u.changed (held_still old new p (Some g) es u v a.held);
   apart = distinct_last es g.id p a.apart fresh;
@@ -175,7 +175,7 @@ placed_last old new es is is' p g a none u v put = record {
     fresh : lookup (nat_eq g.id) es ≡ None
     fresh = missing (lookup (nat_eq g.id) es) (has_at old es g.id a.held ∙ none)
 
-pub grants_more : (old new : Slab Grant) (es : List (ℕ × ℕ)) (p : ℕ) (g : Grant) → AreHeld old es → Updates old new p (Some g) → get old p ≡ None → grants_at new (es ++ (g.id, p) ∷ []) ≡ grants_at old es ++ g ∷ []
+pub grants_more : (old new : Slab Grant) (es : List (ℕ × ℕ)) (p : ℕ) (g : Grant) → AreIdsHeld old es → Updates old new p (Some g) → get old p ≡ None → kept_grants new (es ++ (g.id, p) ∷ []) ≡ kept_grants old es ++ g ∷ []
 grants_more old new es p g h u v =
     grants_last new es p g u.changed (held_still old new p (Some g) es u v h)
     ∙ ap (λ (l : List Grant). l ++ g ∷ []) (grants_still old new p (Some g) es u v h)
@@ -214,25 +214,25 @@ other_place kept id own q p i k f e = go (get kept p) (subst (λ n. IsOfId own (
     go None x y = x
     go (Some g) x y = let t : (own == id) ≡ true = eq-eqb own id (sym x ∙ y) in let no : true ≡ false = sym t ∙ f in cc
 
-grants_less : (old new : Slab Grant) (es : List (ℕ × ℕ)) (id p : ℕ) → AreHeld old es → IsOfId id (get old p) → Updates old new p None → grants_at new (without_place id es) ≡ without_id id (grants_at old es)
+grants_less : (old new : Slab Grant) (es : List (ℕ × ℕ)) (id p : ℕ) → AreIdsHeld old es → IsOfId id (get old p) → Updates old new p None → kept_grants new (without_place id es) ≡ without_id id (kept_grants old es)
 grants_less old new [] id p h i u = refl
 grants_less old new (e ∷ es) id p h i u = go (grants_less old new es id p h.1 i u) (get old e.1) refl h.0 (e.0 == id) refl
   where
-    go : grants_at new (without_place id es) ≡ without_id id (grants_at old es) → (o : Option Grant) → get old e.1 ≡ o → IsOfId e.0 o → (b : Bool) → (e.0 == id) ≡ b → grants_at new (if not b then e ∷ without_place id es else without_place id es) ≡ without_id id (cons_option o (grants_at old es))
+    go : kept_grants new (without_place id es) ≡ without_id id (kept_grants old es) → (o : Option Grant) → get old e.1 ≡ o → IsOfId e.0 o → (b : Bool) → (e.0 == id) ≡ b → kept_grants new (if not b then e ∷ without_place id es else without_place id es) ≡ without_id id (cons_option o (kept_grants old es))
     go rest None f k b t = absurd k
     go rest (Some g) f k true t =
         rest
-        ∙ sym (ap (λ b. if not b then g ∷ without_id id (grants_at old es) else without_id id (grants_at old es)) (ap (λ n. n == id) k ∙ t))
+        ∙ sym (ap (λ b. if not b then g ∷ without_id id (kept_grants old es) else without_id id (kept_grants old es)) (ap (λ n. n == id) k ∙ t))
     go rest (Some g) f k false t =
-        ap (λ w. cons_option w (grants_at new (without_place id es))) (u.others e.1 (other_place old id e.0 e.1 p h.0 i t) ∙ f)
+        ap (λ w. cons_option w (kept_grants new (without_place id es))) (u.others e.1 (other_place old id e.0 e.1 p h.0 i t) ∙ f)
         ∙ ap (λ (l : List Grant). g ∷ l) rest
-        ∙ sym (ap (λ b. if not b then g ∷ without_id id (grants_at old es) else without_id id (grants_at old es)) (ap (λ n. n == id) k ∙ t))
+        ∙ sym (ap (λ b. if not b then g ∷ without_id id (kept_grants old es) else without_id id (kept_grants old es)) (ap (λ n. n == id) k ∙ t))
 
-held_less : (old new : Slab Grant) (es : List (ℕ × ℕ)) (id p : ℕ) → AreHeld old es → IsOfId id (get old p) → Updates old new p None → AreHeld new (without_place id es)
+held_less : (old new : Slab Grant) (es : List (ℕ × ℕ)) (id p : ℕ) → AreIdsHeld old es → IsOfId id (get old p) → Updates old new p None → AreIdsHeld new (without_place id es)
 held_less old new [] id p h i u = tt
 held_less old new (e ∷ es) id p h i u = go (held_less old new es id p h.1 i u) (e.0 == id) refl
   where
-    go : AreHeld new (without_place id es) → (b : Bool) → (e.0 == id) ≡ b → AreHeld new (if not b then e ∷ without_place id es else without_place id es)
+    go : AreIdsHeld new (without_place id es) → (b : Bool) → (e.0 == id) ≡ b → AreIdsHeld new (if not b then e ∷ without_place id es else without_place id es)
     go rest true t = rest
     go rest false t = (subst (λ w. IsOfId e.0 w) (sym (u.others e.1 (other_place old id e.0 e.1 p h.0 i t))) h.0, rest)
 
@@ -248,14 +248,14 @@ found_less es id q =
     go false true e = cc
 
 -- the grants are kept with one less
-pub placed_less : (old new : Slab Grant) (es is is' : List (ℕ × ℕ)) (id p : ℕ) → ArePlaced old es is → lookup (nat_eq id) is ≡ Some p → Updates old new p None → ((q : ℕ) → lookup (nat_eq q) is' ≡ cond (nat_eq id q) None (lookup (nat_eq q) is)) → ArePlaced new (without_place id es) is'
+pub placed_less : (old new : Slab Grant) (es is is' : List (ℕ × ℕ)) (id p : ℕ) → AreFoundById old es is → lookup (nat_eq id) is ≡ Some p → Updates old new p None → ((q : ℕ) → lookup (nat_eq q) is' ≡ cond (nat_eq id q) None (lookup (nat_eq q) is)) → AreFoundById new (without_place id es) is'
 placed_less old new es is is' id p a at u taken = record {
   held = held_less old new es id p a.held (held_of old es id p a.held (sym (a.found id) ∙ at)) u;
   apart = IsDistinct-keys_filter nat_eq (λ e. not (e.0 == id)) es a.apart;
   found = λ q. taken q ∙ ap (λ o. cond (nat_eq id q) None o) (a.found q) ∙ sym (found_less es id q);
 }
 
-pub grants_left : (old new : Slab Grant) (es is : List (ℕ × ℕ)) (id p : ℕ) → ArePlaced old es is → lookup (nat_eq id) is ≡ Some p → Updates old new p None → grants_at new (without_place id es) ≡ without_id id (grants_at old es)
+pub grants_left : (old new : Slab Grant) (es is : List (ℕ × ℕ)) (id p : ℕ) → AreFoundById old es is → lookup (nat_eq id) is ≡ Some p → Updates old new p None → kept_grants new (without_place id es) ≡ without_id id (kept_grants old es)
 grants_left old new es is id p a at u = grants_less old new es id p a.held (held_of old es id p a.held (sym (a.found id) ∙ at)) u
 
 without_none : (n : ℕ) (gs : List Grant) → has_id n gs ≡ false → without_id n gs ≡ gs
@@ -269,5 +269,5 @@ without_none n (g ∷ gs) h = go (λ f. without_none n gs f) (g.id == n) refl
         ∙ ap (λ (l : List Grant). g ∷ l) (rest (sym (ap (λ b. b || has_id n gs) f) ∙ h))
 
 -- where no grant has the id, none goes
-pub none_goes : (kept : Slab Grant) (es is : List (ℕ × ℕ)) (id : ℕ) → ArePlaced kept es is → lookup (nat_eq id) is ≡ None → grants_at kept es ≡ without_id id (grants_at kept es)
-none_goes kept es is id a at = sym (without_none id (grants_at kept es) (sym (has_at kept es id a.held) ∙ ap (λ (o : Option ℕ). is_some o) (sym (a.found id) ∙ at)))
+pub none_goes : (kept : Slab Grant) (es is : List (ℕ × ℕ)) (id : ℕ) → AreFoundById kept es is → lookup (nat_eq id) is ≡ None → kept_grants kept es ≡ without_id id (kept_grants kept es)
+none_goes kept es is id a at = sym (without_none id (kept_grants kept es) (sym (has_at kept es id a.held) ∙ ap (λ (o : Option ℕ). is_some o) (sym (a.found id) ∙ at)))

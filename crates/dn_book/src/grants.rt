@@ -33,14 +33,14 @@ impl Model for Grants {
     ghost use Rattle.std.specs.Vec.{vec_len, vec_capacity};
     ghost use Rattle.std.specs.HashMap.{spare as map_spare};
     ghost use Rattle.slab.specs.Slab.{HasRoomFor};
-    ghost use Rattle.dn_book.specs.Placed.{ArePlaced, grants_at};
+    ghost use Rattle.dn_book.specs.Placed.{AreFoundById, kept_grants};
     ghost use Rattle.dn_book.specs.State.{GrantsState};
 
     ghost Value = { GrantsState };
 
-    ghost view = { λ s. record { live = grants_at s.kept s.order.items; spare = s.spare } };
+    ghost view = { λ s. record { live = kept_grants s.kept s.order.items; spare = s.spare } };
 
-    ghost invariant = { λ s. ArePlaced s.kept s.order.items s.places.entries × HasRoomFor s.kept s.spare
+    ghost invariant = { λ s. AreFoundById s.kept s.order.items s.places.entries × HasRoomFor s.kept s.spare
         × (vec_len s.order + s.spare ≤ vec_capacity s.order) × (s.spare ≤ map_spare s.places) };
 }
 

@@ -54,7 +54,7 @@ pub(crate) fn add_uses(tables: &mut TableSet, net: &Net, grant: &Grant)
     }
 }
 
-/// The same of one hop.
+/// Counts a grant among those that use the slots of one of its hops, and as their owner where one is given.
 fn add_hop_uses(tables: &mut TableSet, net: &Net, size: u64, hop: &Hop, owner: Option<u32>)
     requires units { units_of tables.old ≡ map (λ d. d.unit) net.now }
     requires there { (u : UnitPart) × (unit_at net.now hop.now.unit ≡ Some u) ×
@@ -70,7 +70,7 @@ fn add_hop_uses(tables: &mut TableSet, net: &Net, size: u64, hop: &Hop, owner: O
     }
 }
 
-/// The same of one hop in this unit.
+/// Counts a grant among those that use the slots of a hop in this unit, and as their owner where one is given.
 fn add_slot_uses(tables: &mut TableSet, unit: &Unit, size: u64, hop: &Hop, owner: Option<u32>)
     requires is_unit { unit_in tables.old hop.now.unit ≡ Some unit.now }
     requires there { TakesSlots unit.now size hop.now }
@@ -100,7 +100,7 @@ pub(crate) fn end_uses(tables: &mut TableSet, net: &Net, grant: &Grant)
     }
 }
 
-/// The same of one hop.
+/// Takes a grant from those that use the slots of one of its hops.
 fn end_hop_uses(tables: &mut TableSet, net: &Net, size: u64, hop: &Hop)
     requires units { units_of tables.old ≡ map (λ d. d.unit) net.now }
     requires there { (u : UnitPart) × (unit_at net.now hop.now.unit ≡ Some u) ×
@@ -116,7 +116,7 @@ fn end_hop_uses(tables: &mut TableSet, net: &Net, size: u64, hop: &Hop)
     }
 }
 
-/// The same of one hop in this unit.
+/// Takes a grant from those that use the slots of a hop in this unit.
 fn end_slot_uses(tables: &mut TableSet, unit: &Unit, size: u64, hop: &Hop)
     requires is_unit { unit_in tables.old hop.now.unit ≡ Some unit.now }
     requires there { TakesSlots unit.now size hop.now }

@@ -40,8 +40,8 @@ grant_text agent buffer =
     digits 16 false (buffer_base agent buffer) ++ codes " 0x3000;\n")))))
 
 -- the grants of an agent: buffers 0 to 15
-unfoldable pub grants_of : ℕ → List ℕ
-grants_of agent = texts_below (grant_text agent) 16
+unfoldable pub agent_grants : ℕ → List ℕ
+agent_grants agent = texts_below (grant_text agent) 16
 
 -- the revoke of the grant of a buffer of an agent
 abbrev pub revoke_text : ℕ → ℕ → List ℕ
@@ -53,9 +53,9 @@ revokes_of agent = texts_below (λ pair. revoke_text agent (2 * pair + 1)) 8
 
 -- the commands of a sort of an agent
 abbrev pub agent_commands : CommandKind → ℕ → List ℕ
-agent_commands Grants = grants_of
+agent_commands Grants = agent_grants
 agent_commands Revokes = revokes_of
 
 -- the text of the demonstration with so many agents
 abbrev pub demo_text : ℕ → List ℕ
-demo_text agents = platform_text agents ++ (texts_below grants_of agents ++ texts_below revokes_of agents)
+demo_text agents = platform_text agents ++ (texts_below agent_grants agents ++ texts_below revokes_of agents)

@@ -2,7 +2,7 @@
 
 ghost use Rattle.std.specs.Prelude.{◌≡◌, ◌<◌, ◌++◌, IfOk, OnOk};
 ghost use Rattle.std.specs.String.{string_bytes};
-ghost use Rattle.dn_demo.specs.Terms.{agent_commands, demo_text, grant_text, grants_of, loop_text, platform_text, revoke_text, revokes_of, texts_below};
+ghost use Rattle.dn_demo.specs.Terms.{agent_commands, demo_text, grant_text, agent_grants, loop_text, platform_text, revoke_text, revokes_of, texts_below};
 
 use crate::OutOfMemory;
 use std::alloc::Global;
@@ -79,7 +79,7 @@ fn write_commands_of(out: &mut String, agent: u8, commands: CommandKind) -> Resu
 
 /// Appends the grants of an agent.
 fn write_grants_of(out: &mut String, agent: u8) -> Result<(), OutOfMemory>
-    ensures { OnOk result (string_bytes out.new ≡ string_bytes out.old ++ grants_of agent) }
+    ensures { OnOk result (string_bytes out.new ≡ string_bytes out.old ++ agent_grants agent) }
 {
     for buffer in 0..BUFFERS {
         write_grant(out, agent, buffer)?;

@@ -82,7 +82,7 @@ is_listed_for by_unit unit agent = is_among agent (slice_index_or by_unit unit [
 
 -- An agent that sees names of some units is, for each of these that is there, in its list or in the last one; and it is
 -- in the last one where one of them leads on.
-pub record IsListed (leads : List Bool) (by_unit : List (List ℕ)) (onward : List ℕ) (agent : ℕ)
+pub record IsAgentListed (leads : List Bool) (by_unit : List (List ℕ)) (onward : List ℕ) (agent : ℕ)
     (units : List ℕ) : Type 0 where
   pub each : (unit : ℕ) → unit < length by_unit → is_among unit units ≡ true →
       (is_among agent onward || is_listed_for by_unit unit agent) ≡ true
@@ -94,7 +94,7 @@ pub record AreListed (net : List NodeDecl) (nodes : List Levels) (node : ℕ) (l
     (by_unit : List (List ℕ)) (onward : List ℕ) : Type 0 where
   pub every : length by_unit ≡ length net
   pub each : (agent : ℕ) → agent < node → IsTrue (is_agent_at (slice_get net agent)) →
-      IsListed leads by_unit onward agent (units_in (slice_get nodes agent))
+      IsAgentListed leads by_unit onward agent (units_in (slice_get nodes agent))
 
 -- it is told of each node whether it is a unit that leads to units, and each agent is in the lists for the units whose
 -- names it sees

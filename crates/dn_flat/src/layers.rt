@@ -41,7 +41,7 @@ pub(crate) fn joined(alloc: Global, segs: &[Seg]) -> Result<Vec<Seg>, OutOfMemor
     segs_of(alloc, strands.as_slice())
 }
 
-/// The same of segments each of which begins behind those before it: their rows have one name each.
+/// Joins segments each of which begins behind those before it: their rows have one name each.
 fn joined_in_turn(alloc: Global, segs: &[Seg]) -> Result<Vec<Seg>, OutOfMemory>
     ensures { IfOk result (λ out. (a : ℕ) (z : End) → a ≤ TOP → segs_give out.items a z
         ≡ segs_give segs.now a z) }

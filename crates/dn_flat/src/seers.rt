@@ -3,7 +3,7 @@
 ghost use Rattle.std.specs.Prelude.{◌≡◌, ℕ, ◌+◌, ◌<◌, ◌&&◌, ◌||◌, [], false, nat_eq, nat_lt, List, length, slice_index_or, IfOk, OnOk, IsTrue};
 ghost use Rattle.std.specs.List.{list_all, list_any};
 ghost use Rattle.dn_net.specs.Terms.{IsLegalNet, unit_at};
-ghost use Rattle.dn_flat.specs.Terms.{AreListed, AreSeers, IsListed, has_stops, leads_to_units, is_listed_for};
+ghost use Rattle.dn_flat.specs.Terms.{AreListed, AreSeers, IsAgentListed, has_stops, leads_to_units, is_listed_for};
 
 use crate::crowds::is_agent;
 use crate::shared::Shared;
@@ -153,10 +153,10 @@ fn list_agent(
 ) -> Result<(), OutOfMemory>
     ensures size { OnOk result (length by_unit.new.items ≡ length by_unit.old.items) }
     ensures kept { OnOk result ((n : ℕ) (us : List ℕ) →
-        IsListed leads.now by_unit.old.items onward.old.items n us →
-        IsListed leads.now by_unit.new.items onward.new.items n us) }
+        IsAgentListed leads.now by_unit.old.items onward.old.items n us →
+        IsAgentListed leads.now by_unit.new.items onward.new.items n us) }
     ensures listed { OnOk result
-        (IsListed leads.now by_unit.new.items onward.new.items agent units.now) }
+        (IsAgentListed leads.now by_unit.new.items onward.new.items agent units.now) }
 {
     if some_lead(leads, units) {
         onward.push(agent)?;

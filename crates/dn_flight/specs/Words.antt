@@ -19,13 +19,13 @@ abbrev pub has_word_in : List (List ℕ) → ℕ → ℕ → Bool
 has_word_in words node word = has_word_by (slice_get words node) word
 
 -- a word of words, where both are there
-abbrev pub word_by : Option (List ℕ) → ℕ → Option ℕ
-word_by None word = None
-word_by (Some ws) word = slice_get ws word
+abbrev pub word_if_there : Option (List ℕ) → ℕ → Option ℕ
+word_if_there None word = None
+word_if_there (Some ws) word = slice_get ws word
 
 -- a word of a node, where it is there
 abbrev pub word_in : List (List ℕ) → ℕ → ℕ → Option ℕ
-word_in words node word = word_by (slice_get words node) word
+word_in words node word = word_if_there (slice_get words node) word
 
 -- how many words each node has
 abbrev pub word_counts : List (List ℕ) → List ℕ

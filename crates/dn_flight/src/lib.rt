@@ -1,8 +1,15 @@
 //! Lookups in flight: agents look addresses up while a device writes the tables of a net.
 //!
-//! [`world`] is the core: it has tables and lookups, and [`World::play`](world::World::play) takes one
-//! event at a time, a lookup that begins or reads a record, a word that is written, a fence. It touches
-//! no device. [`laws`] says what every lookup of every schedule of a log has ended with.
+//! ```text
+//! let mut world = World::start(alloc, on)?;
+//! world.play(alloc, system, event)?;      // a lookup begins or reads, a word is written, a fence
+//! let ended = world.lookups();
+//! ```
+//!
+//! [`world`] is the core: it has tables and lookups, and takes one event at a time. It touches no
+//! device; it is the model in which the promise on lookups is stated. [`laws`] says what every
+//! lookup of every schedule of a log has ended with: nothing that was not given at one moment of
+//! it.
 #![tactic(auto)]
 
 pub mod event;

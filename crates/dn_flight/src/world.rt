@@ -1,6 +1,6 @@
 //! The core: tables, lookups, and one event at a time.
 
-ghost use Rattle.std.specs.Prelude.{◌≡◌, [], List, IfOk, OnErr};
+ghost use Rattle.std.specs.Prelude.{◌≡◌, ◌≢◌, ℕ, [], List, Err, IfOk, OnErr};
 ghost use Rattle.dn_base.specs.Terms.{Answers};
 ghost use Rattle.dn_net.specs.declared.node.NodeDecl.{NodeDecl};
 ghost use Rattle.dn_kind.specs.Terms.{IsKinded, Meaning, kinds_of};
@@ -93,6 +93,10 @@ impl World {
             (played system.entry.on.net.now (kinds_of meaning system.entry.on.kinds.now)
             event self.old) }
         ensures refused { OnErr result (self.new ≡ self.old) }
+        // A write and a fence take no memory.
+        ensures write_memory { (unit word value : ℕ) → event ≡ Write unit word value →
+            result ≢ Err FlightFault.OutOfMemory }
+        ensures fence_memory { event ≡ Fence → result ≢ Err FlightFault.OutOfMemory }
         ensures world { IsWorld system.entry.on.net.now
             (kinds_of meaning system.entry.on.kinds.now) self.new }
     {
@@ -166,6 +170,7 @@ impl World {
             Answers (λ _. self.new) flight_fault_view result
             (played net kinds (Write unit word value) self.old) }
         ensures refused { OnErr result (self.new ≡ self.old) }
+        ensures memory { result ≢ Err FlightFault.OutOfMemory }
     {
         if !self.words.has(unit, word) {
             return Err(FlightFault::NoWord);
@@ -179,6 +184,7 @@ impl World {
         ensures exact { (net : List NodeDecl) (kinds : List Meaning) →
             Answers (λ _. self.new) flight_fault_view result (played net kinds Fence self.old) }
         ensures refused { OnErr result (self.new ≡ self.old) }
+        ensures memory { result ≢ Err FlightFault.OutOfMemory }
     {
         match self.lookups.first_in_flight() {
             Some(lookup) => Err(FlightFault::NotQuiet { lookup }),

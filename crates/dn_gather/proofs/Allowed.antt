@@ -17,7 +17,7 @@ use Rattle.dn_place.proofs.Unaccepted.{accepted_within}
 use Rattle.dn_gather.specs.declared.piece.Piece.{Piece}
 use Rattle.dn_gather.specs.declared.scatter.Scatter.{Scatter}
 use Rattle.dn_gather.specs.Gather.{IsScattered}
-use Rattle.dn_gather.specs.Grants.{AreGrantsFor, AreNewIds, AreOthers}
+use Rattle.dn_gather.specs.Grants.{AreGrantsFor, AreNewIds, AreOtherIds}
 use Rattle.dn_gather.specs.Grounds.{ArePieces, IsSized}
 use Rattle.dn_gather.specs.declared.refusal.GatherRefusal.TheVariants.{IdUsed, NoAgent, NotAccepted, BookFull}
 use Rattle.dn_gather.specs.Refusal.{address_refusal, first_refused, gather_refusal, is_used, target_refusal, used_refusal}
@@ -39,7 +39,7 @@ AreClear earlier [] = Unit {0}
 AreClear earlier (p ∷ ps) = (list_any (λ (q : Piece). q.id == p.id) earlier ≡ false) × AreClear earlier ps
 
 -- no piece has the id of one more
-clear_less : (earlier : List Piece) (p : Piece) (ps : List Piece) → AreClear (earlier ++ p ∷ []) ps → AreClear earlier ps × AreOthers p.id ps
+clear_less : (earlier : List Piece) (p : Piece) (ps : List Piece) → AreClear (earlier ++ p ∷ []) ps → AreClear earlier ps × AreOtherIds p.id ps
 clear_less earlier p [] clear = (tt, tt)
 clear_less earlier p (q ∷ ps) clear =
     let rest = clear_less earlier p ps clear.1 in

@@ -26,7 +26,7 @@ use Rattle.dn_book.specs.Laws.{IsGrantFor}
 use Rattle.dn_book.proofs.Between.{between_is_one_or_other}
 use Rattle.dn_book.proofs.Faithful.{grant_keeps_book}
 use Rattle.dn_gather.specs.declared.piece.Piece.{Piece}
-use Rattle.dn_gather.specs.Grants.{AreGrantsFor, AreNewIds, AreOthers, PiecesAreCaught, PiecesComeInTurn, PiecesKeepBook, grant_at, grants_at}
+use Rattle.dn_gather.specs.Grants.{AreGrantsFor, AreNewIds, AreOtherIds, PiecesAreCaught, PiecesComeInTurn, PiecesKeepBook, piece_grant, grants_at}
 use Rattle.dn_gather.specs.Scattered.{AddsPieces, AreAdmissible, ArePlaced, IsApart, at_hop, piece_request, scattered_records}
 use Rattle.dn_gather.proofs.Scattering.{placed_count}
 use Rattle.dn_gather.proofs.Slots.{taken_in}
@@ -48,7 +48,7 @@ records_extend net book gs n q r e = records_append net book gs n q ∙ ap (λ (
 pub records_pieces : (net : List NodeDecl) (agent : ℕ) (rights : Rights) (v : ℕ) (ps : List Piece) (hops : List Hop) (n q : ℕ) → records_of net (grants_at agent rights v ps hops) n q ≡ scattered_records net agent rights v ps hops n q
 records_pieces net agent rights v [] hops n q = refl
 records_pieces net agent rights v (p ∷ ps) [] n q = refl
-records_pieces net agent rights v (p ∷ ps) (hop ∷ hops) n q = ap (or_record (grant_records net (grant_at agent rights v p hop) n q)) (records_pieces net agent rights (v + p.size) ps hops n q)
+records_pieces net agent rights v (p ∷ ps) (hop ∷ hops) n q = ap (or_record (grant_records net (piece_grant agent rights v p hop) n q)) (records_pieces net agent rights (v + p.size) ps hops n q)
 
 -- the first of the pieces, and those behind it
 
@@ -64,7 +64,7 @@ not_same a b n = by (a == b) refl
     by false e = refl
     by true e = absurd (n (eqb-true a b e))
 
-new_more : (book : List Grant) (g : Grant) (ps : List Piece) → AreNewIds book ps → AreOthers g.id ps → AreNewIds (book ++ g ∷ []) ps
+new_more : (book : List Grant) (g : Grant) (ps : List Piece) → AreNewIds book ps → AreOtherIds g.id ps → AreNewIds (book ++ g ∷ []) ps
 new_more book g [] new others = tt
 new_more book g (p ∷ ps) new others = (
   list_any-append (λ (k : Grant). k.id == p.id) book (g ∷ []) ∙ false_or (has_id p.id book) (g.id == p.id) new.0 (not_same g.id p.id others.0),
@@ -77,7 +77,7 @@ length_more [] g = refl
 length_more (k ∷ book) g = ap suc (length_more book g)
 
 -- a placement of one hop in free slots is one where a hop that takes none of these is in
-stays_placed : (net : List NodeDecl) (book : List Grant) (agent : ℕ) (rights : Rights) (v w : ℕ) (p q : Piece) (hop k : Hop) → ((node slot : ℕ) → is_taken net p.size node slot hop ≡ true → is_taken net q.size node slot k ≡ false) → IsPlacement net (slots_of net book) (piece_request agent rights q) (at_hop w k) → IsPlacement net (slots_of net (book ++ grant_at agent rights v p hop ∷ [])) (piece_request agent rights q) (at_hop w k)
+stays_placed : (net : List NodeDecl) (book : List Grant) (agent : ℕ) (rights : Rights) (v w : ℕ) (p q : Piece) (hop k : Hop) → ((node slot : ℕ) → is_taken net p.size node slot hop ≡ true → is_taken net q.size node slot k ≡ false) → IsPlacement net (slots_of net book) (piece_request agent rights q) (at_hop w k) → IsPlacement net (slots_of net (book ++ piece_grant agent rights v p hop ∷ [])) (piece_request agent rights q) (at_hop w k)
 stays_placed net book agent rights v w p q hop k apart pl = record {
   some = pl.some;
   fits = pl.fits;
@@ -91,7 +91,7 @@ stays_placed net book agent rights v w p q hop k apart pl = record {
 }
   where
     next : List Grant
-    next = book ++ grant_at agent rights v p hop ∷ []
+    next = book ++ piece_grant agent rights v p hop ∷ []
 
     j : Joins net (slots_of net book) (piece_request agent rights q) k []
     j = pl.leads.0
@@ -124,23 +124,23 @@ stays_placed net book agent rights v w p q hop k apart pl = record {
     vacant slot a b =
         let before : list_any (uses_slot net k.unit slot) book ≡ false = free_of (list_any (uses_slot net k.unit slot) book) (subst (λ (h : Hop). IsFreeHop net (slots_of net book) (piece_request agent rights q) h) (sym own_is) pl.free j.unit j.is_unit slot a b) in
         free_to (list_any (uses_slot net k.unit slot) next) (
-        list_any-append (uses_slot net k.unit slot) book (grant_at agent rights v p hop ∷ [])
-        ∙ false_or (list_any (uses_slot net k.unit slot) book) (uses_slot net k.unit slot (grant_at agent rights v p hop)) before (ap (λ t. t || false) (not_hop slot (taken_in net j.unit q.size k slot j.is_unit a b))))
+        list_any-append (uses_slot net k.unit slot) book (piece_grant agent rights v p hop ∷ [])
+        ∙ false_or (list_any (uses_slot net k.unit slot) book) (uses_slot net k.unit slot (piece_grant agent rights v p hop)) before (ap (λ t. t || false) (not_hop slot (taken_in net j.unit q.size k slot j.is_unit a b))))
 
-stay_placed : (net : List NodeDecl) (book : List Grant) (agent : ℕ) (rights : Rights) (unit v w : ℕ) (p : Piece) (hop : Hop) (ps : List Piece) (hops : List Hop) → IsApart net p.size hop ps hops → ArePlaced net (slots_of net book) agent rights unit w ps hops → ArePlaced net (slots_of net (book ++ grant_at agent rights v p hop ∷ [])) agent rights unit w ps hops
+stay_placed : (net : List NodeDecl) (book : List Grant) (agent : ℕ) (rights : Rights) (unit v w : ℕ) (p : Piece) (hop : Hop) (ps : List Piece) (hops : List Hop) → IsApart net p.size hop ps hops → ArePlaced net (slots_of net book) agent rights unit w ps hops → ArePlaced net (slots_of net (book ++ piece_grant agent rights v p hop ∷ [])) agent rights unit w ps hops
 stay_placed net book agent rights unit v w p hop [] [] apart pl = tt
 stay_placed net book agent rights unit v w p hop [] (k ∷ ks) apart pl = absurd pl
 stay_placed net book agent rights unit v w p hop (q ∷ qs) [] apart pl = absurd pl
 stay_placed net book agent rights unit v w p hop (q ∷ qs) (k ∷ ks) apart pl =
     (stays_placed net book agent rights v w p q hop k apart.0 pl.0, pl.1, pl.2, stay_placed net book agent rights unit v (w + q.size) p hop qs ks apart.1 pl.3)
 
-pub first_comes : (net : List NodeDecl) (book : List Grant) (agent : ℕ) (rights : Rights) (unit v : ℕ) (p : Piece) (ps : List Piece) (hop : Hop) (hops : List Hop) → AreGrantsFor net book agent rights unit v (p ∷ ps) (hop ∷ hops) → IsGrantFor net book (grant_at agent rights v p hop)
+pub first_comes : (net : List NodeDecl) (book : List Grant) (agent : ℕ) (rights : Rights) (unit v : ℕ) (p : Piece) (ps : List Piece) (hop : Hop) (hops : List Hop) → AreGrantsFor net book agent rights unit v (p ∷ ps) (hop ∷ hops) → IsGrantFor net book (piece_grant agent rights v p hop)
 first_comes net book agent rights unit v p ps hop hops a = record { few = (let f = a.few in omega (arith, f)); new = a.new.0; agent = a.by_agent; rights = a.with_rights; placed = a.placed.0 }
 
-pub others_come : (net : List NodeDecl) (book : List Grant) (agent : ℕ) (rights : Rights) (unit v : ℕ) (p : Piece) (ps : List Piece) (hop : Hop) (hops : List Hop) → AreGrantsFor net book agent rights unit v (p ∷ ps) (hop ∷ hops) → AreGrantsFor net (book ++ grant_at agent rights v p hop ∷ []) agent rights unit (v + p.size) ps hops
+pub others_come : (net : List NodeDecl) (book : List Grant) (agent : ℕ) (rights : Rights) (unit v : ℕ) (p : Piece) (ps : List Piece) (hop : Hop) (hops : List Hop) → AreGrantsFor net book agent rights unit v (p ∷ ps) (hop ∷ hops) → AreGrantsFor net (book ++ piece_grant agent rights v p hop ∷ []) agent rights unit (v + p.size) ps hops
 others_come net book agent rights unit v p ps hop hops a = record {
-  few = (let f = a.few in omega (arith, f, length_more book (grant_at agent rights v p hop)));
-  new = new_more book (grant_at agent rights v p hop) ps a.new.2 a.new.1;
+  few = (let f = a.few in omega (arith, f, length_more book (piece_grant agent rights v p hop)));
+  new = new_more book (piece_grant agent rights v p hop) ps a.new.2 a.new.1;
   by_agent = a.by_agent;
   with_rights = a.with_rights;
   placed = stay_placed net book agent rights unit v (v + p.size) p hop ps hops a.placed.2 a.placed.3;
@@ -158,7 +158,7 @@ stays_sound net legal [] hops book agent rights unit v sound a = subst (λ (l : 
     none_behind (x ∷ xs) = ap (λ l. x ∷ l) (none_behind xs)
 stays_sound net legal (p ∷ ps) [] book agent rights unit v sound a = absurd a.placed
 stays_sound net legal (p ∷ ps) (hop ∷ hops) book agent rights unit v sound a =
-    let g : Grant = grant_at agent rights v p hop in
+    let g : Grant = piece_grant agent rights v p hop in
     subst (λ (l : List Grant). IsSound net l) (append_assoc book (g ∷ []) (grants_at agent rights (v + p.size) ps hops))
     (stays_sound net legal ps hops (book ++ g ∷ []) agent rights unit (v + p.size) (grant_keeps_book net book g legal sound (first_comes net book agent rights unit v p ps hop hops a)).0 (others_come net book agent rights unit v p ps hop hops a))
 
@@ -173,7 +173,7 @@ named_to agent rights access x y v (p ∷ ps) (hop ∷ hops) g (inr m) ok adds =
 named_from : (agent : ℕ) (rights : Rights) (access : Access) (x y : Name) (v : ℕ) (ps : List Piece) (hops : List Hop) → length ps ≡ length hops → IsTrue (allows rights access) → AddsPieces agent rights v ps x y → IsGrantedName (grants_at agent rights v ps hops) access x y
 named_from agent rights access x y v [] hops same ok adds = absurd adds
 named_from agent rights access x y v (p ∷ ps) [] same ok adds = absurd (omega arith)
-named_from agent rights access x y v (p ∷ ps) (hop ∷ hops) same ok (inl a) = record { grant = grant_at agent rights v p hop; is_grant = inl refl; allowed = ok; adds = a }
+named_from agent rights access x y v (p ∷ ps) (hop ∷ hops) same ok (inl a) = record { grant = piece_grant agent rights v p hop; is_grant = inl refl; allowed = ok; adds = a }
 named_from agent rights access x y v (p ∷ ps) (hop ∷ hops) same ok (inr a) = let r = named_from agent rights access x y (v + p.size) ps hops (omega arith) ok a in record { grant = r.grant; is_grant = inr r.is_grant; allowed = r.allowed; adds = r.adds }
 
 member_left : (g : Grant) (xs ys : List Grant) → Member g xs → Member g (xs ++ ys)

@@ -18,7 +18,7 @@ use Rattle.dn_book.specs.Laws.{IsGrantFor}
 use Rattle.dn_book.specs.Writes.{AreAdded, grant_events}
 use Rattle.dn_gather.specs.declared.piece.Piece.{Piece}
 use Rattle.dn_gather.specs.Commits.{AreCommitted}
-use Rattle.dn_gather.specs.Grants.{AreGrantsFor, gather_events, grant_at, grants_at}
+use Rattle.dn_gather.specs.Grants.{AreGrantsFor, gather_events, piece_grant, grants_at}
 use Rattle.dn_gather.proofs.Coming.{first_comes, others_come, pieces_are_caught}
 use Rattle.dn_gather.proofs.Scattering.{placed_count}
 
@@ -216,7 +216,7 @@ module _ (net : List NodeDecl) (agent : ℕ) (rights : Rights) (unit v : ℕ) (p
         (subst (λ (qs : List Piece). AreGrantsFor net live agent rights unit a qs (drop k hops)) (drop-cons ps k d l) left.come)
 
     -- their grants
-    next_grants : (x : Grant) → grant_at agent rights a (get_or ps k d) (get_or hops k e) ∷ grants_at agent rights (a + (get_or ps k d).size) (drop (suc k) ps) (drop (suc k) hops) ≡ get_or (grants_at agent rights v ps hops) k x ∷ drop (suc k) (grants_at agent rights v ps hops)
+    next_grants : (x : Grant) → piece_grant agent rights a (get_or ps k d) (get_or hops k e) ∷ grants_at agent rights (a + (get_or ps k d).size) (drop (suc k) ps) (drop (suc k) hops) ≡ get_or (grants_at agent rights v ps hops) k x ∷ drop (suc k) (grants_at agent rights v ps hops)
     next_grants x =
         let m = left.many in
         let n = count_grants left.many in
@@ -225,18 +225,18 @@ module _ (net : List NodeDecl) (agent : ℕ) (rights : Rights) (unit v : ℕ) (p
         ∙ left.grants
         ∙ drop-cons (grants_at agent rights v ps hops) k x (omega (arith, n, l))
 
-    pub next_comes : IsGrantFor net live (grant_at agent rights a (get_or ps k d) (get_or hops k e))
+    pub next_comes : IsGrantFor net live (piece_grant agent rights a (get_or ps k d) (get_or hops k e))
     next_comes = first_comes net live agent rights unit a (get_or ps k d) (drop (suc k) ps) (get_or hops k e) (drop (suc k) hops) next_come
 
-    pub next_is : (x : Grant) → grant_at agent rights a (get_or ps k d) (get_or hops k e) ≡ get_or (grants_at agent rights v ps hops) k x
+    pub next_is : (x : Grant) → piece_grant agent rights a (get_or ps k d) (get_or hops k e) ≡ get_or (grants_at agent rights v ps hops) k x
     next_is x = let same = next_grants x in cc
 
-    pub less_left : (next : List Grant) → next ≡ live ++ grant_at agent rights a (get_or ps k d) (get_or hops k e) ∷ [] → AreLeft net agent rights unit v ps hops (k + 1) (a + (get_or ps k d).size) next
+    pub less_left : (next : List Grant) → next ≡ live ++ piece_grant agent rights a (get_or ps k d) (get_or hops k e) ∷ [] → AreLeft net agent rights unit v ps hops (k + 1) (a + (get_or ps k d).size) next
     less_left next is =
         subst (λ (b : List Grant). AreLeft net agent rights unit v ps hops (k + 1) (a + (get_or ps k d).size) b) (sym is)
-        (subst (λ (n : ℕ). AreLeft net agent rights unit v ps hops n (a + (get_or ps k d).size) (live ++ grant_at agent rights a (get_or ps k d) (get_or hops k e) ∷ [])) (up k) (record {
+        (subst (λ (n : ℕ). AreLeft net agent rights unit v ps hops n (a + (get_or ps k d).size) (live ++ piece_grant agent rights a (get_or ps k d) (get_or hops k e) ∷ [])) (up k) (record {
           come = others_come net live agent rights unit a (get_or ps k d) (drop (suc k) ps) (get_or hops k e) (drop (suc k) hops) next_come;
-          grants = (let same = next_grants (grant_at agent rights a (get_or ps k d) (get_or hops k e)) in cc);
+          grants = (let same = next_grants (piece_grant agent rights a (get_or ps k d) (get_or hops k e)) in cc);
           many = left.many;
         }))
       where

@@ -1,5 +1,5 @@
 -- Pieces in a unit of which a search knows the windows, the free slots and the outputs: where no hops serve them.
-use Rattle.std.proofs.Common.{◌≡◌, ◌∙◌, ℕ, zero, suc, ◌+◌, ◌-◌, ◌%◌, ◌^◌, ◌<◌, ◌≤◌, ◌⊎◌, inl, inr, List, [], ◌∷◌, ◌++◌, length, take, get_or, Some, None, refl, sym, ap, subst, arith, IsTrue}
+use Rattle.std.proofs.Common.{◌≡◌, ◌∙◌, ℕ, zero, suc, ◌+◌, ◌-◌, ◌%◌, ◌^◌, ◌<◌, ◌≤◌, ◌⊎◌, inl, inr, List, [], ◌∷◌, ◌++◌, length, take, get_or, Some, None, refl, sym, ap, subst, arith, true, IsTrue}
 use Rattle.std.specs.List.{Contains}
 use Rattle.std.proofs.lemmas.Bool.{cases_lt, cases_order}
 use Rattle.std.proofs.lemmas.Option.{slice_get_past}
@@ -17,7 +17,7 @@ use Rattle.dn_kind.specs.Kind.{Meaning}
 use Rattle.dn_kind.specs.Kinded.{kinds_of}
 use Rattle.dn_tables.specs.declared.placement.Hop.{Hop}
 use Rattle.dn_place.specs.declared.exits.Exit.{Exit}
-use Rattle.dn_place.specs.Exits.{AreExits}
+use Rattle.dn_place.specs.Exits.{AreExits, has_exit}
 use Rattle.dn_place.specs.Rows.{InRow}
 use Rattle.dn_place.proofs.Pages.{input_bound}
 use Rattle.dn_view.proofs.Ways.{one_stop}
@@ -26,7 +26,7 @@ use Rattle.dn_gather.specs.declared.piece.Piece.{Piece}
 use Rattle.dn_gather.specs.declared.scatter.Scatter.{Scatter}
 use Rattle.dn_gather.specs.declared.wanted.Wanted.{Wanted}
 use Rattle.dn_gather.specs.Firsts.{AreSuitedHops, IsSuitedHop}
-use Rattle.dn_gather.specs.Grounds.{AreExitsOf, AreExitsOn, CanStandOn, FirstFor, IsFoundFirst, IsFoundFrom, IsGround, IsWanted, NoneFor, StandsOn, request_for, total, wanted_slots}
+use Rattle.dn_gather.specs.Grounds.{AreExitsOfPieces, AreExitsOn, CanStandOn, FirstFor, IsFoundFirst, IsFoundFrom, IsGround, IsWanted, NoneFor, StandsOn, request_for, total, wanted_slots}
 use Rattle.dn_gather.specs.Outputs.{AreRanked, NoneAgree}
 use Rattle.dn_gather.specs.Scattered.{piece_request}
 use Rattle.dn_gather.specs.Stands.{AreAt, AreWindows, inputs}
@@ -35,7 +35,7 @@ use Rattle.dn_gather.proofs.Entering.{entered_given, entered_row, one_input}
 use Rattle.dn_gather.proofs.Grounded.{known}
 use Rattle.dn_gather.proofs.Ranked.{exits_ranked}
 use Rattle.dn_gather.proofs.Searching.{agrees_none, first_base, row_inputs, row_leads}
-use Rattle.dn_gather.proofs.Standing.{IsItem, exits_at, item_at, item_there}
+use Rattle.dn_gather.proofs.Standing.{IsItem, exits_at, exits_count, item_at, item_there}
 
 -- one of the pieces can stand
 pub record ItemStands {K : Type 0} {V : K → Type 0} (g : Ground K V) (p : Piece) (a : ℕ) : Type 0 where
@@ -150,13 +150,13 @@ pub no_unit_past : (net : List NodeDecl) (unit : ℕ) → length net ≤ unit �
 no_unit_past net unit l = ap unit_of (slice_get_past net unit l)
 
 -- the outputs of one more piece
-pub exits_more : (net : List NodeDecl) (u : UnitPart) (agent : ℕ) (rights : Rights) (ps : List Piece) (i : ℕ) (d : Piece) (all : List (List Exit)) (es : List Exit) → i < length ps → AreExitsOf net u agent rights (take i ps) all → AreExits net u (piece_request agent rights (get_or ps i d)) es → AreExitsOf net u agent rights (take (i + 1) ps) (all ++ es ∷ [])
-exits_more net u agent rights ps i d all es l are here = subst (λ (n : ℕ). AreExitsOf net u agent rights (take n ps) (all ++ es ∷ [])) (next i) (more ps i all l are here)
+pub exits_more : (net : List NodeDecl) (u : UnitPart) (agent : ℕ) (rights : Rights) (ps : List Piece) (i : ℕ) (d : Piece) (all : List (List Exit)) (es : List Exit) → i < length ps → AreExitsOfPieces net u agent rights (take i ps) all → AreExits net u (piece_request agent rights (get_or ps i d)) es → AreExitsOfPieces net u agent rights (take (i + 1) ps) (all ++ es ∷ [])
+exits_more net u agent rights ps i d all es l are here = subst (λ (n : ℕ). AreExitsOfPieces net u agent rights (take n ps) (all ++ es ∷ [])) (next i) (more ps i all l are here)
   where
     next : (i : ℕ) → suc i ≡ i + 1
     next i = omega arith
 
-    more : (ps : List Piece) (i : ℕ) (all : List (List Exit)) → i < length ps → AreExitsOf net u agent rights (take i ps) all → AreExits net u (piece_request agent rights (get_or ps i d)) es → AreExitsOf net u agent rights (take (suc i) ps) (all ++ es ∷ [])
+    more : (ps : List Piece) (i : ℕ) (all : List (List Exit)) → i < length ps → AreExitsOfPieces net u agent rights (take i ps) all → AreExits net u (piece_request agent rights (get_or ps i d)) es → AreExitsOfPieces net u agent rights (take (suc i) ps) (all ++ es ∷ [])
     more [] i all l are here = absurd (omega arith)
     more (p ∷ ps) zero [] l are here = (here, tt)
     more (p ∷ ps) zero (a ∷ all) l are here = absurd are
@@ -214,3 +214,19 @@ none_unwindowed means w is u unit rows is_unit none are v = λ hops s. out hops 
         let r = suited_item w.system.on.net.now (wanted_slots means w) w.agent w.rights unit v w.pieces.now hops 0 no_piece s l in
         let t = (suited_stands w.system.on.net.now (kinds_of means w.system.on.kinds.now) w.tables.now u w.agent unit w.rights (get_or w.pieces.now 0 no_piece) (v + total (take 0 w.pieces.now)) r.hop k.legal k.held k.empty is.rights is.agent (is.pieces.each 0 no_piece l).buffer is_unit r.suited).stands in
         entered_given w.system.on.net.now w.agent unit (inputs u) (v + total (take 0 w.pieces.now)) (get_or w.pieces.now 0 no_piece).size r.hop.x [] are t.some t.fits t.within t.enters
+
+-- none in a unit of which no output gives one of the pieces
+pub none_unserved : {K : Type 0} {V : K → Type 0} (means : (k : K) × V k → Meaning) (w : Wanted K V) → IsWanted means w → (u : UnitPart) (unit : ℕ) (exits : List (List Exit)) → unit_at w.system.on.net.now unit ≡ Some u → AreExitsOfPieces w.system.on.net.now u w.agent w.rights w.pieces.now exits → Contains exits [] → (v : ℕ) → NoneFor means w unit v
+none_unserved means w is u unit exits is_unit are (i, l, empty) v = λ hops s.
+    let net = w.system.on.net.now in
+    let k = known means w is in
+    let there : i < length w.pieces.now = (let n = exits_count net u w.agent w.rights w.pieces.now exits are in omega (arith, n, l)) in
+    let p = get_or w.pieces.now i no_piece in
+    let r = suited_item net (wanted_slots means w) w.agent w.rights unit v w.pieces.now hops i no_piece s there in
+    let t = suited_stands net (kinds_of means w.system.on.kinds.now) w.tables.now u w.agent unit w.rights p (v + total (take i w.pieces.now)) r.hop k.legal k.held k.empty is.rights is.agent (is.pieces.each i no_piece there).buffer is_unit r.suited in
+    let outs = exits_at net u w.agent w.rights w.pieces.now exits i no_piece [] are there in
+    never t.port t.y (get_or exits i []) empty (outs.all t.port t.y t.gives t.lone)
+  where
+    never : (port y : ℕ) (es : List Exit) → es ≡ [] → has_exit port y es ≡ true → ⊥
+    never port y [] e h = cc
+    never port y (x ∷ es) e h = cc

@@ -9,7 +9,7 @@ use Rattle.dn_kind.specs.declared.rights.Rights.{Rights}
 use Rattle.dn_place.specs.declared.exits.Exit.{Exit}
 use Rattle.dn_place.specs.Exits.{AreExits}
 use Rattle.dn_gather.specs.declared.piece.Piece.{Piece}
-use Rattle.dn_gather.specs.Grounds.{AreExitsOf, IsSized, total}
+use Rattle.dn_gather.specs.Grounds.{AreExitsOfPieces, IsSized, total}
 use Rattle.dn_gather.specs.Scattered.{piece_request}
 use Rattle.dn_gather.specs.Stands.{AreAt, AreFew, IsPartedFrom, are_parted_at}
 use Rattle.std.proofs.Math.ListN.{drop_of_length-le}
@@ -97,13 +97,13 @@ part_after ps j = take_rest ps (j + 1) ∙ ap (λ n. drop n ps) (next j)
 
 -- one of the pieces, and its outputs
 
-pub exits_at : (net : List NodeDecl) (u : UnitPart) (agent : ℕ) (rights : Rights) (ps : List Piece) (exits : List (List Exit)) (i : ℕ) (d : Piece) (e : List Exit) → AreExitsOf net u agent rights ps exits → i < length ps → AreExits net u (piece_request agent rights (get_or ps i d)) (get_or exits i e)
+pub exits_at : (net : List NodeDecl) (u : UnitPart) (agent : ℕ) (rights : Rights) (ps : List Piece) (exits : List (List Exit)) (i : ℕ) (d : Piece) (e : List Exit) → AreExitsOfPieces net u agent rights ps exits → i < length ps → AreExits net u (piece_request agent rights (get_or ps i d)) (get_or exits i e)
 exits_at net u agent rights [] exits i d e are l = absurd (omega arith)
 exits_at net u agent rights (p ∷ ps) [] i d e are l = absurd are
 exits_at net u agent rights (p ∷ ps) (es ∷ exits) zero d e are l = are.0
 exits_at net u agent rights (p ∷ ps) (es ∷ exits) (suc i) d e are l = exits_at net u agent rights ps exits i d e are.1 (omega arith)
 
-pub exits_count : (net : List NodeDecl) (u : UnitPart) (agent : ℕ) (rights : Rights) (ps : List Piece) (exits : List (List Exit)) → AreExitsOf net u agent rights ps exits → length exits ≡ length ps
+pub exits_count : (net : List NodeDecl) (u : UnitPart) (agent : ℕ) (rights : Rights) (ps : List Piece) (exits : List (List Exit)) → AreExitsOfPieces net u agent rights ps exits → length exits ≡ length ps
 exits_count net u agent rights [] [] are = refl
 exits_count net u agent rights [] (es ∷ exits) are = absurd are
 exits_count net u agent rights (p ∷ ps) [] are = absurd are

@@ -18,8 +18,8 @@ use Rattle.dn_gather.specs.declared.piece.Piece.{Piece}
 use Rattle.dn_gather.specs.Scattered.{AreAdmissible, ArePlaced, at_hop, piece_request}
 
 -- the grant of a piece at a hop, from an address of the agent on
-abbrev pub grant_at : ℕ → Rights → ℕ → Piece → Hop → Grant
-grant_at agent rights v p hop =
+abbrev pub piece_grant : ℕ → Rights → ℕ → Piece → Hop → Grant
+piece_grant agent rights v p hop =
     record { id = p.id; request = piece_request agent rights p; placement = at_hop v hop }
 
 -- the grants of pieces at their hops, one after another from an address of the agent on
@@ -27,17 +27,17 @@ abbrev pub grants_at : ℕ → Rights → ℕ → List Piece → List Hop → Li
 grants_at agent rights v [] hops = []
 grants_at agent rights v (p ∷ ps) [] = []
 grants_at agent rights v (p ∷ ps) (hop ∷ hops) =
-    grant_at agent rights v p hop ∷ grants_at agent rights (v + p.size) ps hops
+    piece_grant agent rights v p hop ∷ grants_at agent rights (v + p.size) ps hops
 
 -- none of the pieces has the id
-abbrev pub AreOthers : ℕ → List Piece → Type 0
-AreOthers id [] = Unit {0}
-AreOthers id (p ∷ ps) = (id ≢ p.id) × AreOthers id ps
+abbrev pub AreOtherIds : ℕ → List Piece → Type 0
+AreOtherIds id [] = Unit {0}
+AreOtherIds id (p ∷ ps) = (id ≢ p.id) × AreOtherIds id ps
 
 -- no live grant has the id of a piece, and no two pieces have one id
 abbrev pub AreNewIds : List Grant → List Piece → Type 0
 AreNewIds book [] = Unit {0}
-AreNewIds book (p ∷ ps) = (has_id p.id book ≡ false) × AreOthers p.id ps × AreNewIds book ps
+AreNewIds book (p ∷ ps) = (has_id p.id book ≡ false) × AreOtherIds p.id ps × AreNewIds book ps
 
 -- What pieces must be to come into a book: their ids are new and differ, there is room for all, and they are
 -- placed in the slots as the book leaves them.
@@ -54,11 +54,11 @@ pub record PiecesComeInTurn : Type 0 where
   pub first : (net : List NodeDecl) (book : List Grant) (agent : ℕ) (rights : Rights) (unit v : ℕ) (p : Piece)
       (ps : List Piece) (hop : Hop) (hops : List Hop) →
       AreGrantsFor net book agent rights unit v (p ∷ ps) (hop ∷ hops) →
-      IsGrantFor net book (grant_at agent rights v p hop)
+      IsGrantFor net book (piece_grant agent rights v p hop)
   pub others : (net : List NodeDecl) (book : List Grant) (agent : ℕ) (rights : Rights) (unit v : ℕ) (p : Piece)
       (ps : List Piece) (hop : Hop) (hops : List Hop) →
       AreGrantsFor net book agent rights unit v (p ∷ ps) (hop ∷ hops) →
-      AreGrantsFor net (book ++ grant_at agent rights v p hop ∷ []) agent rights unit (v + p.size) ps hops
+      AreGrantsFor net (book ++ piece_grant agent rights v p hop ∷ []) agent rights unit (v + p.size) ps hops
 
 -- A sound book is sound with the grants of pieces that may come into it, and faithful where it was so and the
 -- scattered placement is admissible.

@@ -42,11 +42,11 @@ pub record ArePieces (ps : List Piece) : Type 0 where
   pub each : All IsSized ps
 
 -- for each piece the outputs that give it
-abbrev pub AreExitsOf : List NodeDecl → UnitPart → ℕ → Rights → List Piece → List (List Exit) → Type 0
-AreExitsOf net u agent rights [] [] = Unit {0}
-AreExitsOf net u agent rights (p ∷ ps) (es ∷ rest) =
-    AreExits net u (piece_request agent rights p) es × AreExitsOf net u agent rights ps rest
-AreExitsOf net u agent rights _ _ = ⊥
+abbrev pub AreExitsOfPieces : List NodeDecl → UnitPart → ℕ → Rights → List Piece → List (List Exit) → Type 0
+AreExitsOfPieces net u agent rights [] [] = Unit {0}
+AreExitsOfPieces net u agent rights (p ∷ ps) (es ∷ rest) =
+    AreExits net u (piece_request agent rights p) es × AreExitsOfPieces net u agent rights ps rest
+AreExitsOfPieces net u agent rights _ _ = ⊥
 
 -- the tables fit the net, and an agent asks for pieces with rights
 pub record IsWanted {K : Type 0} {V : K → Type 0} (means : (k : K) × V k → Meaning) (w : Wanted K V) : Type 0 where
@@ -99,7 +99,7 @@ pub record IsGround {K : Type 0} {V : K → Type 0} (means : (k : K) × V k → 
   pub bounds : HasUnitBounds g.wanted.system.on.net.now g.translator.now
   pub windows : AreWindows g.wanted.system.on.net.now g.wanted.agent g.unit (inputs g.translator.now) g.windows.now
   pub used : AreUsed g.wanted.tables.now g.unit g.translator.now.slots g.used.now
-  pub exits : AreExitsOf g.wanted.system.on.net.now g.translator.now g.wanted.agent g.wanted.rights
+  pub exits : AreExitsOfPieces g.wanted.system.on.net.now g.translator.now g.wanted.agent g.wanted.rights
       g.wanted.pieces.now g.exits.now
   pub count : length g.exits.now ≡ length g.wanted.pieces.now
 

@@ -2,8 +2,8 @@
 pub use Rattle.dn_gather.specs.Commits.{AreCommitted}
 pub use Rattle.dn_gather.specs.Firsts.{FirstHopsAreFirst, IsFirstHop, IsSuitedHop}
 pub use Rattle.dn_gather.specs.Gather.{IsGatherLogged, IsGatherOutcome, grants_of}
-pub use Rattle.dn_gather.specs.Grants.{AreGrantsFor, PiecesAreCaught, PiecesComeInTurn, PiecesKeepBook, grant_at}
-pub use Rattle.dn_gather.specs.Grounds.{AreExitsOf, AreExitsOn, ArePieces, CanStandOn, FirstFor, IsFoundFirst, IsFoundFrom, IsGround, IsPart, IsSized, IsWanted, NoneFor, StandsOn, request_for, total, wanted_slots}
+pub use Rattle.dn_gather.specs.Grants.{AreGrantsFor, PiecesAreCaught, PiecesComeInTurn, PiecesKeepBook, piece_grant}
+pub use Rattle.dn_gather.specs.Grounds.{AreExitsOfPieces, AreExitsOn, ArePieces, CanStandOn, FirstFor, IsFoundFirst, IsFoundFrom, IsGround, IsPart, IsSized, IsWanted, NoneFor, StandsOn, request_for, total, wanted_slots}
 pub use Rattle.dn_gather.specs.Outputs.{AgreeFrom, AreRanked, NoneAgree, agrees_at, first_place, next_place}
 pub use Rattle.dn_gather.specs.Parts.{EmptySlotGivesNothing, PiecesGiveTheirOwn}
 pub use Rattle.dn_gather.specs.Refusal.{address_refusal, first_refused, gather_refusal, is_used, target_refusal, used_refusal}

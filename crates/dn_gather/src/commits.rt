@@ -4,7 +4,7 @@ ghost use Rattle.std.specs.Prelude.{◌≡◌, ◌-◌, ◌≤◌, ◌∷◌, []
 ghost use Rattle.dn_kind.specs.Terms.{kinds_of};
 ghost use Rattle.dn_tables.specs.Terms.{words_of};
 ghost use Rattle.dn_book.specs.Terms.{AreAdded, IsCaught, IsChangedBook, IsGrantFor, MayChange, grant_events};
-ghost use Rattle.dn_gather.specs.Terms.{AreCommitted, AreGrantsFor, grant_at, grants_of};
+ghost use Rattle.dn_gather.specs.Terms.{AreCommitted, AreGrantsFor, piece_grant, grants_of};
 
 use crate::piece::{Piece, piece_request};
 use crate::scatter::Scatter;
@@ -89,7 +89,7 @@ fn commit_piece<D: Tables>(
 
 /// The grant of a piece at a hop, from an address of the agent on.
 fn grant_of(alloc: Global, agent: u16, rights: Rights, piece: Piece, a: u64, hop: Hop) -> Grant
-    ensures { result ≡ grant_at agent rights a piece hop }
+    ensures { result ≡ piece_grant agent rights a piece hop }
 {
     Grant {
         id: piece.id,

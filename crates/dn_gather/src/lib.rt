@@ -1,7 +1,14 @@
-//! Buffers in pieces: an agent sees them at consecutive addresses, and each becomes a grant of its own.
+//! Buffers in pieces: an agent sees them at consecutive addresses, and each becomes a grant of its
+//! own.
 //!
-//! [`gather`](mod@gather) is the call; [`refusal`](mod@refusal) tells which refusal holds before any placement is sought,
-//! and [`laws`] says when a scattered placement of pieces is admissible.
+//! ```text
+//! let pieces = [Piece { id: 1, node: ram, base: 0x5000, size: 0x1000 }, ..];    // 1 to 8
+//! let address = gather::gather(alloc, &mut book, system, agent, &pieces, rights, &mut device)?;
+//! ```
+//!
+//! All pieces are granted, at the first scattered placement that is admissible as a whole, or the
+//! first refusal is answered and none is. [`refusal`](mod@refusal) tells which refusal holds before
+//! any placement is sought, and [`laws`] says when a scattered placement of pieces is admissible.
 #![tactic(auto)]
 
 mod booked;

@@ -1,11 +1,11 @@
 //! The search for the first admissible scattered placement.
 
-ghost use Rattle.std.specs.Prelude.{◌≡◌, ℕ, ◌^◌, ◌≤◌, IfOk, IfSome, IsTrue, Some, None};
+ghost use Rattle.std.specs.Prelude.{◌≡◌, ℕ, ◌^◌, ◌≤◌, [], IfOk, IfSome, IsTrue, Some, None};
 ghost use Rattle.std.specs.List.{Contains};
 ghost use Rattle.dn_interval.specs.Terms.{in_span};
 ghost use Rattle.dn_net.specs.Terms.{unit_at};
 ghost use Rattle.dn_place.specs.Terms.{HasUnitBounds};
-ghost use Rattle.dn_gather.specs.Terms.{AreExitsOf, FirstFor, IsFoundFirst, IsFoundFrom, IsGround, IsWanted, NoneFor};
+ghost use Rattle.dn_gather.specs.Terms.{AreExitsOfPieces, FirstFor, IsFoundFirst, IsFoundFrom, IsGround, IsWanted, NoneFor};
 
 use crate::choice::choice;
 use crate::ground::Ground;
@@ -41,7 +41,7 @@ pub(crate) fn first_scatter(alloc: Global, wanted: Wanted) -> Result<Option<Scat
     Ok(None)
 }
 
-/// The same in a node, where it is a unit.
+/// The first admissible scattered placement in a node, where the node is a unit.
 fn by_node(alloc: Global, wanted: Wanted, unit: u16) -> Result<Option<Scatter>, OutOfMemory>
     requires wanted { IsWanted meaning wanted }
     ensures some { IfOk result (λ found. IfSome found (λ s.
@@ -55,7 +55,7 @@ fn by_node(alloc: Global, wanted: Wanted, unit: u16) -> Result<Option<Scatter>, 
     }
 }
 
-/// The same in a unit.
+/// The first admissible scattered placement in a unit.
 fn by_unit(
     alloc: Global,
     wanted: Wanted,
@@ -77,9 +77,12 @@ fn by_unit(
         return Ok(None);
     }
     let exits = all_exits(alloc, wanted, unit, translator)?;
+    let outputs = exits.as_slice();
+    if lacks_exits(outputs) {
+        return Ok(None);
+    }
     let used = used_slots(alloc, wanted.tables, unit, translator.slots)?;
     let slots = used.as_slice();
-    let outputs = exits.as_slice();
     let ground = Ground {
         wanted,
         unit,
@@ -91,7 +94,7 @@ fn by_unit(
     by_windows(alloc, ground)
 }
 
-/// The same over the windows of a unit.
+/// The first admissible scattered placement over the windows of a unit.
 fn by_windows(alloc: Global, ground: Ground) -> Result<Option<Scatter>, OutOfMemory>
     requires ground { IsGround meaning ground }
     ensures some { IfOk result (λ found. IfSome found (λ s.
@@ -108,7 +111,7 @@ fn by_windows(alloc: Global, ground: Ground) -> Result<Option<Scatter>, OutOfMem
     Ok(None)
 }
 
-/// The same at the addresses of a window.
+/// The first admissible scattered placement at the addresses of a window.
 fn by_window(alloc: Global, ground: Ground, row: &Row) -> Result<Option<Scatter>, OutOfMemory>
     requires ground { IsGround meaning ground }
     requires listed { Contains ground.windows.now row.now }
@@ -166,7 +169,7 @@ fn all_exits(
     requires wanted { IsWanted meaning wanted }
     requires unit { unit_at wanted.system.on.net.now unit ≡ Some translator.now }
     requires bounds { HasUnitBounds wanted.system.on.net.now translator.now }
-    ensures { IfOk result (λ all. AreExitsOf wanted.entry.system.on.net.now
+    ensures { IfOk result (λ all. AreExitsOfPieces wanted.entry.system.on.net.now
         translator.now wanted.entry.agent wanted.entry.rights wanted.entry.pieces.now all.items) }
 {
     let mut all = Vec::new(alloc);
@@ -176,6 +179,19 @@ fn all_exits(
         all.push(Items::from_vec(exits))?;
     }
     Ok(all)
+}
+
+/// Whether no output gives one of the pieces. Then no slot of the unit need be looked at.
+fn lacks_exits(lists: &[Items<Exit>]) -> bool
+    ensures { IsTrue result → Contains lists.now [] }
+{
+    for list in lists {
+        let exits = list.as_slice();
+        if exits.is_empty() {
+            return true;
+        }
+    }
+    false
 }
 
 /// The scattered placement of these hops.

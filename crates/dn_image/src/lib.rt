@@ -1,8 +1,15 @@
 //! Images of tables: the bytes in which the words of all units of a net are stored.
 //!
-//! [`write`](mod@write) makes the image of a set of tables, in version 2. [`read`](mod@read) takes the images of a net
-//! of both versions, whoever made them, and says of other bytes what is first wrong with them.
-//! [`slots`] reads the record of one slot from the bytes, and [`laws`] has the laws on images.
+//! ```text
+//! let bytes = write::write(alloc, on, &tables)?;    // version 2
+//! let image = read::read(alloc, on, &bytes)?;       // or what is first wrong with the bytes
+//! let words = image.words(unit);
+//! ```
+//!
+//! [`read`](mod@read) takes the images of a net of both versions, whoever made them.
+//! [`check`](mod@check) looks at bytes without a copy, and [`slots`] reads the record of one slot
+//! from them. [`laws`] says that what is written is read as it was, and that bytes are an image of
+//! one set of words alone.
 #![tactic(auto)]
 
 pub mod check;

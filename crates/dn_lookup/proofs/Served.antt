@@ -14,7 +14,7 @@ use Rattle.dn_kind.specs.Cleared.{is_open_in, words_allowing}
 use Rattle.dn_kind.proofs.Allowed.{records_allowing}
 use Rattle.dn_image.specs.Reading.{broken_image, image_words, version_of, reading_by, image_reading}
 use Rattle.dn_image.proofs.Sized.{image_sized, kept_sized}
-use Rattle.dn_lookup.specs.Lookup.{no_agent, image_records, lets_through, lookup_in, lookup_of, bytes_records}
+use Rattle.dn_lookup.specs.Lookup.{no_agent, image_records_for, lets_through, lookup_in, lookup_of, bytes_records}
 
 -- the record, where the code lets the access through
 abbrev pub record_through : ℕ → Access → Option Record → Option Record
@@ -72,7 +72,7 @@ pub looked_up : (net : List NodeDecl) (kinds : List Meaning) (bytes : List ℕ) 
 looked_up net kinds bytes access x version names agent whole same found =
     ap (λ c. if c then lookup_in net kinds access x (image_reading net kinds bytes) else Err no_agent) agent
     ∙ ap (λ o. lookup_in net kinds access x (reading_by o (record { version = version_of bytes; words = image_words net kinds bytes }))) whole
-    ∙ ap (λ n. Ok (resolved_names_under net (image_records net kinds (record { version = n; words = image_words net kinds bytes }) access) x)) (sym same)
+    ∙ ap (λ n. Ok (resolved_names_under net (image_records_for net kinds (record { version = n; words = image_words net kinds bytes }) access) x)) (sym same)
     ∙ sym (ap Ok found)
 
 pub answer_looked_up : {E : Type 0} (net : List NodeDecl) (kinds : List Meaning) (bytes : List ℕ) (access : Access) (x : Name) (version : ℕ) (r : Result (List Name) E) → is_agent_at (slice_get net x.node) ≡ true → broken_image net kinds bytes ≡ None → version ≡ version_of bytes → IfOk r (λ names. names ≡ resolved_names_under net (bytes_records net kinds bytes version access) x) → IfOk r (λ names. lookup_of net kinds bytes access x ≡ Ok names)

@@ -18,7 +18,7 @@ pub record IsImage {K : Type 0} {V : K → Type 0} (means : (k : K) × V k → M
   pub whole : broken_image image.on.net.now (kinds_of means image.on.kinds.now) image.bytes.now ≡ None
 
 -- the records of an image that allow an access
-abbrev pub records_in : {K : Type 0} {V : K → Type 0} → ((k : K) × V k → Meaning) →
+abbrev pub records_for : {K : Type 0} {V : K → Type 0} → ((k : K) × V k → Meaning) →
     LoadedImage K V → Access → Held
-records_in means image access =
+records_for means image access =
     bytes_records image.on.net.now (kinds_of means image.on.kinds.now) image.bytes.now image.version access

@@ -20,18 +20,18 @@ pub data NoLookup : Type 0 where
   no_image : BrokenImage → NoLookup
 
 -- the records of an image that allow an access
-abbrev pub image_records : List NodeDecl → List Meaning → ImageWords → Access → Held
-image_records net kinds i access = allowing access (record_held net kinds (image_tables net kinds i))
+abbrev pub image_records_for : List NodeDecl → List Meaning → ImageWords → Access → Held
+image_records_for net kinds i access = allowing access (record_held net kinds (image_tables net kinds i))
 
 -- the records that allow an access of bytes that are an image of this version
 abbrev pub bytes_records : List NodeDecl → List Meaning → List ℕ → ℕ → Access → Held
 bytes_records net kinds bytes version access =
-    image_records net kinds (record { version = version; words = image_words net kinds bytes }) access
+    image_records_for net kinds (record { version = version; words = image_words net kinds bytes }) access
 
 -- what a name resolves to for an access under the tables of an image, or what is wrong with the bytes
 abbrev pub lookup_in : List NodeDecl → List Meaning → Access → Name → Result ImageWords BrokenImage →
     Result (List Name) NoLookup
-lookup_in net kinds access x (Ok i) = Ok (resolved_names_under net (image_records net kinds i access) x)
+lookup_in net kinds access x (Ok i) = Ok (resolved_names_under net (image_records_for net kinds i access) x)
 lookup_in net kinds access x (Err b) = Err (no_image b)
 
 -- the lookup of an agent's address for an access in bytes

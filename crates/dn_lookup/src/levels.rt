@@ -3,7 +3,7 @@
 ghost use Rattle.std.specs.Prelude.{◌≡◌, ◌++◌, [], ◌∷◌, ◌+◌, ◌<◌, ◌^◌, length, IfOk, OnOk, IsTrue};
 ghost use Rattle.dn_net.specs.Terms.{each_step, is_accepted, passing_names, sorted_names};
 ghost use Rattle.dn_kind.specs.Terms.{are_there, resolved_names_under, steps_under};
-ghost use Rattle.dn_lookup.specs.Terms.{IsImage, records_in};
+ghost use Rattle.dn_lookup.specs.Terms.{IsImage, records_for};
 
 use crate::OutOfMemory;
 use crate::image::LoadedImage;
@@ -26,7 +26,7 @@ pub(crate) fn resolve(
     requires image { IsImage meaning image }
     requires there { name.node < length image.on.net.now }
     ensures resolved { IfOk result (λ names. names ≡ resolved_names_under image.entry.on.net.now
-        (records_in meaning image.entry access) name) }
+        (records_for meaning image.entry access) name) }
     ensures there { IfOk result
         (λ names. IsTrue (are_there (length image.entry.on.net.now) names)) }
 {
@@ -54,7 +54,7 @@ fn next_level(
     ensures accepted { OnOk result (accepted.new.items
         ≡ accepted.old.items ++ passing_names (is_accepted image.entry.on.net.now) level.now) }
     ensures next { IfOk result (λ names. names ≡ sorted_names (each_step
-        (steps_under image.entry.on.net.now (records_in meaning image.entry access)) level.now)) }
+        (steps_under image.entry.on.net.now (records_for meaning image.entry access)) level.now)) }
     ensures there { IfOk result
         (λ names. IsTrue (are_there (length image.entry.on.net.now) names)) }
 {
@@ -78,7 +78,7 @@ fn push_steps(
     ensures accepted { OnOk result (accepted.new.items
         ≡ accepted.old.items ++ passing_names (is_accepted image.entry.on.net.now) (name ∷ [])) }
     ensures next { OnOk result (next.new.items ≡ next.old.items
-        ++ steps_under image.entry.on.net.now (records_in meaning image.entry access) name) }
+        ++ steps_under image.entry.on.net.now (records_for meaning image.entry access) name) }
 {
     match image.on.net.step(name) {
         Step::Accepted => Ok(accepted.push(name)?),

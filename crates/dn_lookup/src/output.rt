@@ -3,7 +3,7 @@
 ghost use Rattle.std.specs.Prelude.{◌≡◌, ◌<◌, ◌^◌, [], ◌∷◌, length, None, Some, IsTrue};
 ghost use Rattle.dn_net.specs.Terms.{is_stop};
 ghost use Rattle.dn_kind.specs.Terms.{name_list, output, steps_under};
-ghost use Rattle.dn_lookup.specs.Terms.{IsImage, lets_through, records_in};
+ghost use Rattle.dn_lookup.specs.Terms.{IsImage, lets_through, records_for};
 
 use crate::image::LoadedImage;
 use dn_image::slots::record_in;
@@ -30,7 +30,7 @@ pub(crate) fn output(image: LoadedImage, access: Access, name: Name) -> Option<N
     requires there { name.node < length image.on.net.now }
     requires stop { IsTrue (is_stop image.on.net.now name) }
     ensures { name_list result
-        ≡ steps_under image.entry.on.net.now (records_in meaning image.entry access) name }
+        ≡ steps_under image.entry.on.net.now (records_for meaning image.entry access) name }
 {
     let unit = image.on.net.unit(name.node)?;
     let slot = name.addr >> unit.page;

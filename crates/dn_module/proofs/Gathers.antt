@@ -12,16 +12,16 @@ use Rattle.dn_module.specs.declared.command.Command.{Command}
 use Rattle.dn_module.specs.declared.command.PieceTarget.{PieceTarget}
 use Rattle.dn_scope.specs.Values.{each, value}
 use Rattle.dn_scope.specs.Faults.{ExpansionFault, at_line}
-use Rattle.dn_module.specs.Commands.{target_of, piece_of, command_of, commands_of, commands_or_none, nodes_within, has_few_pieces, names_within}
+use Rattle.dn_module.specs.Commands.{target_of, piece_target, command_of, commands_of, commands_or_none, nodes_within, has_few_pieces, names_within}
 use Rattle.dn_module.proofs.Yields.{Yields, any, bind, given, at_yields}
 
 -- what is made of the commands of a script
 abbrev IsFew : Command → Type 0
 IsFew c = IsTrue (has_few_pieces c)
 
-as_many : (known : List (List ℕ)) (ps : List Piece) → Yields (λ made. length made ≡ length ps) (each (piece_of known) ps)
+as_many : (known : List (List ℕ)) (ps : List Piece) → Yields (λ made. length made ≡ length ps) (each (piece_target known) ps)
 as_many known [] = given refl
-as_many known (p ∷ ps) = bind (piece_of known p) _ (any (piece_of known p)) (λ q u. bind (each (piece_of known) ps) _ (as_many known ps) (λ qs l. given (ap suc l)))
+as_many known (p ∷ ps) = bind (piece_target known p) _ (any (piece_target known p)) (λ q u. bind (each (piece_target known) ps) _ (as_many known ps) (λ qs l. given (ap suc l)))
 
 few_of : (made : List PieceTarget) (ps : List Piece) → length made ≡ length ps → (1 ≤ length ps) × (length ps ≤ 8) → IsTrue (nat_le 1 (length made) && nat_le (length made) 8)
 few_of made ps l h =
@@ -40,7 +40,7 @@ made_few known dump h = given refl
 made_few known split h = given refl
 made_few known (absorb name) h = bind (target_of known name) _ (any (target_of known name)) (λ t u. given refl)
 made_few known (radix name e) h = bind (target_of known name) _ (any (target_of known name)) (λ t u. bind (value e) _ (any (value e)) (λ n v. given refl))
-made_few known (gather agent ps m) h = bind (target_of known agent) _ (any (target_of known agent)) (λ a u. bind (each (piece_of known) ps) _ (as_many known ps) (λ made l. given (few_of made ps l h)))
+made_few known (gather agent ps m) h = bind (target_of known agent) _ (any (target_of known agent)) (λ a u. bind (each (piece_target known) ps) _ (as_many known ps) (λ made l. given (few_of made ps l h)))
 
 all_few : (known : List (List ℕ)) (cs : List CommandOf) → Each (λ c. FewOrder c.order) cs → Yields (λ made. IsTrue (list_all has_few_pieces made)) (commands_of known cs)
 all_few known [] h = given refl

@@ -10,7 +10,7 @@ use Rattle.dn_module.specs.declared.command.Target.{Target}
 use Rattle.dn_scope.specs.Values.{◌>>=◌, Flaw, each, value, part_text, part_by, dotted_text}
 use Rattle.dn_scope.specs.Faults.{at_line, ExpansionFault}
 use Rattle.dn_module.specs.Drafts.{number_in}
-use Rattle.dn_module.specs.Commands.{target_of, piece_of, command_of, commands_of, commands_or_none, node_within, pieces_within, nodes_within, makes_within}
+use Rattle.dn_module.specs.Commands.{target_of, piece_target, command_of, commands_of, commands_or_none, node_within, pieces_within, nodes_within, makes_within}
 
 -- what follows a part that has no fault has none by itself
 ok_then : {A B E : Type 0} (r : Result A E) (f : A → Result B E) → is_ok r ≡ true → ((a : A) → is_ok (f a) ≡ true) → is_ok (r >>= f) ≡ true
@@ -67,15 +67,15 @@ module _ (known : List (List ℕ)) (line : ℕ) where
   abbrev PieceMade : Result PieceTarget Flaw → Type 0
   PieceMade = Makes (λ (q : PieceTarget). node_within (length known) q.node.node)
 
-  plain_piece : (p : Piece) → IsTrue (is_plain_piece p) → PieceMade (piece_of known p)
+  plain_piece : (p : Piece) → IsTrue (is_plain_piece p) → PieceMade (piece_target known p)
   plain_piece p h =
       let q = and_parts (is_constant_name p.node) _ h in
       let r = and_parts (is_constant p.base) (is_constant p.size) q.1 in
       targeted PieceMade p.node _ q.0 (λ t w. valued PieceMade p.base _ r.0 (λ n. valued PieceMade p.size _ r.1 (λ s. w)))
 
-  plain_pieces : (ps : List Piece) → IsTrue (list_all is_plain_piece ps) → Makes (pieces_within (length known)) (each (piece_of known) ps)
+  plain_pieces : (ps : List Piece) → IsTrue (list_all is_plain_piece ps) → Makes (pieces_within (length known)) (each (piece_target known) ps)
   plain_pieces [] h = refl
-  plain_pieces (p ∷ ps) h = let q = and_parts (is_plain_piece p) _ h in by (piece_of known p) (each (piece_of known) ps) (plain_piece p q.0) (plain_pieces ps q.1)
+  plain_pieces (p ∷ ps) h = let q = and_parts (is_plain_piece p) _ h in by (piece_target known p) (each (piece_target known) ps) (plain_piece p q.0) (plain_pieces ps q.1)
     where
       by : (r : Result PieceTarget Flaw) (s : Result (List PieceTarget) Flaw) → PieceMade r → Makes (pieces_within (length known)) s → Makes (pieces_within (length known)) (r >>= (λ y. s >>= (λ ys. Ok (y ∷ ys))))
       by (Ok y) (Ok ys) w v = rw w v
@@ -105,7 +105,7 @@ module _ (known : List (List ℕ)) (line : ℕ) where
   plain_made split h = refl
   plain_made (absorb name) h = targeted Within name _ h (λ t w. w)
   plain_made (radix name e) h = let p = and_parts (is_constant_name name) (is_constant e) h in targeted Within name _ p.0 (λ t w. valued Within e _ p.1 (λ n. w))
-  plain_made (gather agent pieces m) h = let p = and_parts (is_constant_name agent) _ h in targeted Within agent _ p.0 (λ a v. pieced (each (piece_of known) pieces) _ (plain_pieces pieces p.1) (λ ps w. rw v w))
+  plain_made (gather agent pieces m) h = let p = and_parts (is_constant_name agent) _ h in targeted Within agent _ p.0 (λ a v. pieced (each (piece_target known) pieces) _ (plain_pieces pieces p.1) (λ ps w. rw v w))
 
 -- commands that are all plain are all made, and their nodes are there
 pub plain_list : (known : List (List ℕ)) (cs : List CommandOf) → IsTrue (are_plain cs) → (is_ok (commands_of known cs) ≡ true) × IsTrue (list_all (nodes_within (length known)) (commands_or_none (commands_of known cs)))

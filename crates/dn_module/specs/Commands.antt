@@ -25,8 +25,8 @@ asked_of known name e asks = do
   Ok (asks target addr)
 
 -- a piece as a gather names it
-abbrev pub piece_of : List (List ℕ) → Piece → Result PieceTarget Flaw
-piece_of known p = do
+abbrev pub piece_target : List (List ℕ) → Piece → Result PieceTarget Flaw
+piece_target known p = do
   target ← target_of known p.node
   base ← value p.base
   size ← value p.size
@@ -61,7 +61,7 @@ command_of known (absorb name) = do
 command_of known (radix name e) = asked_of known name e Radix
 command_of known (gather agent pieces m) = do
   from ← target_of known agent
-  made ← each (piece_of known) pieces
+  made ← each (piece_target known) pieces
   Ok (Gather from made m)
 
 -- the commands of a tree, or the first fault

@@ -7,7 +7,7 @@ ghost use Rattle.dn_parse.specs.Terms.{expr_view, grant_view, name_view, order_v
 ghost use Rattle.dn_module.specs.declared.command.Command.{Command};
 ghost use Rattle.dn_module.specs.declared.command.Target.{Target};
 ghost use Rattle.dn_scope.specs.Values.{Flaw as SpecFlaw};
-ghost use Rattle.dn_module.specs.Terms.{asked_of, command_of, commands_of, commands_or_none, makes_within, nodes_within, node_within, piece_of, pieces_within, target_of};
+ghost use Rattle.dn_module.specs.Terms.{asked_of, command_of, commands_of, commands_or_none, makes_within, nodes_within, node_within, piece_target, pieces_within, target_of};
 ghost use Rattle.dn_scope.specs.Terms.{at_line, each, expand_fault_view, flaw_fault_view, full_name, name_fault_view, value};
 ghost use Rattle.dn_base.specs.Terms.{Answers};
 
@@ -211,7 +211,7 @@ fn route(alloc: Global, names: &NameTable, asked: &RouteExpr) -> Result<Command,
 /// A piece as a gather names it.
 fn piece(alloc: Global, names: &NameTable, asked: &PieceExpr) -> Result<PieceTarget, NameFault>
     ensures made { Answers (λ x. x) name_fault_view result
-        (piece_of names.now (piece_view asked.now)) }
+        (piece_target names.now (piece_view asked.now)) }
     ensures known { IfOk result (λ p. IsTrue (node_within (length names.now) p.node.node)) }
 {
     let node = target(alloc, names, &asked.node)?;
@@ -231,7 +231,7 @@ fn pieces(
     asked: &[PieceExpr],
 ) -> Result<Items<PieceTarget>, NameFault>
     ensures made { Answers (λ x. x) name_fault_view result
-        (each (piece_of names.now) (map piece_view asked.now)) }
+        (each (piece_target names.now) (map piece_view asked.now)) }
     ensures known { IfOk result (λ ps. IsTrue (pieces_within (length names.now) ps)) }
 {
     let mut made = Items::from_vec(Vec::with_capacity(alloc, asked.len())?);

@@ -12,7 +12,7 @@ use Rattle.dn_parse.specs.Tree.{Expression, Part, Role, plain_role, agent_role, 
 use Rattle.dn_parse.specs.Actions.{Value, Action, perform, text, expression, name, names, spec, param, params, arg, args, mode, piece, pieces, statement, put_word, make_part, first_item, next_item, make_number_param, make_node_param, no_params, make_number_arg, make_node_arg, no_args, make_plain, make_agent, make_vectors, make_unit, make_module, make_use, make_loop, make_end, make_begin, no_access, for_read, for_write, make_resolve, make_lookup, make_view, make_grant, make_route, make_revoke, make_dump, make_split, make_absorb, make_radix, make_piece, make_gather}
 use Rattle.dn_parse.specs.Forms.{Form, takes, does, either, one_of, Sort, a_word, a_node_word, any_word, the_keyword, the_sign, is, is_sign, is_command_word, values_with_token}
 use Rattle.dn_parse.specs.Forms.{and_then as both}
-use Rattle.dn_parse.specs.Syntax.{the, this, mark, factor, term, expr, part_form, name_form, spec_form, more_names, param_form, more_params, params_form, arg_form, more_args, args_form, plain_form, agent_form, vectors_form, unit_form, module_form, use_form, loop_form, access_form, maybe_access, command_form, radix_form, piece_form, more_pieces, gather_form, part_by, name_by, plain_by, index, more_parts, minus_expr, more_terms, more_factors, accept, map_form, over, block_form, upper_bound, more_blocks, entry_form, more_entries, dest_form, at_addr, more_dests, statement_form}
+use Rattle.dn_parse.specs.Syntax.{the, this, mark, factor, term, expr, part_form, name_form, spec_form, more_names, param_form, more_params, params_form, arg_form, more_args, args_form, plain_form, agent_form, vectors_form, unit_form, module_form, use_form, loop_form, access_form, maybe_access, command_form, radix_form, piece_form, more_pieces, gather_form, part_with, name_by, plain_by, index, more_parts, minus_expr, more_terms, more_factors, accept, map_form, over, block_form, upper_bound, more_blocks, entry_form, more_entries, dest_form, at_addr, more_dests, statement_form}
 use Rattle.dn_parse.specs.Machine.{Move, to, skips, refuses, move_of_token, move_and_then, move_or_else, move, Fed, on, stuck, fed_by_move, inside, run, go, feed, refused}
 use Rattle.dn_parse.specs.Descent.{and_then, if_there, Read, Reader, sign_at, keyword_at, word_at, any_word_at, row, with_front, after_sign, after_keyword, the_word_at, name_at, expr_at, spec_at, param_at, next_param_at, params_at, closed_params_at, arg_at, next_arg_at, args_at, closed_args_at, next_port_at, ports_at, node_at, measure_at, unit_declaration_at, module_at, use_at, loop_at, mode_at, access_at, resolve_at, lookup_at, view_at, grant_at, route_at, radix_at, piece_at, next_piece_at, pieces_at, gather_at, order_at, as_declared, as_ordered, keyword_statement_at, is_free, begins_word, word_order_at, word_statement_at, statement_by, statement_at}
 use Rattle.dn_parse.proofs.Does.{Does, Row, does_by, seq, pass, last, act, keyword_after, sign_after, word_does, any_word_does, if_keyword, if_word, the_word_after, seq_on, does_same, assoc, most_row_does}
@@ -298,7 +298,7 @@ abbrev after_first_word : List Form → List Form
 after_first_word k = both index (does make_part) ∷ both (does first_item) more_parts ∷ both (the Is) (both spec_form (does make_plain)) ∷ k
 
 plain_parts : (f : Form) (line : ℕ) (k : List Form) (vs : List Value) (ts : List Token) → run (inside line 0 (plain_by f ∷ k) vs) ts ≡ run (inside line 0 (f ∷ after_first_word k) vs) ts
-plain_parts f line k vs ts = run_then line 0 (name_by f) _ k vs ts ∙ run_then line 0 (part_by f) _ _ vs ts ∙ run_then line 0 f _ _ vs ts
+plain_parts f line k vs ts = run_then line 0 (name_by f) _ k vs ts ∙ run_then line 0 (part_with f) _ _ vs ts ∙ run_then line 0 f _ _ vs ts
 
 word_taken : (s : Sort) (w : List ℕ) (t : Token) (ts : List Token) → t.lexeme ≡ word w → is s (word w) ≡ true → (line : ℕ) (k : List Form) (vs : List Value) → values_with_token s (word w) vs ≡ text w ∷ vs → run (inside line 0 (takes s ∷ k) vs) (t ∷ ts) ≡ run (inside line 0 k (text w ∷ vs)) ts
 word_taken s w t ts e h line k vs q =

@@ -71,12 +71,12 @@ unfoldable pub index : Form
 index = perhaps_expr (mark OpenBracket) (does some_expression ∷ mark CloseBracket ∷ [])
 
 -- word [ "[" expr "]" ], where this form gives the word
-abbrev pub part_by : Form → Form
-part_by f = forms_in_order f (index ∷ does make_part ∷ [])
+abbrev pub part_with : Form → Form
+part_with f = forms_in_order f (index ∷ does make_part ∷ [])
 
 -- part = word [ "[" expr "]" ]
 unfoldable pub part_form : Form
-part_form = part_by (takes a_word)
+part_form = part_with (takes a_word)
 
 -- { "." part }
 unfoldable pub more_parts : Form
@@ -88,7 +88,7 @@ name_form = forms_in_order part_form (does first_item ∷ more_parts ∷ [])
 
 -- part { "." part }, where this form gives the first word
 abbrev pub name_by : Form → Form
-name_by f = forms_in_order (part_by f) (does first_item ∷ more_parts ∷ [])
+name_by f = forms_in_order (part_with f) (does first_item ∷ more_parts ∷ [])
 
 -- [ "-" expr ]
 unfoldable pub upper_bound : Form

@@ -26,7 +26,7 @@ use Rattle.dn_flat.specs.Views.{StopsFrom}
 use Rattle.dn_flat.proofs.Shown.{nodes_reach_their_names}
 use Rattle.dn_view.proofs.Exposed.{stop_low}
 use Rattle.dn_view.proofs.Pages.{page_is, pages_between}
-use Rattle.dn_place.specs.Blocks.{HasBeside, HasBlocks, SendsBlocks, ShowsWithin, Tells, end_fits, is_whole, layers_fit, moved, row_fits, rows_fit}
+use Rattle.dn_place.specs.Blocks.{HasBeside, HasBlocks, SendsBlocks, ShowsWithin, Tells, end_fits, is_whole, layers_fit, moved_in_block, row_fits, rows_fit}
 
 -- What divides a number that has the bits of two divides both.
 
@@ -79,7 +79,7 @@ all_member p (y ∷ xs) x (inr m) e = all_member p xs x m (and_parts (p y) (list
 record IsMoved (m lo hi base a b : ℕ) : Type 0 where
   from : lo ≤ b
   to : b ≤ hi
-  name : base + (b - lo) ≡ moved m (base + (a - lo)) b
+  name : base + (b - lo) ≡ moved_in_block m (base + (a - lo)) b
 
 moved_row : (m lo hi base a b : ℕ) → 0 < m → lo % m ≡ 0 → (hi + 1) % m ≡ 0 → base % m ≡ 0 → lo ≤ a → a ≤ hi → a / m ≡ b / m → IsMoved m lo hi base a b
 moved_row m lo hi base a b pos el eh eb from to same =
@@ -114,7 +114,7 @@ levels_send net node block levels is fit a b z same st = (is.stops b y (omega (a
     m = 2 ^ block
 
     y : End
-    y = record { node = z.node; base = moved (2 ^ block) z.base b }
+    y = record { node = z.node; base = moved_in_block (2 ^ block) z.base b }
 
     given : levels_give levels.stops a z ≡ true
     given = (is.stops a z (stop_low net (record { node = node; addr = a }) (name_of_end z) st)).1 st
@@ -152,11 +152,11 @@ levels_send net node block levels is fit a b z same st = (is.stops b y (omega (a
     k : IsMoved (2 ^ block) r.span.lo r.span.hi e.0.base a b
     k = moved_row (2 ^ block) r.span.lo r.span.hi e.0.base a b (pow_pos block) (eqb-true (r.span.lo % 2 ^ block) 0 edges.0) (eqb-true ((r.span.hi + 1) % 2 ^ block) 0 edges.1) (eqb-true (e.0.base % 2 ^ block) 0 (all_member (end_fits (2 ^ block)) r.ends e.0 e.1 bounds.1)) (lo_of r.span a halves.0) (hi_of r.span a halves.0) same
 
-    name : e.0.base + (b - r.span.lo) ≡ moved (2 ^ block) z.base b
-    name = k.name ∙ ap (λ n. moved (2 ^ block) n b) (eqb-true (e.0.base + (a - r.span.lo)) z.base names.1)
+    name : e.0.base + (b - r.span.lo) ≡ moved_in_block (2 ^ block) z.base b
+    name = k.name ∙ ap (λ n. moved_in_block (2 ^ block) n b) (eqb-true (e.0.base + (a - r.span.lo)) z.base names.1)
 
     here : row_gives r b y ≡ true
-    here = and_from (in_span r.span b) (ends_give r.ends r.span.lo b y) (in_from r.span b k.from k.to) (member_any (λ (e : End). nat_eq e.node y.node && nat_eq (e.base + (b - r.span.lo)) y.base) r.ends e.0 e.1 (and_from (nat_eq e.0.node z.node) (nat_eq (e.0.base + (b - r.span.lo)) (moved (2 ^ block) z.base b)) names.0 (eq-eqb (e.0.base + (b - r.span.lo)) (moved (2 ^ block) z.base b) name)))
+    here = and_from (in_span r.span b) (ends_give r.ends r.span.lo b y) (in_from r.span b k.from k.to) (member_any (λ (e : End). nat_eq e.node y.node && nat_eq (e.base + (b - r.span.lo)) y.base) r.ends e.0 e.1 (and_from (nat_eq e.0.node z.node) (nat_eq (e.0.base + (b - r.span.lo)) (moved_in_block (2 ^ block) z.base b)) names.0 (eq-eqb (e.0.base + (b - r.span.lo)) (moved_in_block (2 ^ block) z.base b) name)))
 
 -- Blocks of one address are whole.
 
@@ -172,8 +172,8 @@ ones net node a b z e st =
     let mb : b % 1 ≡ 0 = mod-one b in
     let mz : z.base % 1 ≡ 0 = mod-one z.base in
     let same : a ≡ b = omega (arith, da, db, ma, mb, e) in
-    let name : z.base ≡ moved 1 z.base b = omega (arith, dz, mz, mb) in
-    subst (λ n. StopsFrom net node n (record { node = z.node; base = moved 1 z.base b })) same (subst (λ n. StopsFrom net node a (record { node = z.node; base = n })) name st)
+    let name : z.base ≡ moved_in_block 1 z.base b = omega (arith, dz, mz, mb) in
+    subst (λ n. StopsFrom net node n (record { node = z.node; base = moved_in_block 1 z.base b })) same (subst (λ n. StopsFrom net node a (record { node = z.node; base = n })) name st)
 
 pub one_blocks : (net : List NodeDecl) → HasBlocks net 0
 one_blocks net = record {

@@ -23,7 +23,7 @@ use Rattle.dn_place.specs.declared.cursor.Inputs.{Inputs}
 use Rattle.dn_place.specs.declared.exits.Exit.{Exit}
 use Rattle.dn_place.specs.declared.slots.Input.{Input}
 use Rattle.dn_place.specs.Candidates.{IsChosen, IsFirstUnder, IsUnder, NoneUnder, key_of_hops, to_output, to_port, to_unit}
-use Rattle.dn_place.specs.Cursors.{AreAllToCome, AreAllUseless, AreAtHand, AreExitsOf, AreInputs, Gives, GoesByExit, GoesByInput, GoesByInputs, GoesByUnit, GoesOn, HasRange, IsBelow, IsCursor, IsInputRange, IsNextUsable, IsOutputIn, IsToCome, IsUsableInput, LeavesInputs, hops_left, inputs_left}
+use Rattle.dn_place.specs.Cursors.{AreAllToCome, AreAllUseless, AreAtHand, AreExitsOf, AreInputs, GivesHop, GoesByExit, GoesByInput, GoesByInputs, GoesByUnit, GoesOnWithoutHop, HasRange, IsBelow, IsCursor, IsInputRange, IsNextUsable, IsOutputIn, IsToCome, IsUsableInput, LeavesInputs, hops_left, inputs_left}
 use Rattle.dn_walk.specs.Ends.{name_of_end}
 use Rattle.dn_place.specs.Exits.{AreOutputs, Ascend, IsAloneBefore, IsOutput, IsRankedOutput, IsSooner, has_exit}
 use Rattle.dn_place.specs.Marks.{AreMarked, AreUnitsFrom, IsEntry, mark_at}
@@ -127,7 +127,7 @@ all_begun s count nearer units c begun a l = λ q u.
 
 -- the next unit
 
-pub unit_begun : (s : Sought) (count : ℕ) (nearer : List Hop) (units : List ℕ) (old new : HopCursor) (m : ℕ) → IsCursor s count nearer units old → old.inputs ≡ None → length old.exits.items ≤ old.at → old.begun < length units → m ≡ get_or units old.begun 0 → AreExitsOf s count nearer m new.exits.items → length new.exits.items < 2 ^ 64 → new.begun ≡ old.begun + 1 → new.unit ≡ m → new.at ≡ 0 → new.inputs ≡ None → GoesOn s count nearer units old new
+pub unit_begun : (s : Sought) (count : ℕ) (nearer : List Hop) (units : List ℕ) (old new : HopCursor) (m : ℕ) → IsCursor s count nearer units old → old.inputs ≡ None → length old.exits.items ≤ old.at → old.begun < length units → m ≡ get_or units old.begun 0 → AreExitsOf s count nearer m new.exits.items → length new.exits.items < 2 ^ 64 → new.begun ≡ old.begun + 1 → new.unit ≡ m → new.at ≡ 0 → new.inputs ≡ None → GoesOnWithoutHop s count nearer units old new
 unit_begun s count nearer units old new m is none past more here exits few begun unit at inputs = record {
   cursor = record {
     bound = suc m;
@@ -173,7 +173,7 @@ unit_begun s count nearer units old new m is none past more here exits few begun
 
 -- the next output
 
-pub exit_begun : (s : Sought) (count : ℕ) (nearer : List Hop) (units : List ℕ) (old new : HopCursor) (e : Exit) → IsSearchReady s → IsCursor s count nearer units old → old.inputs ≡ None → old.at < length old.exits.items → drop old.at old.exits.items ≡ e ∷ drop (old.at + 1) old.exits.items → new.begun ≡ old.begun → new.unit ≡ old.unit → new.exits.items ≡ old.exits.items → new.at ≡ old.at + 1 → IfSome new.inputs (λ i. AreInputs s count nearer i) → IfSome new.inputs (λ i. i.unit ≡ old.unit) → IfSome new.inputs (λ i. i.port ≡ e.port) → IfSome new.inputs (λ i. i.y ≡ e.y) → ((q : Place) → IsUnder s (to_output count nearer old.unit e.port e.y) q → GoesByInputs s count nearer new.inputs q) → GoesOn s count nearer units old new
+pub exit_begun : (s : Sought) (count : ℕ) (nearer : List Hop) (units : List ℕ) (old new : HopCursor) (e : Exit) → IsSearchReady s → IsCursor s count nearer units old → old.inputs ≡ None → old.at < length old.exits.items → drop old.at old.exits.items ≡ e ∷ drop (old.at + 1) old.exits.items → new.begun ≡ old.begun → new.unit ≡ old.unit → new.exits.items ≡ old.exits.items → new.at ≡ old.at + 1 → IfSome new.inputs (λ i. AreInputs s count nearer i) → IfSome new.inputs (λ i. i.unit ≡ old.unit) → IfSome new.inputs (λ i. i.port ≡ e.port) → IfSome new.inputs (λ i. i.y ≡ e.y) → ((q : Place) → IsUnder s (to_output count nearer old.unit e.port e.y) q → GoesByInputs s count nearer new.inputs q) → GoesOnWithoutHop s count nearer units old new
 exit_begun s count nearer units old new e ready is none more rest begun unit exits at inputs in_unit in_port in_y all = record {
   cursor = record {
     bound = is.bound;
@@ -252,7 +252,7 @@ same_unit net n u v a b = some u v (sym a ∙ b)
     some : (u v : UnitPart) → Some u ≡ Some v → u ≡ v
     some u v p = cc
 
-pub input_given : (s : Sought) (count place : ℕ) (nearer : List Hop) (units : List ℕ) (old new : HopCursor) (i : Inputs) (input : Input) (handed : ℕ) (u : UnitPart) → IsSearchReady s → IsChosen s count nearer → length nearer < count → place ≡ count - length nearer → IsCursor s count nearer units old → old.inputs ≡ Some i → unit_at s.net i.unit ≡ Some u → IsUsableInput s u place i input → new.begun ≡ old.begun → new.unit ≡ old.unit → new.exits.items ≡ old.exits.items → new.at ≡ old.at → new.inputs ≡ Some (inputs_past i input handed) → Gives s count nearer units old new (record { unit = i.unit; port = i.port; x = input.x; y = i.y })
+pub input_given : (s : Sought) (count place : ℕ) (nearer : List Hop) (units : List ℕ) (old new : HopCursor) (i : Inputs) (input : Input) (handed : ℕ) (u : UnitPart) → IsSearchReady s → IsChosen s count nearer → length nearer < count → place ≡ count - length nearer → IsCursor s count nearer units old → old.inputs ≡ Some i → unit_at s.net i.unit ≡ Some u → IsUsableInput s u place i input → new.begun ≡ old.begun → new.unit ≡ old.unit → new.exits.items ≡ old.exits.items → new.at ≡ old.at → new.inputs ≡ Some (inputs_past i input handed) → GivesHop s count nearer units old new (record { unit = i.unit; port = i.port; x = input.x; y = i.y })
 input_given s count place nearer units old new i input handed u ready chosen l here is some is_unit found begun unit exits at inputs = record {
   cursor = record {
     bound = is.bound;
@@ -406,10 +406,10 @@ pub record WentOn (s : Sought) (count : ℕ) (nearer : List Hop) (units : List �
 pub went_nowhere : (s : Sought) (count : ℕ) (nearer : List Hop) (units : List ℕ) (c : HopCursor) → IsCursor s count nearer units c → WentOn s count nearer units c c
 went_nowhere s count nearer units c is = record { cursor = is; keeps = λ q t. t; fewer = omega arith }
 
-pub went_on : (s : Sought) (count : ℕ) (nearer : List Hop) (units : List ℕ) (first old mid new : HopCursor) → WentOn s count nearer units first old → LeavesInputs s count nearer units old mid → GoesOn s count nearer units mid new → WentOn s count nearer units first new
+pub went_on : (s : Sought) (count : ℕ) (nearer : List Hop) (units : List ℕ) (first old mid new : HopCursor) → WentOn s count nearer units first old → LeavesInputs s count nearer units old mid → GoesOnWithoutHop s count nearer units mid new → WentOn s count nearer units first new
 went_on s count nearer units first old mid new a b c = record { cursor = c.cursor; keeps = λ q t. c.keeps q (b.keeps q (a.keeps q t)); fewer = omega (arith, a.fewer, b.fewer, c.fewer) }
 
-pub then_gives : (s : Sought) (count : ℕ) (nearer : List Hop) (units : List ℕ) (first old new : HopCursor) (hop : Hop) → WentOn s count nearer units first old → Gives s count nearer units old new hop → Gives s count nearer units first new hop
+pub then_gives : (s : Sought) (count : ℕ) (nearer : List Hop) (units : List ℕ) (first old new : HopCursor) (hop : Hop) → WentOn s count nearer units first old → GivesHop s count nearer units old new hop → GivesHop s count nearer units first new hop
 then_gives s count nearer units first old new hop a b = record { cursor = b.cursor; chosen = b.chosen; parts = λ q t. b.parts q (a.keeps q t); later = b.later; fewer = omega (arith, a.fewer, b.fewer) }
 
 pub then_none : (s : Sought) (count : ℕ) (nearer : List Hop) (units : List ℕ) (first old mid : HopCursor) → WentOn s count nearer units first old → LeavesInputs s count nearer units old mid → ((q : Place) → IsToCome s count nearer units mid q → ⊥) → (q : Place) → IsToCome s count nearer units first q → ⊥
@@ -417,7 +417,7 @@ then_none s count nearer units first old mid a b none q t = none q (b.keeps q (a
 
 -- a loop over the hops that a cursor gives
 
-pub given_first : (s : Sought) (count : ℕ) (nearer : List Hop) (units : List ℕ) (old new : HopCursor) (hop : Hop) (p : Place) → AreAllToCome s count nearer units old → Gives s count nearer units old new hop → IsFirstUnder s (key_of_hops count (hop ∷ nearer)) p → IsFirstUnder s (key_of_hops count nearer) p
+pub given_first : (s : Sought) (count : ℕ) (nearer : List Hop) (units : List ℕ) (old new : HopCursor) (hop : Hop) (p : Place) → AreAllToCome s count nearer units old → GivesHop s count nearer units old new hop → IsFirstUnder s (key_of_hops count (hop ∷ nearer)) p → IsFirstUnder s (key_of_hops count nearer) p
 given_first s count nearer units old new hop p all gives f = record {
   is = of_unit f.is;
   least = λ q u. go q (gives.parts q (all q u));
@@ -430,7 +430,7 @@ given_first s count nearer units old new hop p all gives f = record {
     go q (inl u) = f.least q u
     go q (inr t) = gives.later p q f.is t
 
-pub given_none : (s : Sought) (count : ℕ) (nearer : List Hop) (units : List ℕ) (old new : HopCursor) (hop : Hop) → AreAllToCome s count nearer units old → Gives s count nearer units old new hop → NoneUnder s (key_of_hops count (hop ∷ nearer)) → AreAllToCome s count nearer units new
+pub given_none : (s : Sought) (count : ℕ) (nearer : List Hop) (units : List ℕ) (old new : HopCursor) (hop : Hop) → AreAllToCome s count nearer units old → GivesHop s count nearer units old new hop → NoneUnder s (key_of_hops count (hop ∷ nearer)) → AreAllToCome s count nearer units new
 given_none s count nearer units old new hop all gives none = λ q u. go q (gives.parts q (all q u))
   where
     go : (q : Place) → IsUnder s (key_of_hops count (hop ∷ nearer)) q ⊎ IsToCome s count nearer units new q → IsToCome s count nearer units new q

@@ -29,7 +29,7 @@ use Rattle.dn_placement.specs.Placement.{Meets, name_on}
 use Rattle.dn_placement.proofs.Keys.{append_none}
 use Rattle.dn_place.specs.declared.preimages.Way.{Way}
 use Rattle.dn_place.specs.Candidates.{IsAddressed, IsChosen, IsFirstOrNone, IsUnder, NoneUnder, key_of_hops, to_address}
-use Rattle.dn_place.specs.Preimages.{IsPreimage, IsTurned, IsWayTo, LeadsAlone}
+use Rattle.dn_place.specs.Preimages.{IsPreimage, IsWayBack, IsWayTo, LeadsAlone}
 use Rattle.dn_place.specs.Rows.{GivesOnly, GivesStops, InRow, wanted_name}
 use Rattle.dn_place.specs.Sought.{IsSearchReady, Sought}
 use Rattle.dn_place.proofs.Agents.{agent_goes, v_of}
@@ -133,7 +133,7 @@ preimages_normal net agent unit segs back rows stops turned n = normal_like (Seg
     from x z p = segs_to back x z (turned x z ∙ and_from (nat_eq agent z.node) (segs_give segs z.base (record { node = unit; base = x })) (eq-eqb agent z.node (sym p.node)) ((stops z.base (record { node = unit; base = x }) p.low).1 p.stop))
 
 -- a row of preimages that gives each of so many names one address is a way there
-pub turned_way : (net : List NodeDecl) (agent unit x size : ℕ) (rows : List Row) (r : Row) (way : Way) → AreNormal (IsPreimage net agent unit) rows → Contains rows r → 1 ≤ size → IsTurned r x size way → IsWayTo net agent (record { node = unit; base = x }) size way
+pub turned_way : (net : List NodeDecl) (agent unit x size : ℕ) (rows : List Row) (r : Row) (way : Way) → AreNormal (IsPreimage net agent unit) rows → Contains rows r → 1 ≤ size → IsWayBack r x size way → IsWayTo net agent (record { node = unit; base = x }) size way
 turned_way net agent unit x size rows r way n c some t = record {
   from = omega (arith, t.at);
   to = omega (arith, t.at, t.last, t.from, t.to);

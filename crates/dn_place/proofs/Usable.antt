@@ -12,7 +12,7 @@ use Rattle.dn_placement.specs.Records.{slot_record}
 use Rattle.dn_placement.specs.Slots.{Slots}
 use Rattle.dn_place.specs.declared.slot_state.SlotState.{SlotState}
 use Rattle.dn_place.specs.declared.slot_state.SlotState.TheVariants.{Free, Shared, Barred}
-use Rattle.dn_place.specs.Slots.{AreFreeTo, is_barred_slot, is_free_slot, is_usable_slot, shared_by, slot_of}
+use Rattle.dn_place.specs.Slots.{AreFreeTo, is_barred_slot, is_free_slot, is_usable_slot, shared_slot, slot_of}
 
 -- a slot that no hop may take
 pub barred_is : (z : SlotState) → IsTrue (is_barred_slot z) → z ≡ Barred
@@ -26,7 +26,7 @@ barred_unusable port page z p q = false≢true (subst (λ (v : SlotState). IsTru
 
 -- a slot that a hop may take is usable
 pub usable_is : (slots : Slots) (u : UnitPart) (hop : Hop) (slot : ℕ) → IsUsable slots u hop slot → IsTrue (is_usable_slot hop.port (hop.y / 2 ^ u.page + (slot - hop.x / 2 ^ u.page)) (slot_of slots hop.unit slot))
-usable_is slots u hop slot (is_free f) = subst (λ b. IsTrue (is_usable_slot hop.port (hop.y / 2 ^ u.page + (slot - hop.x / 2 ^ u.page)) (if b then Free else shared_by (slots.has_owner hop.unit slot) (slots.held hop.unit slot)))) (sym f) refl
+usable_is slots u hop slot (is_free f) = subst (λ b. IsTrue (is_usable_slot hop.port (hop.y / 2 ^ u.page + (slot - hop.x / 2 ^ u.page)) (if b then Free else shared_slot (slots.has_owner hop.unit slot) (slots.held hop.unit slot)))) (sym f) refl
 usable_is slots u hop slot (is_shared h o) = go (slots.is_free hop.unit slot)
   where
     page : ℕ
@@ -36,13 +36,13 @@ usable_is slots u hop slot (is_shared h o) = go (slots.is_free hop.unit slot)
     unowned true p = absurd (false≢true p)
     unowned false p = refl
 
-    shared : shared_by (slots.has_owner hop.unit slot) (slots.held hop.unit slot) ≡ Shared (slot_record u both_rights hop slot)
-    shared = ap (λ b. shared_by b (slots.held hop.unit slot)) (unowned (slots.has_owner hop.unit slot) o) ∙ ap (shared_by false) h
+    shared : shared_slot (slots.has_owner hop.unit slot) (slots.held hop.unit slot) ≡ Shared (slot_record u both_rights hop slot)
+    shared = ap (λ b. shared_slot b (slots.held hop.unit slot)) (unowned (slots.has_owner hop.unit slot) o) ∙ ap (shared_slot false) h
 
     same : IsTrue (is_usable_slot hop.port page (Shared (slot_record u both_rights hop slot)))
     same = and_from (nat_eq hop.port hop.port) (nat_eq page page) (eq-eqb hop.port hop.port refl) (eq-eqb page page refl)
 
-    go : (b : Bool) → IsTrue (is_usable_slot hop.port page (if b then Free else shared_by (slots.has_owner hop.unit slot) (slots.held hop.unit slot)))
+    go : (b : Bool) → IsTrue (is_usable_slot hop.port page (if b then Free else shared_slot (slots.has_owner hop.unit slot) (slots.held hop.unit slot)))
     go true = refl
     go false = subst (λ (f : SlotState). IsTrue (is_usable_slot hop.port page f)) (sym shared) same
 
@@ -56,7 +56,7 @@ is_usable slots u hop slot usable = go (slots.is_free hop.unit slot) refl usable
     made : (p q g h a b : ℕ) → p ≡ q → g ≡ h → a ≡ b → ◌≡◌ {A = Record} (record { port = p; page = g; rights = record { 0 = a } }) (record { port = q; page = h; rights = record { 0 = b } })
     made p q g h a b x y z = cc
 
-    shared : (o : Bool) (r : Option Record) → slots.has_owner hop.unit slot ≡ o → slots.held hop.unit slot ≡ r → IsTrue (is_usable_slot hop.port page (shared_by o r)) → IsUsable slots u hop slot
+    shared : (o : Bool) (r : Option Record) → slots.has_owner hop.unit slot ≡ o → slots.held hop.unit slot ≡ r → IsTrue (is_usable_slot hop.port page (shared_slot o r)) → IsUsable slots u hop slot
     shared o None e f g = absurd (false≢true g)
     shared true (Some r) e f g = absurd (false≢true g)
     shared false (Some r) e f g = both (r.rights.0 == 3) refl g
@@ -68,7 +68,7 @@ is_usable slots u hop slot usable = go (slots.is_free hop.unit slot) refl usable
             let same : r ≡ slot_record u both_rights hop slot = made r.port hop.port r.page page r.rights.0 3 (eqb-true r.port hop.port w.0) (eqb-true r.page page w.1) (eqb-true r.rights.0 3 p) in
             is_shared (f ∙ ap (λ (x : Record). Some x) same) (ap not e)
 
-    go : (b : Bool) → slots.is_free hop.unit slot ≡ b → IsTrue (is_usable_slot hop.port page (if b then Free else shared_by (slots.has_owner hop.unit slot) (slots.held hop.unit slot))) → IsUsable slots u hop slot
+    go : (b : Bool) → slots.is_free hop.unit slot ≡ b → IsTrue (is_usable_slot hop.port page (if b then Free else shared_slot (slots.has_owner hop.unit slot) (slots.held hop.unit slot))) → IsUsable slots u hop slot
     go true e g = is_free e
     go false e g = shared (slots.has_owner hop.unit slot) (slots.held hop.unit slot) refl refl g
 
@@ -76,7 +76,7 @@ is_usable slots u hop slot usable = go (slots.is_free hop.unit slot) refl usable
 pub free_is : (slots : Slots) (unit slot : ℕ) → is_free_slot (slot_of slots unit slot) ≡ slots.is_free unit slot
 free_is slots unit slot = go (slots.is_free unit slot) refl
   where
-    shared : (o : Bool) (r : Option Record) → is_free_slot (shared_by o r) ≡ false
+    shared : (o : Bool) (r : Option Record) → is_free_slot (shared_slot o r) ≡ false
     shared o None = refl
     shared o (Some r) = by (not o && (r.rights.0 == 3))
       where
@@ -84,7 +84,7 @@ free_is slots unit slot = go (slots.is_free unit slot) refl
         by true = refl
         by false = refl
 
-    go : (b : Bool) → slots.is_free unit slot ≡ b → is_free_slot (if b then Free else shared_by (slots.has_owner unit slot) (slots.held unit slot)) ≡ b
+    go : (b : Bool) → slots.is_free unit slot ≡ b → is_free_slot (if b then Free else shared_slot (slots.has_owner unit slot) (slots.held unit slot)) ≡ b
     go true e = refl
     go false e = shared (slots.has_owner unit slot) (slots.held unit slot)
 

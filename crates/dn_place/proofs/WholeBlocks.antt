@@ -39,7 +39,7 @@ use Rattle.dn_view.proofs.Newly.{blocked}
 use Rattle.dn_view.proofs.Pages.{offset_is, output_of_hop, page_is, pages_ascend}
 use Rattle.dn_view.proofs.Taken.{or_is, placed_are_held}
 use Rattle.dn_view.proofs.Ways.{net_chain, step_stop, stop_step, up_resolves}
-use Rattle.dn_place.specs.Blocks.{SendsBlocks, moved}
+use Rattle.dn_place.specs.Blocks.{SendsBlocks, moved_in_block}
 use Rattle.dn_place.specs.Sought.{ReachOneStop}
 use Rattle.dn_place.proofs.Openings.{leads_on}
 
@@ -54,24 +54,24 @@ pub record KeepsWhole (net : List NodeDecl) (agent block : ℕ) : Type 0 where
 -- Blocks in pages, in numbers.
 
 -- an address of the block is its own place in it
-pub moved_self : (m a b : ℕ) → a / m ≡ b / m → moved m a b ≡ b
+pub moved_self : (m a b : ℕ) → a / m ≡ b / m → moved_in_block m a b ≡ b
 moved_self m a b e = ap (λ n. n * m + b % m) e ∙ div-add-mod' b m
 
 -- the place in a block stays
-pub moved_rest : (m a b : ℕ) → 0 < m → moved m a b % m ≡ b % m
+pub moved_rest : (m a b : ℕ) → 0 < m → moved_in_block m a b % m ≡ b % m
 moved_rest m a b pos = mod-mul-add (a / m) m (b % m) (mod-lt b pos)
 
-pub moved_block : (m a b : ℕ) → 0 < m → moved m a b / m ≡ a / m
+pub moved_block : (m a b : ℕ) → 0 < m → moved_in_block m a b / m ≡ a / m
 moved_block m a b pos = div-mul-add (a / m) m (b % m) (mod-lt b pos)
 
-moved_twice : (m a c b : ℕ) → 0 < m → moved m a (moved m c b) ≡ moved m a b
+moved_twice : (m a c b : ℕ) → 0 < m → moved_in_block m a (moved_in_block m c b) ≡ moved_in_block m a b
 moved_twice m a c b pos = ap (λ n. a / m * m + n) (moved_rest m c b pos)
 
 -- an address in a page of whole blocks: its block, and the address moved in it
 record InBlocks (m w x b : ℕ) : Type 0 where
   block : x / m * m ≡ x / w * w + x % w / m * m
-  page : moved m x b / w ≡ x / w
-  rest : moved m x b % w ≡ x % w / m * m + b % m
+  page : moved_in_block m x b / w ≡ x / w
+  rest : moved_in_block m x b % w ≡ x % w / m * m + b % m
 
 in_blocks : (m k w x b : ℕ) → 0 < m → 0 < w → w ≡ m * k → InBlocks m w x b
 in_blocks m k w x b posm posw is =
@@ -92,13 +92,13 @@ in_blocks m k w x b posm posw is =
     let sum : (q * k + t / m) * m ≡ q * k * m + t / m * m = add-mul (q * k) (t / m) m in
     let at : x / m ≡ q * k + t / m = page_is m x (q * k + t / m) posm (omega (arith, whole, inner, pages, sum)) (omega (arith, whole, inner, least, pages, sum)) in
     let block : x / m * m ≡ q * w + t / m * m = ap (λ n. n * m) at ∙ sum ∙ ap (λ n. n + t / m * m) (sym pages) in
-    let from : q * w ≤ moved m x b = omega (arith, block) in
-    let to : moved m x b < q * w + w = omega (arith, block, fits) in
-    let rest : moved m x b % w ≡ moved m x b - q * w = offset_is w (moved m x b) q posw from to in
-    record { block = block; page = page_is w (moved m x b) q posw from to; rest = omega (arith, rest, block) }
+    let from : q * w ≤ moved_in_block m x b = omega (arith, block) in
+    let to : moved_in_block m x b < q * w + w = omega (arith, block, fits) in
+    let rest : moved_in_block m x b % w ≡ moved_in_block m x b - q * w = offset_is w (moved_in_block m x b) q posw from to in
+    record { block = block; page = page_is w (moved_in_block m x b) q posw from to; rest = omega (arith, rest, block) }
 
 -- an address that is moved in its block goes to the page of another as the other is moved
-out_moved : (m k w page x b : ℕ) → 0 < m → 0 < w → w ≡ m * k → page * w + moved m x b % w ≡ moved m (page * w + x % w) b
+out_moved : (m k w page x b : ℕ) → 0 < m → 0 < w → w ≡ m * k → page * w + moved_in_block m x b % w ≡ moved_in_block m (page * w + x % w) b
 out_moved m k w page x b posm posw is =
     let i = (in_blocks m k w x b posm posw is).rest in
     let small : x % w < w = mod-lt x posw in
@@ -261,24 +261,24 @@ module _ (net : List NodeDecl) (legal : IsLegalNet net) (one : ReachOneStop net)
   posm = pow_pos block
 
   -- the stop of an address that is moved in its block is the hop's input, moved likewise
-  moved_stop : (node addr b i : ℕ) (hop : Hop) → SendsBlocks net (2 ^ block) node → (addr + i) / 2 ^ block ≡ b / 2 ^ block → StopsAt net (name_on node addr i) (name_on hop.unit hop.x i) → StopsAt net (record { node = node; addr = b }) (record { node = hop.unit; addr = moved (2 ^ block) (hop.x + i) b })
+  moved_stop : (node addr b i : ℕ) (hop : Hop) → SendsBlocks net (2 ^ block) node → (addr + i) / 2 ^ block ≡ b / 2 ^ block → StopsAt net (name_on node addr i) (name_on hop.unit hop.x i) → StopsAt net (record { node = node; addr = b }) (record { node = hop.unit; addr = moved_in_block (2 ^ block) (hop.x + i) b })
   moved_stop node addr b i hop sends e st = sends (addr + i) b (record { node = hop.unit; base = hop.x + i }) e st
 
   -- the slot of the input is that of the input as it is moved
-  moved_slot : (unit : ℕ) (u : UnitPart) (x b : ℕ) → unit_at net unit ≡ Some u → moved (2 ^ block) x b / 2 ^ u.page ≡ x / 2 ^ u.page
+  moved_slot : (unit : ℕ) (u : UnitPart) (x b : ℕ) → unit_at net unit ≡ Some u → moved_in_block (2 ^ block) x b / 2 ^ u.page ≡ x / 2 ^ u.page
   moved_slot unit u x b e = (in_blocks (2 ^ block) (2 ^ (u.page - block)) (2 ^ u.page) x b posm (pow_pos u.page) (page_of_blocks block u.page (blocks.pages unit u e))).page
 
   -- its record sends it to the hop's output, moved likewise
-  moved_output : (hop : Hop) (u : UnitPart) (i b : ℕ) → unit_at net hop.unit ≡ Some u → hop.x % 2 ^ u.page ≡ hop.y % 2 ^ u.page → (hop.y / 2 ^ u.page + ((hop.x + i) / 2 ^ u.page - hop.x / 2 ^ u.page)) * 2 ^ u.page + moved (2 ^ block) (hop.x + i) b % 2 ^ u.page ≡ moved (2 ^ block) (hop.y + i) b
+  moved_output : (hop : Hop) (u : UnitPart) (i b : ℕ) → unit_at net hop.unit ≡ Some u → hop.x % 2 ^ u.page ≡ hop.y % 2 ^ u.page → (hop.y / 2 ^ u.page + ((hop.x + i) / 2 ^ u.page - hop.x / 2 ^ u.page)) * 2 ^ u.page + moved_in_block (2 ^ block) (hop.x + i) b % 2 ^ u.page ≡ moved_in_block (2 ^ block) (hop.y + i) b
   moved_output hop u i b e agree =
       out_moved (2 ^ block) (2 ^ (u.page - block)) (2 ^ u.page) (hop.y / 2 ^ u.page + ((hop.x + i) / 2 ^ u.page - hop.x / 2 ^ u.page)) (hop.x + i) b posm (pow_pos u.page) (page_of_blocks block u.page (blocks.pages hop.unit u e))
-      ∙ ap (λ n. moved (2 ^ block) n b) (output_of_hop (2 ^ u.page) hop.x hop.y i (pow_pos u.page) agree)
+      ∙ ap (λ n. moved_in_block (2 ^ block) n b) (output_of_hop (2 ^ u.page) hop.x hop.y i (pow_pos u.page) agree)
 
-  moved_passes : (h : Held) (hop : Hop) (u : UnitPart) (node i b : ℕ) (r : Rights) → unit_at net hop.unit ≡ Some u → slice_get u.ports hop.port ≡ Some node → hop.x % 2 ^ u.page ≡ hop.y % 2 ^ u.page → h hop.unit ((hop.x + i) / 2 ^ u.page) ≡ Some (slot_record u r hop ((hop.x + i) / 2 ^ u.page)) → Member (record { node = node; addr = moved (2 ^ block) (hop.y + i) b }) (outputs net h (record { node = hop.unit; addr = moved (2 ^ block) (hop.x + i) b }))
+  moved_passes : (h : Held) (hop : Hop) (u : UnitPart) (node i b : ℕ) (r : Rights) → unit_at net hop.unit ≡ Some u → slice_get u.ports hop.port ≡ Some node → hop.x % 2 ^ u.page ≡ hop.y % 2 ^ u.page → h hop.unit ((hop.x + i) / 2 ^ u.page) ≡ Some (slot_record u r hop ((hop.x + i) / 2 ^ u.page)) → Member (record { node = node; addr = moved_in_block (2 ^ block) (hop.y + i) b }) (outputs net h (record { node = hop.unit; addr = moved_in_block (2 ^ block) (hop.x + i) b }))
   moved_passes h hop u node i b r e port agree holds =
       let q : ℕ = (hop.x + i) / 2 ^ u.page in
-      let x : ℕ = moved (2 ^ block) (hop.x + i) b in
-      let y : ℕ = moved (2 ^ block) (hop.y + i) b in
+      let x : ℕ = moved_in_block (2 ^ block) (hop.x + i) b in
+      let y : ℕ = moved_in_block (2 ^ block) (hop.y + i) b in
       let out : ℕ = (hop.y / 2 ^ u.page + (q - hop.x / 2 ^ u.page)) * 2 ^ u.page + x % 2 ^ u.page in
       let at : out ≡ y = moved_output hop u i b e agree in
       let held : h hop.unit (x / 2 ^ u.page) ≡ Some (slot_record u r hop q) = ap (h hop.unit) (moved_slot hop.unit u (hop.x + i) b e) ∙ holds in
@@ -298,14 +298,14 @@ module _ (net : List NodeDecl) (legal : IsLegalNet net) (one : ReachOneStop net)
   Hold h (hop ∷ hops) i = ((u : UnitPart) → unit_at net hop.unit ≡ Some u → (r : Rights) × (h hop.unit ((hop.x + i) / 2 ^ u.page) ≡ Some (slot_record u r hop ((hop.x + i) / 2 ^ u.page)))) × Hold h hops i
 
   -- where a hop has its record, what its output leads to is led to from each address that enters it
-  led : (h : Held) (hop : Hop) (hops : List Hop) (j : Joins net slots rq hop hops) (node b i : ℕ) (r : Rights) (k : ℕ) (end : Name) → (st : StopsAt net (record { node = node; addr = b }) (record { node = hop.unit; addr = moved (2 ^ block) (hop.x + i) b })) → h hop.unit ((hop.x + i) / 2 ^ j.unit.page) ≡ Some (slot_record j.unit r hop ((hop.x + i) / 2 ^ j.unit.page)) → IsChain (StepUnder net h) k (record { node = j.fits.node; addr = moved (2 ^ block) (hop.y + i) b }) end → IsChain (StepUnder net h) (st.1.0 + suc k) (record { node = node; addr = b }) end
+  led : (h : Held) (hop : Hop) (hops : List Hop) (j : Joins net slots rq hop hops) (node b i : ℕ) (r : Rights) (k : ℕ) (end : Name) → (st : StopsAt net (record { node = node; addr = b }) (record { node = hop.unit; addr = moved_in_block (2 ^ block) (hop.x + i) b })) → h hop.unit ((hop.x + i) / 2 ^ j.unit.page) ≡ Some (slot_record j.unit r hop ((hop.x + i) / 2 ^ j.unit.page)) → IsChain (StepUnder net h) k (record { node = j.fits.node; addr = moved_in_block (2 ^ block) (hop.y + i) b }) end → IsChain (StepUnder net h) (st.1.0 + suc k) (record { node = node; addr = b }) end
   led h hop hops j node b i r k end st held later = chain_join (StepUnder net h) st.1.0 (suc k) (record { node = node; addr = b }) s end (net_chain net legal h st.1.0 (record { node = node; addr = b }) s st.1.2) (t, stop_step net legal h s t st.0 passed, later)
     where
       s : Name
-      s = record { node = hop.unit; addr = moved (2 ^ block) (hop.x + i) b }
+      s = record { node = hop.unit; addr = moved_in_block (2 ^ block) (hop.x + i) b }
 
       t : Name
-      t = record { node = j.fits.node; addr = moved (2 ^ block) (hop.y + i) b }
+      t = record { node = j.fits.node; addr = moved_in_block (2 ^ block) (hop.y + i) b }
 
       passed : Member t (outputs net h s)
       passed = moved_passes h hop j.unit j.fits.node i b r j.is_unit j.fits.is_port j.fits.agree held
@@ -315,7 +315,7 @@ module _ (net : List NodeDecl) (legal : IsLegalNet net) (one : ReachOneStop net)
     to : ℕ
     steps : ℕ
     chain : IsChain (StepUnder net h) steps (record { node = node; addr = b }) (record { node = n; addr = to })
-    place : to ≡ moved (2 ^ block) (y + i) b
+    place : to ≡ moved_in_block (2 ^ block) (y + i) b
     exact : (j : ℕ) → j < rq.size → b ≡ addr + j → to ≡ y + j
 
   walk : (h : Held) (hops : List Hop) (l : Leads net slots rq hops) (node addr b i : ℕ) → i < rq.size → (addr + i) / 2 ^ block ≡ b / 2 ^ block → Meets net rq node addr hops → SendsBlocks net (2 ^ block) node → Hold h hops i → IsWalk h node addr b i (last_node net slots rq hops l node) (last_addr hops addr)
@@ -326,29 +326,29 @@ module _ (net : List NodeDecl) (legal : IsLegalNet net) (one : ReachOneStop net)
     place = sym (moved_self (2 ^ block) (addr + i) b e);
     exact = λ j lt is. is;
   }
-  walk h (hop ∷ hops) l node addr b i few e meets sends holds = on (walk h hops l.1 l.0.fits.node hop.y (moved (2 ^ block) (hop.y + i) b) i few (sym (moved_block (2 ^ block) (hop.y + i) b posm)) l.0.meets (blocks.ports hop.unit hop.port l.0.fits.node l.0.unit l.0.is_unit l.0.fits.is_port) holds.1)
+  walk h (hop ∷ hops) l node addr b i few e meets sends holds = on (walk h hops l.1 l.0.fits.node hop.y (moved_in_block (2 ^ block) (hop.y + i) b) i few (sym (moved_block (2 ^ block) (hop.y + i) b posm)) l.0.meets (blocks.ports hop.unit hop.port l.0.fits.node l.0.unit l.0.is_unit l.0.fits.is_port) holds.1)
     where
       j : Joins net slots rq hop hops
       j = l.0
 
-      st : StopsAt net (record { node = node; addr = b }) (record { node = hop.unit; addr = moved (2 ^ block) (hop.x + i) b })
+      st : StopsAt net (record { node = node; addr = b }) (record { node = hop.unit; addr = moved_in_block (2 ^ block) (hop.x + i) b })
       st = moved_stop node addr b i hop sends e (meets i few)
 
       held : (r : Rights) × (h hop.unit ((hop.x + i) / 2 ^ j.unit.page) ≡ Some (slot_record j.unit r hop ((hop.x + i) / 2 ^ j.unit.page)))
       held = holds.0 j.unit j.is_unit
 
-      output_is : (k : ℕ) → k < rq.size → b ≡ addr + k → moved (2 ^ block) (hop.y + i) b ≡ hop.y + k
+      output_is : (k : ℕ) → k < rq.size → b ≡ addr + k → moved_in_block (2 ^ block) (hop.y + i) b ≡ hop.y + k
       output_is k lt is =
           let w : ℕ = 2 ^ j.unit.page in
           let other : StopsAt net (record { node = node; addr = b }) (name_on hop.unit hop.x k) = subst (λ n. StopsAt net (record { node = node; addr = n }) (name_on hop.unit hop.x k)) (sym is) (meets k lt) in
-          let same : moved (2 ^ block) (hop.x + i) b ≡ hop.x + k = ap (λ (n : Name). n.addr) (one (record { node = node; addr = b }) (record { node = hop.unit; addr = moved (2 ^ block) (hop.x + i) b }) (name_on hop.unit hop.x k) st other) in
+          let same : moved_in_block (2 ^ block) (hop.x + i) b ≡ hop.x + k = ap (λ (n : Name). n.addr) (one (record { node = node; addr = b }) (record { node = hop.unit; addr = moved_in_block (2 ^ block) (hop.x + i) b }) (name_on hop.unit hop.x k) st other) in
           let slot : (hop.x + k) / 2 ^ j.unit.page ≡ (hop.x + i) / 2 ^ j.unit.page = ap (λ n. n / 2 ^ j.unit.page) (sym same) ∙ moved_slot hop.unit j.unit (hop.x + i) b j.is_unit in
           sym (moved_output hop j.unit i b j.is_unit j.fits.agree)
           ∙ ap (λ n. (hop.y / 2 ^ j.unit.page + ((hop.x + i) / 2 ^ j.unit.page - hop.x / 2 ^ j.unit.page)) * 2 ^ j.unit.page + n % 2 ^ j.unit.page) same
           ∙ ap (λ n. (hop.y / 2 ^ j.unit.page + (n - hop.x / 2 ^ j.unit.page)) * 2 ^ j.unit.page + (hop.x + k) % 2 ^ j.unit.page) (sym slot)
           ∙ output_of_hop (2 ^ j.unit.page) hop.x hop.y k (pow_pos j.unit.page) j.fits.agree
 
-      on : IsWalk h j.fits.node hop.y (moved (2 ^ block) (hop.y + i) b) i (last_node net slots rq hops l.1 j.fits.node) (last_addr hops hop.y) → IsWalk h node addr b i (last_node net slots rq hops l.1 j.fits.node) (last_addr hops hop.y)
+      on : IsWalk h j.fits.node hop.y (moved_in_block (2 ^ block) (hop.y + i) b) i (last_node net slots rq hops l.1 j.fits.node) (last_addr hops hop.y) → IsWalk h node addr b i (last_node net slots rq hops l.1 j.fits.node) (last_addr hops hop.y)
       on later = record {
         to = later.to;
         steps = st.1.0 + suc later.steps;
@@ -367,7 +367,7 @@ module _ (net : List NodeDecl) (legal : IsLegalNet net) (one : ReachOneStop net)
     chain : IsChain (StepUnder net h) steps x end
     none : (w : Name) → StepUnder net h end w → ⊥
 
-  shut_here : (h : Held) (x : Name) (hop : Hop) (u : UnitPart) (i b : ℕ) → StopsAt net x (record { node = hop.unit; addr = moved (2 ^ block) (hop.x + i) b }) → unit_at net hop.unit ≡ Some u → h hop.unit ((hop.x + i) / 2 ^ u.page) ≡ None → IsShut h x
+  shut_here : (h : Held) (x : Name) (hop : Hop) (u : UnitPart) (i b : ℕ) → StopsAt net x (record { node = hop.unit; addr = moved_in_block (2 ^ block) (hop.x + i) b }) → unit_at net hop.unit ≡ Some u → h hop.unit ((hop.x + i) / 2 ^ u.page) ≡ None → IsShut h x
   shut_here h x hop u i b st e none = record {
     end = s;
     stop = st.0;
@@ -379,7 +379,7 @@ module _ (net : List NodeDecl) (legal : IsLegalNet net) (one : ReachOneStop net)
   }
     where
       s : Name
-      s = record { node = hop.unit; addr = moved (2 ^ block) (hop.x + i) b }
+      s = record { node = hop.unit; addr = moved_in_block (2 ^ block) (hop.x + i) b }
 
   module _ (access : Access) (empty : (node slot : ℕ) → IsTrue (slots.is_free node slot) → slots.held node slot ≡ None) where
     abbrev old : Held
@@ -395,15 +395,15 @@ module _ (net : List NodeDecl) (legal : IsLegalNet net) (one : ReachOneStop net)
         shut_here old (record { node = node; addr = b }) g j.unit i b (moved_stop node addr b i g sends e (meets i few)) j.is_unit (ap (record_allowing access) (empty g.unit ((g.x + i) / 2 ^ j.unit.page) (fr j.unit j.is_unit ((g.x + i) / 2 ^ j.unit.page) q.0 q.1)))
     shut (g ∷ hops) (suc own) hop at free l node addr b i few e meets sends =
         let q = in_hop g l.0.unit i few in
-        by (l.0.usable ((g.x + i) / 2 ^ l.0.unit.page) q.0 q.1) (shut hops own hop at free l.1 l.0.fits.node g.y (moved (2 ^ block) (g.y + i) b) i few (sym (moved_block (2 ^ block) (g.y + i) b posm)) l.0.meets (blocks.ports g.unit g.port l.0.fits.node l.0.unit l.0.is_unit l.0.fits.is_port))
+        by (l.0.usable ((g.x + i) / 2 ^ l.0.unit.page) q.0 q.1) (shut hops own hop at free l.1 l.0.fits.node g.y (moved_in_block (2 ^ block) (g.y + i) b) i few (sym (moved_block (2 ^ block) (g.y + i) b posm)) l.0.meets (blocks.ports g.unit g.port l.0.fits.node l.0.unit l.0.is_unit l.0.fits.is_port))
       where
         j : Joins net slots rq g hops
         j = l.0
 
-        st : StopsAt net (record { node = node; addr = b }) (record { node = g.unit; addr = moved (2 ^ block) (g.x + i) b })
+        st : StopsAt net (record { node = node; addr = b }) (record { node = g.unit; addr = moved_in_block (2 ^ block) (g.x + i) b })
         st = moved_stop node addr b i g sends e (meets i few)
 
-        by : IsUsable slots j.unit g ((g.x + i) / 2 ^ j.unit.page) → IsShut old (record { node = j.fits.node; addr = moved (2 ^ block) (g.y + i) b }) → IsShut old (record { node = node; addr = b })
+        by : IsUsable slots j.unit g ((g.x + i) / 2 ^ j.unit.page) → IsShut old (record { node = j.fits.node; addr = moved_in_block (2 ^ block) (g.y + i) b }) → IsShut old (record { node = node; addr = b })
         by (is_free f) later = shut_here old (record { node = node; addr = b }) g j.unit i b st j.is_unit (ap (record_allowing access) (empty g.unit ((g.x + i) / 2 ^ j.unit.page) f))
         by (is_shared holds unowned) later =
             let q : ℕ = (g.x + i) / 2 ^ j.unit.page in
@@ -594,7 +594,7 @@ module _ (net : List NodeDecl) (legal : IsLegalNet net) (one : ReachOneStop net)
     whole_blocks a i z few e beside r = by ((gives access x z agent).0 resolved)
       where
         b : ℕ
-        b = moved (2 ^ block) (p.v + i) a
+        b = moved_in_block (2 ^ block) (p.v + i) a
 
         x : Name
         x = record { node = rq.agent; addr = b }

@@ -10,14 +10,14 @@ use Rattle.dn_flat.specs.Views.{ResolvesFrom, StopsFrom}
 
 -- in the block of the first address the one that has the place of the second in its own: blocks have so
 -- many addresses
-abbrev pub moved : ℕ → ℕ → ℕ → ℕ
-moved m a b = a / m * m + b % m
+abbrev pub moved_in_block : ℕ → ℕ → ℕ → ℕ
+moved_in_block m a b = a / m * m + b % m
 
 -- where an address of a node has a stop, each address of its block has a stop in the block of that stop,
 -- in its own place
 abbrev pub SendsBlocks : List NodeDecl → ℕ → ℕ → Type 0
 SendsBlocks net m node = (a b : ℕ) (z : End) → a / m ≡ b / m → StopsFrom net node a z →
-    StopsFrom net node b (record { node = z.node; base = moved m z.base b })
+    StopsFrom net node b (record { node = z.node; base = moved_in_block m z.base b })
 
 -- blocks of 2 to this power addresses are kept whole by the stops of each node, and no page of a unit is
 -- smaller

@@ -119,7 +119,7 @@ abbrev pub hops_left : List ℕ → HopCursor → ℕ
 hops_left units c = ((length units - c.begun) * 2 ^ 64 + (length c.exits.items - c.at)) * 2 ^ 61 + inputs_left c.inputs
 
 -- The cursor has gone on without giving a hop: what was to come is to come yet, and less is left.
-pub record GoesOn (s : Sought) (count : ℕ) (nearer : List Hop) (units : List ℕ) (old new : HopCursor) : Type 0 where
+pub record GoesOnWithoutHop (s : Sought) (count : ℕ) (nearer : List Hop) (units : List ℕ) (old new : HopCursor) : Type 0 where
   pub cursor : IsCursor s count nearer units new
   pub keeps : (q : Place) → IsToCome s count nearer units old q → IsToCome s count nearer units new q
   pub fewer : hops_left units new < hops_left units old
@@ -134,7 +134,7 @@ pub record LeavesInputs (s : Sought) (count : ℕ) (nearer : List Hop) (units : 
 
 -- The cursor has given a hop, which can come next: each placement that was to come has this hop, or is to come yet and
 -- stands after those that have it.
-pub record Gives (s : Sought) (count : ℕ) (nearer : List Hop) (units : List ℕ) (old new : HopCursor) (hop : Hop)
+pub record GivesHop (s : Sought) (count : ℕ) (nearer : List Hop) (units : List ℕ) (old new : HopCursor) (hop : Hop)
     : Type 0 where
   pub cursor : IsCursor s count nearer units new
   pub chosen : IsChosen s count (hop ∷ nearer)

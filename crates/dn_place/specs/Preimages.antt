@@ -39,7 +39,7 @@ LeadsAlone net agent unit x size v = (i : ℕ) (z : End) → i < size →
 
 -- The row, of names of a unit, gives one address to each of its names, and has so many names from one on. The way has the
 -- addresses of the row, and its `v` is the one of the first of these names.
-pub record IsTurned (r : Row) (x size : ℕ) (way : Way) : Type 0 where
+pub record IsWayBack (r : Row) (x size : ℕ) (way : Way) : Type 0 where
   pub node : ℕ
   pub ends : r.ends ≡ record { node = node; base = way.first } ∷ []
   pub last : way.last ≡ way.first + (r.span.hi - r.span.lo)

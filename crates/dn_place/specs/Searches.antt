@@ -12,7 +12,7 @@ use Rattle.dn_place.specs.declared.cursor.HopCursor.{HopCursor}
 use Rattle.dn_place.specs.declared.hops.Hops.{Hops}
 use Rattle.dn_place.specs.declared.search.Search.{Search}
 use Rattle.dn_place.specs.Blocks.{HasBlocks}
-use Rattle.dn_place.specs.Cursors.{Gives, GoesOn, IsCursor, IsToCome, LeavesInputs}
+use Rattle.dn_place.specs.Cursors.{GivesHop, GoesOnWithoutHop, IsCursor, IsToCome, LeavesInputs}
 use Rattle.dn_place.specs.Hops.{hops_view}
 use Rattle.dn_place.specs.KeptNames.{AreKeptNames}
 use Rattle.dn_place.specs.Reaches.{IsHopReach}
@@ -52,13 +52,13 @@ NoneToCome means s nearer c =
 abbrev pub HandsOut : {K : Type 0} {V : K → Type 0} → ((k : K) × V k → Meaning) → Search K V → Hops → HopCursor →
     HopCursor → Hop → Type 0
 HandsOut means s nearer old new hop =
-    Gives (sought means s) s.count (hops_view nearer) s.reach.now.units.items old new hop
+    GivesHop (sought means s) s.count (hops_view nearer) s.reach.now.units.items old new hop
 
 -- the cursor has gone on without giving one
 abbrev pub Advances : {K : Type 0} {V : K → Type 0} → ((k : K) × V k → Meaning) → Search K V → Hops → HopCursor →
     HopCursor → Type 0
 Advances means s nearer old new =
-    GoesOn (sought means s) s.count (hops_view nearer) s.reach.now.units.items old new
+    GoesOnWithoutHop (sought means s) s.count (hops_view nearer) s.reach.now.units.items old new
 
 -- the cursor has gone through the inputs at hand
 abbrev pub EndsInputs : {K : Type 0} {V : K → Type 0} → ((k : K) × V k → Meaning) → Search K V → Hops → HopCursor →

@@ -15,15 +15,15 @@ use Rattle.dn_place.specs.declared.slot_state.SlotState.TheVariants.{Free, Share
 use Rattle.dn_place.specs.Sought.{IsSeenStop, Sought}
 
 -- a slot that is not free: its record may be shared where it has both rights and the slot no owner
-abbrev pub shared_by : Bool → Option Record → SlotState
-shared_by owned None = Barred
-shared_by owned (Some r) = if not owned && (r.rights.0 == both_rights.0) then Shared r else Barred
+abbrev pub shared_slot : Bool → Option Record → SlotState
+shared_slot owned None = Barred
+shared_slot owned (Some r) = if not owned && (r.rights.0 == both_rights.0) then Shared r else Barred
 
 -- what a hop meets in a slot
 abbrev pub slot_of : Slots → ℕ → ℕ → SlotState
 slot_of slots unit slot =
     if slots.is_free unit slot then Free
-    else shared_by (slots.has_owner unit slot) (slots.held unit slot)
+    else shared_slot (slots.has_owner unit slot) (slots.held unit slot)
 
 -- the slot is free
 abbrev pub is_free_slot : SlotState → Bool

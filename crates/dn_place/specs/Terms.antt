@@ -6,11 +6,11 @@ pub use Rattle.dn_place.specs.Exits.{AreExits, AreExitsTo, AreOutputs, IsAloneBe
 pub use Rattle.dn_place.specs.Hops.{hops_view}
 pub use Rattle.dn_place.specs.KeptNames.{AreKeptNames, IsNamed}
 pub use Rattle.dn_place.specs.Marks.{AreMarked, AreUnitsFrom, IsEntry, Keeps, MarkedBefore, Marks, MarksAfter, MarksAll, MarksListed, is_marked, mark_at}
-pub use Rattle.dn_place.specs.Preimages.{ArePreimages, IsPreimage, IsTurned, IsWayTo, LeadsAlone}
+pub use Rattle.dn_place.specs.Preimages.{ArePreimages, IsPreimage, IsWayBack, IsWayTo, LeadsAlone}
 pub use Rattle.dn_place.specs.Reaches.{IsHopReach}
 pub use Rattle.dn_place.specs.Requests.{IsRequest}
 pub use Rattle.dn_place.specs.Rows.{AreToward, GivesNone, GivesStops, InRow, IsClear, is_past, wanted_name}
 pub use Rattle.dn_place.specs.Searches.{Advances, EndsInputs, HandsOut, IsSearch, NoneToCome, StandsAt, sought}
-pub use Rattle.dn_place.specs.Slots.{AreBarred, AreFree, AreFreeTo, AreShut, AreUsable, AreUseless, HasCrowd, HasSeenStop, IsBarred, IsNextTry, IsSlotRun, IsWithin, MayTry, is_barred_slot, is_free_slot, is_usable_slot, shared_by, slot_of}
+pub use Rattle.dn_place.specs.Slots.{AreBarred, AreFree, AreFreeTo, AreShut, AreUsable, AreUseless, HasCrowd, HasSeenStop, IsBarred, IsNextTry, IsSlotRun, IsWithin, MayTry, is_barred_slot, is_free_slot, is_usable_slot, shared_slot, slot_of}
 pub use Rattle.dn_place.specs.Sought.{HaveUnitBounds, HasUnitBounds, IsSearchReady, ReachOneStop, no_slots, slot_count}
 pub use Rattle.dn_place.specs.Targets.{is_target_at, refused_address}

@@ -44,8 +44,9 @@ pub fn first_in_book(
     first_in_book_from(alloc, book, system, request, &reach)
 }
 
-/// The same, where it is told where the hops of the request's agent can stand, at the address that is
-/// asked for with these.
+/// The first admissible placement of a request beside the grants of a book, by marks that say where the hops
+/// of the request's agent can stand and which address is asked for. They serve all requests of an agent.
+/// `None` exactly where no placement is admissible. `Err` is want of memory.
 pub fn first_in_book_from(
     alloc: Global,
     book: &Book,

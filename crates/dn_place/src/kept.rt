@@ -77,7 +77,7 @@ fn words_in_use(system: System, tables: &TableSet, unit: u16) -> u64
 {
     match unit_in(system, unit) {
         Some(translator) => {
-            let words = tables.words(unit).zeros_from() as u64;
+            let words = tables.words(unit).made() as u64;
             words.min(u64::from(translator.slots))
         }
         None => 0,

@@ -1,8 +1,18 @@
 //! The search for the first admissible placement of a request.
 //!
-//! [`first`](mod@first) looks for it under a set of tables, and [`booked`] beside the grants of a book;
-//! [`reach`] is what the requests of an agent share. [`accepted`] tells whether a buffer may be asked for,
-//! and [`exits`] by which outputs of a unit it is given.
+//! ```text
+//! let found = first::first(alloc, system, &tables, &request, None)?;
+//! match found {
+//!     Some(placement) => ..,      // no admissible placement comes before it
+//!     None => ..,                 // none is admissible
+//! }
+//! ```
+//!
+//! [`first`](mod@first) looks for it under a set of tables, and [`booked`] beside the grants of a
+//! book; [`reach`] is what the requests of an agent share. [`accepted`] tells whether a buffer may
+//! be asked for, and [`exits`] by which outputs of a unit it is given. Inside, three loops choose
+//! hops from the memory's end, each by a cursor that passes over hops which can serve no placement;
+//! docs/architecture.md has the way of a grant.
 #![tactic(auto)]
 
 pub mod accepted;

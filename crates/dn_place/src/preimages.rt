@@ -7,7 +7,7 @@ ghost use Rattle.dn_net.specs.declared.node.NodeDecl.{NodeDecl};
 ghost use Rattle.dn_flat.specs.Terms.{StopsFrom};
 ghost use Rattle.dn_interval.specs.declared.span.TheConstants.{TOP};
 ghost use Rattle.dn_view.specs.Terms.{IsSystem};
-ghost use Rattle.dn_place.specs.Terms.{ArePreimages, InRow, IsPreimage, IsTurned, IsWayTo, LeadsAlone};
+ghost use Rattle.dn_place.specs.Terms.{ArePreimages, InRow, IsPreimage, IsWayBack, IsWayTo, LeadsAlone};
 
 use crate::OutOfMemory;
 use dn_interval::onward::last_out;
@@ -57,7 +57,7 @@ fn way_in(row: &Row, x: u64, size: u64) -> Option<Way>
     requires some { 1 ≤ size }
     requires inside { IsTrue (in_span row.now.span x) }
     requires fit { EndsFit row.now }
-    ensures some { IfSome result (λ way. IsTurned row.now x size way) }
+    ensures some { IfSome result (λ way. IsWayBack row.now x size way) }
     ensures none { IfNone result ((t : End) → InRow row.now t size x → ⊥) }
 {
     let ends = row.ends();

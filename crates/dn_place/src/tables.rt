@@ -5,7 +5,7 @@ ghost use Rattle.dn_kind.specs.Terms.{AreKinds, Meaning, kinds_of};
 ghost use Rattle.dn_tables.specs.Terms.{FitsNet, fits_kinds, has_slot};
 ghost use Rattle.dn_placement.specs.Terms.{is_free_in, is_zero_slot, slots_of_set};
 ghost use Rattle.dn_view.specs.Terms.{IsSystem};
-ghost use Rattle.dn_place.specs.Terms.{IsBarred, IsSlotRun, shared_by, slot_of};
+ghost use Rattle.dn_place.specs.Terms.{IsBarred, IsSlotRun, shared_slot, slot_of};
 
 use crate::slot_state::SlotState;
 use crate::slots::{is_barred_slot, power};
@@ -71,7 +71,7 @@ pub(crate) fn is_barred(system: System, tables: &TableSet, name: End) -> bool
 
 /// The record of a slot that has no owner, where a hop may share it.
 fn shared_by(record: Option<Record>) -> SlotState
-    ensures { result ≡ shared_by false «record» }
+    ensures { result ≡ shared_slot false «record» }
 {
     match record {
         Some(record) => {

@@ -24,7 +24,7 @@ use Rattle.dn_scope.specs.Values.{each}
 use Rattle.dn_module.specs.Drafts.{names, parts_of_draft, node_number_of, dests_known, over_known, ports_known, refers_to_known, dest_in, entry_in, unit_by_numbers, node_in, node_of, role_of}
 use Rattle.dn_scope.specs.Numbered.{is_known}
 use Rattle.dn_print.specs.Names.{node_text}
-use Rattle.dn_print.specs.Spelled.{IsFull}
+use Rattle.dn_print.specs.Spelled.{IsFullName}
 use Rattle.dn_print.specs.Statement.{node_name}
 use Rattle.dn_print.specs.Printable.{IsPrintableEntry, IsPrintableUnit, HasPrintableUnit, IsPrintableNode, IsPrintable, PrintableIsReadBack}
 use Rattle.dn_print.proofs.Again.{given_back}
@@ -163,7 +163,7 @@ module _ (net : List NodeDecl) (differ : Differ net) where
       rw (one, more) refl
 
 -- the names of nodes that are there are full names
-name_full : (kinds : List Meaning) (net : List NodeDecl) (i : ℕ) → Each (IsPrintableNode kinds) net → i < length net → IsFull (node_text (slice_get net i))
+name_full : (kinds : List Meaning) (net : List NodeDecl) (i : ℕ) → Each (IsPrintableNode kinds) net → i < length net → IsFullName (node_text (slice_get net i))
 name_full kinds [] i h l = absurd (omega arith)
 name_full kinds (n ∷ net) zero h l = h.0.name
 name_full kinds (n ∷ net) (suc i) h l = name_full kinds net i h.1 (omega arith)
@@ -184,7 +184,7 @@ nowhere : (o : Option ℕ) → IsTrue (not (is_some o)) → o ≡ None
 nowhere None h = refl
 nowhere (Some m) h = absurd (false≢true h)
 
-module _ (kinds : List Meaning) (net : List NodeDecl) (full : (i : ℕ) → i < length net → IsFull (node_name net i)) where
+module _ (kinds : List Meaning) (net : List NodeDecl) (full : (i : ℕ) → i < length net → IsFullName (node_name net i)) where
   dests_good : (ds : List Dest) → Each (λ (d : Dest). d.addr < 2 ^ 64) ds → IsTrue (list_all (λ (d : Dest). nat_lt d.node (length net)) ds) → Each GoodDest (map (dest_named net) ds)
   dests_good [] h k = tt
   dests_good (d ∷ ds) h k =
@@ -201,11 +201,11 @@ module _ (kinds : List Meaning) (net : List NodeDecl) (full : (i : ℕ) → i < 
       let few = one.few in
       ((one.block, dests_good e.dests (each_of_all (λ (d : Dest). d.addr < 2 ^ 64) e.dests one.addresses) p.0, omega (arith, n, some), omega (arith, n, few)), entries_good es h.1 p.1)
 
-  over_good : (o : Option ℕ) → IsTrue (over_within (length net) o) → Maybe IsFull (option_map (node_name net) o)
+  over_good : (o : Option ℕ) → IsTrue (over_within (length net) o) → Maybe IsFullName (option_map (node_name net) o)
   over_good None h = tt
   over_good (Some m) h = full m (ltb-true m (length net) h)
 
-  ports_good : (ps : List ℕ) → IsTrue (list_all (λ p. nat_lt p (length net)) ps) → Each IsFull (map (node_name net) ps)
+  ports_good : (ps : List ℕ) → IsTrue (list_all (λ p. nat_lt p (length net)) ps) → Each IsFullName (map (node_name net) ps)
   ports_good [] h = tt
   ports_good (p ∷ ps) h =
       let q = and_parts (nat_lt p (length net)) (list_all (λ p. nat_lt p (length net)) ps) h in
@@ -288,7 +288,7 @@ drafted kinds net h = record {
     nodes : Each (IsPrintableNode kinds) net
     nodes = each_of_all (IsPrintableNode kinds) net h.nodes
 
-    full : (i : ℕ) → i < length net → IsFull (node_name net i)
+    full : (i : ℕ) → i < length net → IsFullName (node_name net i)
     full i l = name_full kinds net i nodes l
 
     count : 0 + length (map (node_named net) net) ≤ 1024

@@ -12,7 +12,7 @@ use Rattle.dn_module.specs.declared.draft.DraftDest.{DraftDest}
 use Rattle.dn_module.specs.declared.draft.DraftUnit.{DraftUnit}
 use Rattle.dn_module.specs.Drafts.{bare_draft, node_number_of, role_of, unit_by_numbers}
 use Rattle.dn_print.specs.Printable.{IsPrintableUnit}
-use Rattle.dn_print.proofs.Titles.{IsFull}
+use Rattle.dn_print.proofs.Titles.{IsFullName}
 
 pub each_both : {X : Type 0} (P : X → Type 0) (xs ys : List X) → Each P xs → Each P ys → Each P (xs ++ ys)
 each_both P [] ys h g = g
@@ -27,7 +27,7 @@ abbrev pub GoodBlock : Block → Type 0
 GoodBlock b = (b.lo < 2 ^ 64) × (b.hi < 2 ^ 64)
 
 abbrev pub GoodDest : DraftDest → Type 0
-GoodDest d = IsFull d.to × (d.addr < 2 ^ 64)
+GoodDest d = IsFullName d.to × (d.addr < 2 ^ 64)
 
 abbrev pub GoodEntry : DraftEntry → Type 0
 GoodEntry e = GoodBlock e.block × Each GoodDest e.dests × (1 ≤ length e.dests) × (length e.dests ≤ 8)
@@ -36,16 +36,16 @@ GoodEntry e = GoodBlock e.block × Each GoodDest e.dests × (1 ≤ length e.dest
 pub record GoodNode (d : Draft) : Type 0 where
   pub role : RoleOf
   pub roles : d.role ≡ role_of role
-  pub name : IsFull d.name
+  pub name : IsFullName d.name
   pub accepts : Each GoodBlock d.accepts
   pub entries : Each GoodEntry d.entries
-  pub over : Maybe IsFull d.over
+  pub over : Maybe IsFullName d.over
   pub no_unit : d.unit ≡ None
 
 -- the parts of a unit: a text can say them, whatever the numbers of its ports
 pub record GoodParts (kinds : List Meaning) (u : DraftUnit) : Type 0 where
   pub printable : (known : List (List ℕ)) → IsPrintableUnit kinds (unit_by_numbers known u)
-  pub ports : Each IsFull u.ports
+  pub ports : Each IsFullName u.ports
 
 -- it has 1 to 8 ports
 pub some_ports : (kinds : List Meaning) (u : DraftUnit) → GoodParts kinds u → 1 ≤ length u.ports
@@ -63,7 +63,7 @@ pub record GoodUnit (kinds : List Meaning) (d : Draft) : Type 0 where
   pub name : List ℕ
   pub unit : DraftUnit
   pub is : d ≡ unit_with line name unit
-  pub full : IsFull name
+  pub full : IsFullName name
   pub parts : GoodParts kinds unit
 
 abbrev pub GoodDraft : List Meaning → Draft → Type 0

@@ -4,7 +4,7 @@ use Rattle.std.proofs.lemmas.List.{length-map}
 use Rattle.dn_base.proofs.Lists.{Each}
 use Rattle.dn_parse.specs.Tree.{Expression, constant, variable, sum, product, minus, Expressions, no_expressions, and_expression, Part, Block, Dest, Entry, Spec, Arg, number_arg, node_arg, Declaration, node, unit, Item, declared, module_of, instance, loop, Items, no_items, and_item}
 use Rattle.dn_scope.specs.Replace.{value_for_word, without_word, Naming, as_they_stand, under, Replacement, replacement_hiding, number_or, in_expression, in_expressions, in_option, in_part, prefixed_name, in_declared, word_of_name, node_by, named_or, in_reference, in_block, in_dest, in_entry, in_spec, in_arg, in_declaration, in_item, in_items}
-use Rattle.dn_print.proofs.Titles.{IsFull}
+use Rattle.dn_print.proofs.Titles.{IsFullName}
 use Rattle.dn_print.proofs.Formed.{Maybe}
 use Rattle.dn_print.proofs.Trees.{Small, AllSmall, GoodPart, Some1, GoodName, SmallBlock, NamedDest, NamedEntry, GoodSpec, GoodDeclaration, GoodArg, GoodItem, GoodItems, some_each}
 use Rattle.dn_print.proofs.Places.{each_map}
@@ -18,7 +18,7 @@ IsSmallNumber n = n < 2 ^ 64
 
 abbrev pub GoodNaming : Naming → Type 0
 GoodNaming as_they_stand = Unit {0}
-GoodNaming (under prefix nodes) = IsFull prefix × Standing IsFull nodes
+GoodNaming (under prefix nodes) = IsFullName prefix × Standing IsFullName nodes
 
 abbrev pub GoodReplacement : Replacement → Type 0
 GoodReplacement r = Standing IsSmallNumber r.numbers × GoodNaming r.naming
@@ -82,13 +82,13 @@ prefixed_good (under prefix nodes) ps g h = (inr (g.0, refl), some_each GoodPart
 declared_kept : (r : Replacement) → GoodReplacement r → (ps : List Part) → GoodName ps → GoodName (in_declared r ps)
 declared_kept r g ps h = prefixed_good r.naming (map (in_part r.numbers) ps) g.1 (some_map GoodPart GoodPart (in_part r.numbers) ps (part_kept r.numbers g.0) h)
 
-node_good : (naming : Naming) (o : Option (List ℕ)) → GoodNaming naming → Maybe IsFull (node_by naming o)
+node_good : (naming : Naming) (o : Option (List ℕ)) → GoodNaming naming → Maybe IsFullName (node_by naming o)
 node_good as_they_stand None g = tt
 node_good as_they_stand (Some w) g = tt
 node_good (under prefix nodes) None g = tt
-node_good (under prefix nodes) (Some w) g = looked_good IsFull w nodes g.1
+node_good (under prefix nodes) (Some w) g = looked_good IsFullName w nodes g.1
 
-named_good : (o : Option (List ℕ)) (ps : List Part) → Maybe IsFull o → GoodName ps → GoodName (named_or o ps)
+named_good : (o : Option (List ℕ)) (ps : List Part) → Maybe IsFullName o → GoodName ps → GoodName (named_or o ps)
 named_good None ps g h = h
 named_good (Some text) ps g h = (inr (g, refl), tt)
 

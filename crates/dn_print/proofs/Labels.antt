@@ -7,7 +7,7 @@ use Rattle.dn_parse.specs.Tree.{constant}
 use Rattle.dn_parse.specs.Descent.{one_more, after_sign, sign_at, word_at, row_at, factor_at, next_factor_at, factors_at, term_at, next_term_at, terms_at, expr_at, index_at, part_at, next_part_at, name_at}
 use Rattle.dn_scope.specs.Values.{value, part_text, after_dots, full_name}
 use Rattle.dn_print.specs.Names.{address_text}
-use Rattle.dn_print.proofs.Titles.{Title, Label, label_by, label_text, IsSmall, IsLabel, AreLabels, IsFull}
+use Rattle.dn_print.proofs.Titles.{Title, Label, label_by, label_text, IsSmall, IsLabel, AreLabels, IsFullName}
 use Rattle.dn_print.proofs.Lexes.{word_token, number_token, sign_token, Closed, Quiet, closed_then, open_then, word_closed, decimal_closed, address_closed, bracket_open, close_open, dot_closed, as_closed}
 use Rattle.dn_print.proofs.Shown.{Shown, Row, row_none, row_cons, both_shown, first_shown}
 
@@ -114,7 +114,7 @@ more_shown line (l ∷ ls) h =
     row_cons (codes "." ++ (label_text l ++ after_dots (map label_text ls))) (sign_token line Dot) item tail lexed (dot_quiet (label_text l ++ after_dots (map label_text ls))) (next_part_read line) (dot_ends_part line)
 
 -- a full name, read as a name of its parts
-pub name_shown : (line : ℕ) (text : List ℕ) → IsFull text → Shown line text (name_at 32) NameEnd full_name text
+pub name_shown : (line : ℕ) (text : List ℕ) → IsFullName text → Shown line text (name_at 32) NameEnd full_name text
 unfolding name_at
 name_shown line text full =
     let s = first_shown (part_shown line full.first full.one) (more_shown line full.more full.all) in
@@ -133,7 +133,7 @@ unfolding part_by_shown
 first_by line w None t h = ([], refl)
 first_by line w (Some n) t h = (sign_token line OpenBracket ∷ number_token line n ∷ sign_token line CloseBracket ∷ [], refl)
 
-pub name_first : (line : ℕ) (text : List ℕ) (full : IsFull text) → (ts : List Token) × ((name_shown line text full).tokens ≡ word_token line full.first.title ∷ ts)
+pub name_first : (line : ℕ) (text : List ℕ) (full : IsFullName text) → (ts : List Token) × ((name_shown line text full).tokens ≡ word_token line full.first.title ∷ ts)
 unfolding name_shown first_shown both_shown part_shown
 name_first line text full =
     let f = first_by line full.first.title full.first.index full.one.0 full.one.1 in

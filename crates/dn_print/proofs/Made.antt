@@ -19,7 +19,7 @@ use Rattle.dn_scope.specs.Uses.{Module, Visibility, outside, within_module, Work
 use Rattle.dn_module.specs.Expand.{ExpansionState, nothing_yet, loop_of, item_rewriting, rewriting, all_rewritings, most_steps, Expansion, expansion_of}
 use Rattle.dn_module.proofs.Yields.{Yields, any, bind, given, at_yields}
 use Rattle.dn_print.specs.Statement.{kind_name, kind_text}
-use Rattle.dn_print.proofs.Titles.{Title, IsFull, full_one, full_both}
+use Rattle.dn_print.proofs.Titles.{Title, IsFullName, full_one, full_both}
 use Rattle.dn_print.proofs.Words.{IsWord, word_any}
 use Rattle.dn_print.proofs.Formed.{Maybe, GoodBlock, GoodDest, GoodEntry, GoodNode, GoodUnit, GoodDraft, each_both}
 use Rattle.dn_print.proofs.Trees.{Small, GoodPart, Some1, GoodName, SmallBlock, NamedDest, NamedEntry, GoodSpec, GoodDeclaration, GoodArg, GoodItem, GoodItems}
@@ -69,26 +69,26 @@ value_or_yields n None h g = record { it = h }
 value_or_yields n (Some e) h g = value_yields e g
 
 -- names
-part_by_yields : (w : List ℕ) (i : Option Expression) → Title w → Maybe Small i → Yields IsFull (part_by w i)
+part_by_yields : (w : List ℕ) (i : Option Expression) → Title w → Maybe Small i → Yields IsFullName (part_by w i)
 part_by_yields w None t h = record { it = full_one (record { title = w; index = None }) (t, tt) }
 part_by_yields w (Some e) t h = bind (value e) _ (value_yields e h) (λ n p. given (full_one (record { title = w; index = Some n }) (t, p)))
 
-part_yields : (p : Part) → GoodPart p → Yields IsFull (part_text p)
+part_yields : (p : Part) → GoodPart p → Yields IsFullName (part_text p)
 part_yields p (inl h) = part_by_yields p.title p.index h.0 h.1
-part_yields p (inr h) = subst (λ (i : Option Expression). Yields IsFull (part_by p.title i)) (sym h.1) (record { it = h.0 })
+part_yields p (inr h) = subst (λ (i : Option Expression). Yields IsFullName (part_by p.title i)) (sym h.1) (record { it = h.0 })
 
-dotted_full : (t : List ℕ) (ts : List (List ℕ)) → IsFull t → Each IsFull ts → IsFull (t ++ after_dots ts)
-dotted_full t [] h g = subst IsFull (sym (append-nil t)) h
+dotted_full : (t : List ℕ) (ts : List (List ℕ)) → IsFullName t → Each IsFullName ts → IsFullName (t ++ after_dots ts)
+dotted_full t [] h g = subst IsFullName (sym (append-nil t)) h
 dotted_full t (u ∷ us) h g = full_both t (u ++ after_dots us) h (dotted_full u us g.0 g.1)
 
-some_dotted : (ts : List (List ℕ)) → Some1 IsFull ts → IsFull (dotted_text ts)
+some_dotted : (ts : List (List ℕ)) → Some1 IsFullName ts → IsFullName (dotted_text ts)
 some_dotted [] h = absurd h
 some_dotted (t ∷ ts) h = dotted_full t ts h.0 h.1
 
-name_yields : (ps : List Part) → GoodName ps → Yields IsFull (full_name ps)
-name_yields ps h = bind (each part_text ps) _ (some_yields GoodPart IsFull part_text part_yields ps h) (λ ts p. given (some_dotted ts p))
+name_yields : (ps : List Part) → GoodName ps → Yields IsFullName (full_name ps)
+name_yields ps h = bind (each part_text ps) _ (some_yields GoodPart IsFullName part_text part_yields ps h) (λ ts p. given (some_dotted ts p))
 
-maybe_name_yields : (o : Option (List Part)) → Maybe GoodName o → Yields (Maybe IsFull) (full_name_or_none o)
+maybe_name_yields : (o : Option (List Part)) → Maybe GoodName o → Yields (Maybe IsFullName) (full_name_or_none o)
 maybe_name_yields None h = record { it = tt }
 maybe_name_yields (Some ps) h = bind (full_name ps) _ (name_yields ps h) (λ t p. given p)
 
@@ -130,7 +130,7 @@ within_yields limit e = bind (value e) _ (any (value e)) (λ n p. go n (nat_le n
     go n false q = record { it = tt }
 
 unit_yields : (kinds : List Meaning) (line : ℕ) (name : List Part) (kind : List ℕ) (page slots reach : Expression) (ports : List (List Part)) → GoodDeclaration (unit name kind page slots reach ports) → Yields (GoodUnit kinds) (unit_draft kinds line name kind page slots reach ports)
-unit_yields kinds line name kind page slots reach ports h = bind (full_name name) _ (name_yields name h.0) (λ t p. bind (known_kind (kind_place kinds kind)) _ (kind_yields kinds kind) (λ k q. bind (value_within 255 page) _ (within_yields 255 page) (λ a pa. bind (value_within 4294967295 slots) _ (within_yields 4294967295 slots) (λ b pb. bind (value_within 255 reach) _ (within_yields 255 reach) (λ c pc. bind (each full_name ports) _ (each_yields GoodName IsFull full_name name_yields ports h.2) (λ ts u. given (record {
+unit_yields kinds line name kind page slots reach ports h = bind (full_name name) _ (name_yields name h.0) (λ t p. bind (known_kind (kind_place kinds kind)) _ (kind_yields kinds kind) (λ k q. bind (value_within 255 page) _ (within_yields 255 page) (λ a pa. bind (value_within 4294967295 slots) _ (within_yields 4294967295 slots) (λ b pb. bind (value_within 255 reach) _ (within_yields 255 reach) (λ c pc. bind (each full_name ports) _ (each_yields GoodName IsFullName full_name name_yields ports h.2) (λ ts u. given (record {
   line = line;
   name = t;
   unit = record { kind = k; page = a; slots = b; reach = c; ports = ts };
@@ -222,7 +222,7 @@ found_good n title (m ∷ ms) h = go (bytes_eq title m.title) (found_good (suc n
 -- arguments
 abbrev GoodGiven : Given → Type 0
 GoodGiven (number n) = n < 2 ^ 64
-GoodGiven (named t) = IsFull t
+GoodGiven (named t) = IsFullName t
 
 arg_yields : (a : Arg) → GoodArg a → Yields GoodGiven (given_by a)
 arg_yields (number_arg e) h = bind (value e) _ (value_yields e h) (λ n p. given p)
@@ -232,7 +232,7 @@ number_pair_good : (w : List ℕ) (g : Given) → GoodGiven g → Standing IsSma
 number_pair_good w (number n) h = (h, tt)
 number_pair_good w (named t) h = tt
 
-node_pair_good : (w : List ℕ) (g : Given) → GoodGiven g → Standing IsFull (node_pair w g)
+node_pair_good : (w : List ℕ) (g : Given) → GoodGiven g → Standing IsFullName (node_pair w g)
 node_pair_good w (number n) h = tt
 node_pair_good w (named t) h = (h, tt)
 
@@ -241,12 +241,12 @@ numbers_good [] gs h = tt
 numbers_good (w ∷ ws) [] h = tt
 numbers_good (w ∷ ws) (g ∷ gs) h = each_both (λ (b : List ℕ × ℕ). IsSmallNumber b.1) (number_pair w g) (numbers_of ws gs) (number_pair_good w g h.0) (numbers_good ws gs h.1)
 
-nodes_good : (ws : List (List ℕ)) (gs : List Given) → Each GoodGiven gs → Standing IsFull (nodes_of ws gs)
+nodes_good : (ws : List (List ℕ)) (gs : List Given) → Each GoodGiven gs → Standing IsFullName (nodes_of ws gs)
 nodes_good [] gs h = tt
 nodes_good (w ∷ ws) [] h = tt
-nodes_good (w ∷ ws) (g ∷ gs) h = each_both (λ (b : List ℕ × List ℕ). IsFull b.1) (node_pair w g) (nodes_of ws gs) (node_pair_good w g h.0) (nodes_good ws gs h.1)
+nodes_good (w ∷ ws) (g ∷ gs) h = each_both (λ (b : List ℕ × List ℕ). IsFullName b.1) (node_pair w g) (nodes_of ws gs) (node_pair_good w g h.0) (nodes_good ws gs h.1)
 
-used_good : (m : Module) (gs : List Given) (prefix : List ℕ) → GoodModule m → Each GoodGiven gs → IsFull prefix → GoodItems (used_body m gs prefix)
+used_good : (m : Module) (gs : List Given) (prefix : List ℕ) → GoodModule m → Each GoodGiven gs → IsFullName prefix → GoodItems (used_body m gs prefix)
 used_good m gs prefix h g p = items_kept m.body (record { numbers = numbers_of (map word_of_param m.params) gs; naming = under prefix (nodes_of (map word_of_param m.params) gs) }) (numbers_good (map word_of_param m.params) gs g, (p, nodes_good (map word_of_param m.params) gs g)) h
 
 use_yields : (line : ℕ) (args : List Arg) (prefix : List Part) (o : Option (ℕ × Module)) → Each GoodArg args → GoodName prefix → Maybe GoodFound o → Yields (Each GoodWork) (use_rewriting line args prefix o)
@@ -254,7 +254,7 @@ use_yields line args prefix None h g f = record { it = tt }
 use_yields line args prefix (Some p) h g f = go (arguments_fit p.1.params args)
   where
     works : Yields (Each GoodWork) (at_line line (each given_by args) >>= λ givens. at_line line (full_name prefix) >>= λ text. Ok (statements (within_module p.0) (used_body p.1 givens text)))
-    works = bind (at_line line (each given_by args)) _ (at_yields (Each GoodGiven) line (each given_by args) (only_each GoodArg GoodGiven given_by arg_yields args h)) (λ gs u. bind (at_line line (full_name prefix)) _ (at_yields IsFull line (full_name prefix) (name_yields prefix g)) (λ t v. given (statements_good (within_module p.0) (used_body p.1 gs t) (used_good p.1 gs t f u v))))
+    works = bind (at_line line (each given_by args)) _ (at_yields (Each GoodGiven) line (each given_by args) (only_each GoodArg GoodGiven given_by arg_yields args h)) (λ gs u. bind (at_line line (full_name prefix)) _ (at_yields IsFullName line (full_name prefix) (name_yields prefix g)) (λ t v. given (statements_good (within_module p.0) (used_body p.1 gs t) (used_good p.1 gs t f u v))))
 
     go : (b : Bool) → Yields (Each GoodWork) (cond b (at_line line (each given_by args) >>= λ givens. at_line line (full_name prefix) >>= λ text. Ok (statements (within_module p.0) (used_body p.1 givens text))) (Err (has_other_arguments line)))
     go true = works

@@ -23,7 +23,7 @@ use Rattle.dn_module.specs.Drafts.{block_of, entry_of, role_of, draft_of_declara
 use Rattle.dn_print.specs.Statement.{accept_text, map_text, over_text, role_text, body_text, statement_text}
 use Rattle.dn_base.proofs.Booleans.{and_parts}
 use Rattle.dn_base.proofs.Lists.{Each}
-use Rattle.dn_print.proofs.Titles.{IsFull}
+use Rattle.dn_print.proofs.Titles.{IsFullName}
 use Rattle.dn_print.proofs.Formed.{Maybe, GoodBlock, GoodEntry, GoodNode}
 use Rattle.dn_print.proofs.Lexes.{word_token, sign_token, keyword_token, Closed, Open, Quiet, closed_then, open_then, quiet_then, quiet_none, closed_none, keyword_closed, keyword_open, keyword_between, bracket_open, behind_blank, end_open, with_both}
 use Rattle.dn_print.proofs.Shown.{Shown}
@@ -140,7 +140,7 @@ record OverShown (line : ℕ) (text : List ℕ) (o : Option (List ℕ)) : Type 0
   accepts : (rest : List Token) → SpecEnd rest → AcceptEnd (shown.tokens ++ rest)
   maps : (rest : List Token) → SpecEnd rest → MapEnd (shown.tokens ++ rest)
 
-over_shown : (net : List NodeDecl) (known : List (List ℕ)) → Named net known → (line : ℕ) (o : Option (List ℕ)) → Maybe IsFull o → IsTrue (over_known known o) → OverShown line (over_text net (option_map (node_number_of known) o)) o
+over_shown : (net : List NodeDecl) (known : List (List ℕ)) → Named net known → (line : ℕ) (o : Option (List ℕ)) → Maybe IsFullName o → IsTrue (over_known known o) → OverShown line (over_text net (option_map (node_number_of known) o)) o
 unfolding spelling
 over_shown net known named line None h k = record {
   shown = record { tokens = []; tree = None; lexed = closed_none line; read = λ rest e. no_over rest e.1; valued = refl };

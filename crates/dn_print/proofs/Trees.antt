@@ -2,7 +2,7 @@
 use Rattle.std.proofs.Common.{◌≡◌, ◌⊎◌, ◌<◌, ◌≤◌, ◌^◌, List, [], ◌∷◌, length, None}
 use Rattle.dn_base.proofs.Lists.{Each}
 use Rattle.dn_parse.specs.Tree.{Expression, constant, variable, sum, product, minus, Expressions, no_expressions, and_expression, Part, Block, Dest, Entry, Spec, Arg, number_arg, node_arg, Declaration, node, unit, Statement, declares, heads_module, uses, heads_loop, ends, begins, orders, Item, declared, module_of, instance, loop, Items, no_items, and_item}
-use Rattle.dn_print.proofs.Titles.{Title, IsFull}
+use Rattle.dn_print.proofs.Titles.{Title, IsFullName}
 use Rattle.dn_print.proofs.Words.{IsWord}
 use Rattle.dn_print.proofs.Formed.{Maybe}
 
@@ -20,7 +20,7 @@ abbrev mutual
 
 -- a word with an index or without, or a full name
 abbrev pub GoodPart : Part → Type 0
-GoodPart p = (Title p.title × Maybe Small p.index) ⊎ (IsFull p.title × (p.index ≡ None))
+GoodPart p = (Title p.title × Maybe Small p.index) ⊎ (IsFullName p.title × (p.index ≡ None))
 
 -- one or more
 abbrev pub Some1 : {X : Type 0} → (X → Type 0) → List X → Type 0

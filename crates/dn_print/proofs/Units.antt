@@ -18,7 +18,7 @@ use Rattle.dn_scope.specs.Numbered.{is_known}
 use Rattle.dn_module.specs.Drafts.{draft_of_declaration, refers_to_known, node_number_of, unit_by_numbers, node_in}
 use Rattle.dn_print.specs.Statement.{marked_texts, node_name, kind_text, ports_text, unit_text, statement_text}
 use Rattle.dn_base.proofs.Lists.{Each}
-use Rattle.dn_print.proofs.Titles.{IsFull}
+use Rattle.dn_print.proofs.Titles.{IsFullName}
 use Rattle.dn_print.proofs.Words.{IsWord, any_word}
 use Rattle.dn_print.proofs.Formed.{GoodParts, GoodDraft, few_ports, some_ports, unit_with}
 use Rattle.dn_print.proofs.Lexes.{number_token, sign_token, keyword_token, Closed, Quiet, closed_then, open_then, word_closed, decimal_closed, keyword_open, keyword_between}
@@ -31,7 +31,7 @@ use Rattle.dn_print.proofs.Nodes.{Said, node_said, end_lexed, marked_lexed}
 abbrev PortsEnd : List Token → Type 0
 PortsEnd rest = CommasEnd NameEnd rest
 
-port_shown : (net : List NodeDecl) (known : List (List ℕ)) → Named net known → (line : ℕ) (t : List ℕ) → IsFull t → IsTrue (is_known known t) → Shown line (node_name net (node_number_of known t)) (name_at 32) NameEnd full_name t
+port_shown : (net : List NodeDecl) (known : List (List ℕ)) → Named net known → (line : ℕ) (t : List ℕ) → IsFullName t → IsTrue (is_known known t) → Shown line (node_name net (node_number_of known t)) (name_at 32) NameEnd full_name t
 port_shown net known named line t h k =
     let name = name_shown line t h in
     record {
@@ -46,13 +46,13 @@ comma_ends_name : (line : ℕ) (ts : List Token) → NameEnd (sign_token line Co
 unfolding after_sign
 comma_ends_name line ts = (refl, refl)
 
-ports_shown : (net : List NodeDecl) (known : List (List ℕ)) → Named net known → (line : ℕ) (ts : List (List ℕ)) → Each IsFull ts → 1 ≤ length ts → length ts ≤ 8 → IsTrue (list_all (is_known known) ts) → Shown line (ports_text net (map (node_number_of known) ts)) ports_at PortsEnd (each full_name) ts
+ports_shown : (net : List NodeDecl) (known : List (List ℕ)) → Named net known → (line : ℕ) (ts : List (List ℕ)) → Each IsFullName ts → 1 ≤ length ts → length ts ≤ 8 → IsTrue (list_all (is_known known) ts) → Shown line (ports_text net (map (node_number_of known) ts)) ports_at PortsEnd (each full_name) ts
 unfolding ports_at next_port_at
 ports_shown net known named line [] h some few k = absurd (omega (arith, some))
 ports_shown net known named line (t ∷ ts) h some few k =
-    let all = each_passes IsFull (is_known known) (t ∷ ts) h k in
-    let one = λ (u : List ℕ) (g : IsFull u × IsTrue (is_known known u)). port_shown net known named line u g.0 g.1 in
-    most_shown 7 (omega (arith, few)) (one t all.0) (row_shown (comma_mark line (name_at 32) NameEnd (comma_ends_name line)) (λ (u : List ℕ). IsFull u × IsTrue (is_known known u)) (λ (u : List ℕ). node_name net (node_number_of known u)) (λ (us : List (List ℕ)). marked_texts (codes ", ") (node_name net) (map (node_number_of known) us)) refl (λ u us. refl) one ts all.1)
+    let all = each_passes IsFullName (is_known known) (t ∷ ts) h k in
+    let one = λ (u : List ℕ) (g : IsFullName u × IsTrue (is_known known u)). port_shown net known named line u g.0 g.1 in
+    most_shown 7 (omega (arith, few)) (one t all.0) (row_shown (comma_mark line (name_at 32) NameEnd (comma_ends_name line)) (λ (u : List ℕ). IsFullName u × IsTrue (is_known known u)) (λ (u : List ℕ). node_name net (node_number_of known u)) (λ (us : List (List ℕ)). marked_texts (codes ", ") (node_name net) (map (node_number_of known) us)) refl (λ u us. refl) one ts all.1)
 
 -- the word of a kind
 abbrev kind_token : ℕ → List ℕ → Token
@@ -133,7 +133,7 @@ line_tokens line w u name ports = name ++ parts_tokens line w u ports
 abbrev ports_said : (kinds : List Meaning) (net : List NodeDecl) (known : List (List ℕ)) → Named net known → (line : ℕ) (u : DraftUnit) → GoodParts kinds u → IsTrue (list_all (is_known known) u.ports) → Shown line (ports_text net (map (node_number_of known) u.ports)) ports_at PortsEnd (each full_name) u.ports
 ports_said kinds net known named line u h k = ports_shown net known named line u.ports h.ports (some_ports kinds u h) (few_ports kinds u h) k
 
-unit_said : (kinds : List Meaning) (net : List NodeDecl) (known : List (List ℕ)) → Named net known → (line before : ℕ) (text : List ℕ) (u : DraftUnit) → IsFull text → GoodParts kinds u → IsTrue (list_all (is_known known) u.ports) → Said kinds line (codes "unit " ++ (text ++ (unit_text (kind_text kinds u.kind) net (unit_by_numbers known u) ++ codes ";\n"))) UnitRole (Some u) (unit_with before text u)
+unit_said : (kinds : List Meaning) (net : List NodeDecl) (known : List (List ℕ)) → Named net known → (line before : ℕ) (text : List ℕ) (u : DraftUnit) → IsFullName text → GoodParts kinds u → IsTrue (list_all (is_known known) u.ports) → Said kinds line (codes "unit " ++ (text ++ (unit_text (kind_text kinds u.kind) net (unit_by_numbers known u) ++ codes ";\n"))) UnitRole (Some u) (unit_with before text u)
 unfolding spelling
 unit_said kinds net known named line before text u full h k =
     let w : List ℕ = kind_text kinds u.kind in

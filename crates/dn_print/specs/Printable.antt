@@ -13,7 +13,7 @@ use Rattle.dn_net.specs.Legal.{IsNet}
 use Rattle.dn_net.specs.Parts.{parts_of_node}
 use Rattle.dn_kind.specs.Kind.{Meaning, kind_place}
 use Rattle.dn_module.specs.Expand.{Expansion, expansion_of}
-use Rattle.dn_print.specs.Spelled.{IsAnyWord, IsFull}
+use Rattle.dn_print.specs.Spelled.{IsAnyWord, IsFullName}
 use Rattle.dn_print.specs.Statement.{kind_text, net_text}
 
 -- a block of two numbers of 64 bits
@@ -45,7 +45,7 @@ HasPrintableUnit kinds (Some u) = IsPrintableUnit kinds u
 
 -- a node with a full name that a text can spell, and with parts that it can say
 pub record IsPrintableNode (kinds : List Meaning) (n : NodeDecl) : Type 0 where
-  pub name : IsFull n.text
+  pub name : IsFullName n.text
   pub accepts : All IsPrintableBlock n.accepts
   pub entries : All IsPrintableEntry n.entries
   pub unit : HasPrintableUnit kinds n.unit

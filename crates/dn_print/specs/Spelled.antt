@@ -45,7 +45,7 @@ AreLabels [] = Unit {0}
 AreLabels (l ∷ ls) = IsLabel l × AreLabels ls
 
 -- a full name: one part or more, joined by dots
-pub record IsFull (text : List ℕ) : Type 0 where
+pub record IsFullName (text : List ℕ) : Type 0 where
   pub first : Label
   pub more : List Label
   pub one : IsLabel first

@@ -1,10 +1,14 @@
-//! The printed texts: names, rows, and a net in its one normal form.
+//! The printed texts: names, rows, an image, and a net in its one normal form.
 //!
-//! [`names::names_text`] prints names as replies show them, [`rows::rows_text`] prints rows as
-//! lines, and [`net::net_text`] prints a net as one statement for each node, in the order of their
-//! numbers. [`dump::dump_text`] prints an image. [`joined`] puts several
-//! items into one text. [`laws`] has the law that the text of a compiled
-//! net gives that net back.
+//! ```text
+//! let line = names::names_text(alloc, &net, &names)?;    // ram@0x1000, rom@0x0
+//! let text = net::net_text(alloc, on)?;                  // a statement for each node, in order
+//! ```
+//!
+//! [`names`] prints names as replies show them, [`rows`] prints rows as lines, [`net`](mod@net)
+//! prints a net, and [`dump`] an image. [`joined`] puts several items into one text. Each text is
+//! the one of its definition. [`laws`] says that the text of a net is read back as that net, and
+//! that a printed image is the text of one image alone.
 #![tactic(auto)]
 
 mod address;

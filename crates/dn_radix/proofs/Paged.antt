@@ -7,7 +7,7 @@ use Rattle.std.proofs.lemmas.List.{drop-drop, drop-take, get_or-drop, get_or-tak
 use Rattle.byteorder.specs.Numbers.{little_from-take}
 use Rattle.dn_radix.specs.declared.fault.Bad.{Bad}
 use Rattle.dn_radix.specs.Tree.{level_of, room}
-use Rattle.dn_radix.specs.Found.{AreOfPage, followed, found, word_at, word_of_page}
+use Rattle.dn_radix.specs.Found.{AreOfPage, followed, found, word_in_bytes, word_of_page}
 use Rattle.dn_radix.specs.Built.{IsTreeOf}
 use Rattle.dn_radix.proofs.Read.{same_lists, word_is}
 use Rattle.dn_radix.proofs.Reached.{zeros}
@@ -33,7 +33,7 @@ rest_in_page at size i some l =
     ap (λ n. n % (size * 512)) split ∙ mul-add-mod_self_right (at / size) (size * 512) (at % size * 512 + i) ∙ mod-eq_of_lt (omega (arith, top, l))
 
 -- one entry further, for each word of a page
-pub page_step : (image : List ℕ) (below at page size i : ℕ) → 0 < below → size ≡ room (below - 1) / 512 → i < 512 → found image below (512 * at + i) page ≡ followed (found image (below - 1) (512 * (at % size) + i)) (length image) (page + 8 * (at / size)) (word_at image (page + 8 * (at / size)))
+pub page_step : (image : List ℕ) (below at page size i : ℕ) → 0 < below → size ≡ room (below - 1) / 512 → i < 512 → found image below (512 * at + i) page ≡ followed (found image (below - 1) (512 * (at % size) + i)) (length image) (page + 8 * (at / size)) (word_in_bytes image (page + 8 * (at / size)))
 page_step image below at page size i some e l =
     let n : ℕ = 512 * at + i in
     let r = pages_below (below - 1) size e in
@@ -42,30 +42,30 @@ page_step image below at page size i some e l =
     let rest : n % room (below - 1) ≡ at % size * 512 + i = ap (λ m. n % m) (sym r.0) ∙ rest_in_page at size i r.1 l in
     let turned : at % size * 512 + i ≡ 512 * (at % size) + i = omega arith in
     found_step image below n page (room (below - 1)) some refl
-    ∙ ap (λ m. followed (found image (below - 1) (n % room (below - 1))) (length image) (page + 8 * m) (word_at image (page + 8 * m))) quotient
-    ∙ ap (λ m. followed (found image (below - 1) m) (length image) (page + 8 * (at / size)) (word_at image (page + 8 * (at / size)))) (rest ∙ turned)
+    ∙ ap (λ m. followed (found image (below - 1) (n % room (below - 1))) (length image) (page + 8 * m) (word_in_bytes image (page + 8 * m))) quotient
+    ∙ ap (λ m. followed (found image (below - 1) m) (length image) (page + 8 * (at / size)) (word_in_bytes image (page + 8 * (at / size)))) (rest ∙ turned)
 
 -- a word of bytes that were cut out of an image
-pub word_cut : (image : List ℕ) (at count i : ℕ) → i < count → word_at (take (8 * count) (drop at image)) (8 * i) ≡ word_at image (at + 8 * i)
+pub word_cut : (image : List ℕ) (at count i : ℕ) → i < count → word_in_bytes (take (8 * count) (drop at image)) (8 * i) ≡ word_in_bytes image (at + 8 * i)
 word_cut image at count i l =
     let split : 8 * count ≡ 8 * i + 8 * (count - i) = omega arith in
-    ap (λ n. word_at (take n (drop at image)) (8 * i)) split
+    ap (λ n. word_in_bytes (take n (drop at image)) (8 * i)) split
     ∙ ap (λ (bytes : List ℕ). word_of bytes) (drop-take (8 * i) (8 * (count - i)) (drop at image))
     ∙ little_from-take 0 8 (8 * (count - i)) (drop (8 * i) (drop at image)) (omega arith)
     ∙ ap (λ (bytes : List ℕ). word_of bytes) (drop-drop (8 * i) at image)
   where
     word_of : List ℕ → ℕ
-    word_of bytes = word_at bytes 0
+    word_of bytes = word_in_bytes bytes 0
 
 -- the words that were cut out
 pub words_cut : (image : List ℕ) (at count : ℕ) (ws : List ℕ) → AreOfPage image (Some at) count ws → AreOfPage (take (8 * count) (drop at image)) (Some 0) count ws
 words_cut image at count ws are = record {
   count_is = are.count_is;
-  words = λ i l. let z : 0 + 8 * i ≡ 8 * i = omega arith in ap (λ n. Ok (word_at (take (8 * count) (drop at image)) n)) z ∙ ap Ok (word_cut image at count i l) ∙ are.words i l;
+  words = λ i l. let z : 0 + 8 * i ≡ 8 * i = omega arith in ap (λ n. Ok (word_in_bytes (take (8 * count) (drop at image)) n)) z ∙ ap Ok (word_cut image at count i l) ∙ are.words i l;
 }
 
 -- the words that bytes spell
-pub words_read : (bytes read ws : List ℕ) (count : ℕ) → length read ≡ count → ((i : ℕ) → i < length read → get_or read i 0 ≡ word_at bytes (8 * i)) → AreOfPage bytes (Some 0) count ws → read ≡ ws
+pub words_read : (bytes read ws : List ℕ) (count : ℕ) → length read ≡ count → ((i : ℕ) → i < length read → get_or read i 0 ≡ word_in_bytes bytes (8 * i)) → AreOfPage bytes (Some 0) count ws → read ≡ ws
 words_read bytes read ws count long spelt are = same_lists read ws (long ∙ sym are.count_is) at
   where
     at : (i : ℕ) → i < length read → get_or read i 0 ≡ get_or ws i 0
@@ -73,7 +73,7 @@ words_read bytes read ws count long spelt are = same_lists read ws (long ∙ sym
         let here : i < count = omega (arith, long, l) in
         let a = spelt i l in
         let z : 8 * i ≡ 0 + 8 * i = omega arith in
-        let b : ◌≡◌ {A = Result ℕ ℕ} (Ok (word_at bytes (8 * i))) (Ok (get_or ws i 0)) = ap (λ n. Ok (word_at bytes n)) z ∙ are.words i here in
+        let b : ◌≡◌ {A = Result ℕ ℕ} (Ok (word_in_bytes bytes (8 * i))) (Ok (get_or ws i 0)) = ap (λ n. Ok (word_in_bytes bytes n)) z ∙ are.words i here in
         cc
 
 -- words of no page

@@ -2,7 +2,7 @@
 use Rattle.std.proofs.Common.{◌≡◌, ℕ, zero, suc, ◌+◌, ◌-◌, ◌*◌, ◌^◌, ◌<◌, ◌≤◌, Bool, true, false, List, [], ◌∷◌, ◌++◌, length, take, drop, replicate, get_or, refl, sym, ap, subst, ◌∙◌, arith, length-append, append_assoc, append-nil, if◌then◌else◌}
 use Rattle.std.proofs.Math.Nat.{min-le_left, pow-suc, one-le-pow, pow-le-pow_right}
 use Rattle.std.proofs.lemmas.List.{drop-drop, length-take, length-replicate}
-use Rattle.dn_radix.specs.Tree.{is_zero, pieces, pages_of, entries, trees, room, page_count, tree}
+use Rattle.dn_radix.specs.Tree.{are_all_zero, pieces, pages_of, entries, trees, room, page_count, tree}
 
 -- pieces
 
@@ -33,31 +33,31 @@ piece_fits size ws = let e = length-take size ws in let l = min-le_left size (le
 
 -- one piece more, by whether it is all 0
 
-pub pages_zero : (f : List ℕ → ℕ) (p : List ℕ) (ps : List (List ℕ)) → is_zero p ≡ true → pages_of f (p ∷ ps) ≡ pages_of f ps
+pub pages_zero : (f : List ℕ → ℕ) (p : List ℕ) (ps : List (List ℕ)) → are_all_zero p ≡ true → pages_of f (p ∷ ps) ≡ pages_of f ps
 pages_zero f p ps e = ap (λ b. if b then pages_of f ps else f p + pages_of f ps) e
 
-pub pages_more : (f : List ℕ → ℕ) (p : List ℕ) (ps : List (List ℕ)) → is_zero p ≡ false → pages_of f (p ∷ ps) ≡ f p + pages_of f ps
+pub pages_more : (f : List ℕ → ℕ) (p : List ℕ) (ps : List (List ℕ)) → are_all_zero p ≡ false → pages_of f (p ∷ ps) ≡ f p + pages_of f ps
 pages_more f p ps e = ap (λ b. if b then pages_of f ps else f p + pages_of f ps) e
 
-pub entries_zero : (f : List ℕ → ℕ) (at : ℕ) (p : List ℕ) (ps : List (List ℕ)) → is_zero p ≡ true → entries f at (p ∷ ps) ≡ 0 ∷ entries f at ps
+pub entries_zero : (f : List ℕ → ℕ) (at : ℕ) (p : List ℕ) (ps : List (List ℕ)) → are_all_zero p ≡ true → entries f at (p ∷ ps) ≡ 0 ∷ entries f at ps
 entries_zero f at p ps e = ap (λ b. if b then 0 ∷ entries f at ps else (4096 * at + 1) ∷ entries f (at + f p) ps) e
 
-pub entries_more : (f : List ℕ → ℕ) (at : ℕ) (p : List ℕ) (ps : List (List ℕ)) → is_zero p ≡ false → entries f at (p ∷ ps) ≡ (4096 * at + 1) ∷ entries f (at + f p) ps
+pub entries_more : (f : List ℕ → ℕ) (at : ℕ) (p : List ℕ) (ps : List (List ℕ)) → are_all_zero p ≡ false → entries f at (p ∷ ps) ≡ (4096 * at + 1) ∷ entries f (at + f p) ps
 entries_more f at p ps e = ap (λ b. if b then 0 ∷ entries f at ps else (4096 * at + 1) ∷ entries f (at + f p) ps) e
 
-pub trees_zero : (f : List ℕ → ℕ) (made : ℕ → List ℕ → List ℕ) (at : ℕ) (p : List ℕ) (ps : List (List ℕ)) → is_zero p ≡ true → trees f made at (p ∷ ps) ≡ trees f made at ps
+pub trees_zero : (f : List ℕ → ℕ) (made : ℕ → List ℕ → List ℕ) (at : ℕ) (p : List ℕ) (ps : List (List ℕ)) → are_all_zero p ≡ true → trees f made at (p ∷ ps) ≡ trees f made at ps
 trees_zero f made at p ps e = ap (λ b. if b then trees f made at ps else made at p ++ trees f made (at + f p) ps) e
 
-pub trees_more : (f : List ℕ → ℕ) (made : ℕ → List ℕ → List ℕ) (at : ℕ) (p : List ℕ) (ps : List (List ℕ)) → is_zero p ≡ false → trees f made at (p ∷ ps) ≡ made at p ++ trees f made (at + f p) ps
+pub trees_more : (f : List ℕ → ℕ) (made : ℕ → List ℕ → List ℕ) (at : ℕ) (p : List ℕ) (ps : List (List ℕ)) → are_all_zero p ≡ false → trees f made at (p ∷ ps) ≡ made at p ++ trees f made (at + f p) ps
 trees_more f made at p ps e = ap (λ b. if b then trees f made at ps else made at p ++ trees f made (at + f p) ps) e
 
 -- lengths
 
 pub length_entries : (f : List ℕ → ℕ) (at : ℕ) (ps : List (List ℕ)) → length (entries f at ps) ≡ length ps
 length_entries f at [] = refl
-length_entries f at (p ∷ ps) = by (is_zero p) refl (length_entries f at ps) (length_entries f (at + f p) ps)
+length_entries f at (p ∷ ps) = by (are_all_zero p) refl (length_entries f at ps) (length_entries f (at + f p) ps)
   where
-    by : (b : Bool) → is_zero p ≡ b → length (entries f at ps) ≡ length ps → length (entries f (at + f p) ps) ≡ length ps → length (entries f at (p ∷ ps)) ≡ suc (length ps)
+    by : (b : Bool) → are_all_zero p ≡ b → length (entries f at ps) ≡ length ps → length (entries f (at + f p) ps) ≡ length ps → length (entries f at (p ∷ ps)) ≡ suc (length ps)
     by true e x y = ap length (entries_zero f at p ps e) ∙ ap suc x
     by false e x y = ap length (entries_more f at p ps e) ∙ ap suc y
 
@@ -69,9 +69,9 @@ pub length_trees : (f : List ℕ → ℕ) (made : ℕ → List ℕ → List ℕ)
 unfolding pieces
 length_trees f made size whole zero at ws = refl
 length_trees f made size whole (suc n) at ws =
-    by (is_zero (take size ws)) refl (length_trees f made size whole n at (drop size ws)) (length_trees f made size whole n (at + f (take size ws)) (drop size ws))
+    by (are_all_zero (take size ws)) refl (length_trees f made size whole n at (drop size ws)) (length_trees f made size whole n (at + f (take size ws)) (drop size ws))
   where
-    by : (b : Bool) → is_zero (take size ws) ≡ b
+    by : (b : Bool) → are_all_zero (take size ws) ≡ b
         → length (trees f made at (pieces n size (drop size ws))) ≡ 512 * pages_of f (pieces n size (drop size ws))
         → length (trees f made (at + f (take size ws)) (pieces n size (drop size ws))) ≡ 512 * pages_of f (pieces n size (drop size ws))
         → length (trees f made at (take size ws ∷ pieces n size (drop size ws))) ≡ 512 * pages_of f (take size ws ∷ pieces n size (drop size ws))
@@ -109,11 +109,11 @@ pub record IsPieceAt (f : List ℕ → ℕ) (made : ℕ → List ℕ → List �
   pub first : ℕ
   pub front : List ℕ
   pub back : List ℕ
-  pub none : is_zero p ≡ true → get_or (entries f at ps) k 0 ≡ 0
-  pub entry : is_zero p ≡ false → get_or (entries f at ps) k 0 ≡ 4096 * first + 1
-  pub tree_is : is_zero p ≡ false → trees f made at ps ≡ front ++ (made first p ++ back)
+  pub none : are_all_zero p ≡ true → get_or (entries f at ps) k 0 ≡ 0
+  pub entry : are_all_zero p ≡ false → get_or (entries f at ps) k 0 ≡ 4096 * first + 1
+  pub tree_is : are_all_zero p ≡ false → trees f made at ps ≡ front ++ (made first p ++ back)
   pub place : 512 * at + length front ≡ 512 * first
-  pub within : is_zero p ≡ false → first + f p ≤ at + pages_of f ps
+  pub within : are_all_zero p ≡ false → first + f p ≤ at + pages_of f ps
 
 pub piece_at : (f : List ℕ → ℕ) (made : ℕ → List ℕ → List ℕ) (size : ℕ) → AreWhole f made size → (n k at : ℕ) (ws p : List ℕ) → k < n → p ≡ take size (drop (k * size) ws) → IsPieceAt f made at (pieces n size ws) k p
 unfolding pieces
@@ -137,11 +137,11 @@ piece_at f made size whole (suc n) (suc k) at ws p l e =
     let rest : List (List ℕ) = pieces n size (drop size ws) in
     let m : size + k * size ≡ suc k * size = omega arith in
     let there : p ≡ take size (drop (k * size) (drop size ws)) = e ∙ ap (take size) (ap (λ i. drop i ws) (sym m) ∙ sym (drop-drop (k * size) size ws)) in
-    by q rest (is_zero q) refl (piece_fits size ws)
+    by q rest (are_all_zero q) refl (piece_fits size ws)
     (piece_at f made size whole n k at (drop size ws) p (omega arith) there)
     (piece_at f made size whole n k (at + f q) (drop size ws) p (omega arith) there)
   where
-    by : (q : List ℕ) (rest : List (List ℕ)) (b : Bool) → is_zero q ≡ b → length q ≤ size → IsPieceAt f made at rest k p → IsPieceAt f made (at + f q) rest k p → IsPieceAt f made at (q ∷ rest) (suc k) p
+    by : (q : List ℕ) (rest : List (List ℕ)) (b : Bool) → are_all_zero q ≡ b → length q ≤ size → IsPieceAt f made at rest k p → IsPieceAt f made (at + f q) rest k p → IsPieceAt f made at (q ∷ rest) (suc k) p
     by q rest true z fits x y = record {
       first = x.first;
       front = x.front;
@@ -168,9 +168,9 @@ piece_at f made size whole (suc n) (suc k) at ws p l e =
 pub pages_few : (f : List ℕ → ℕ) (most : ℕ) → ((p : List ℕ) → f p ≤ most) → (n size : ℕ) (ws : List ℕ) → pages_of f (pieces n size ws) ≤ n * most
 unfolding pieces
 pages_few f most few zero size ws = omega arith
-pages_few f most few (suc n) size ws = by (is_zero (take size ws)) refl (pages_few f most few n size (drop size ws)) (few (take size ws))
+pages_few f most few (suc n) size ws = by (are_all_zero (take size ws)) refl (pages_few f most few n size (drop size ws)) (few (take size ws))
   where
-    by : (b : Bool) → is_zero (take size ws) ≡ b → pages_of f (pieces n size (drop size ws)) ≤ n * most → f (take size ws) ≤ most → pages_of f (take size ws ∷ pieces n size (drop size ws)) ≤ suc n * most
+    by : (b : Bool) → are_all_zero (take size ws) ≡ b → pages_of f (pieces n size (drop size ws)) ≤ n * most → f (take size ws) ≤ most → pages_of f (take size ws ∷ pieces n size (drop size ws)) ≤ suc n * most
     by true e l m = let d = pages_zero f (take size ws) (pieces n size (drop size ws)) e in omega (arith, d)
     by false e l m = let d = pages_more f (take size ws) (pieces n size (drop size ws)) e in omega (arith, d)
 

@@ -6,8 +6,8 @@ use Rattle.std.proofs.lemmas.Bool.{cases_lt, eq-eqb, ne_eqb, le-ltb, leb-true, l
 use Rattle.std.proofs.Math.ListN.{get_or-eq_default}
 use Rattle.std.proofs.lemmas.List.{get_or-append-add, get_or_append_left, get_or-take, get_or-drop, length-take}
 use Rattle.std.proofs.lemmas.Nat.{div_below, mod_below}
-use Rattle.dn_radix.specs.Tree.{is_zero, pieces, pages_of, entries, trees, room, page_count, tree, word_bytes, level_of}
-use Rattle.dn_radix.specs.Found.{word_at, is_bad, followed, found}
+use Rattle.dn_radix.specs.Tree.{are_all_zero, pieces, pages_of, entries, trees, room, page_count, tree, joined_bytes, level_of}
+use Rattle.dn_radix.specs.Found.{word_in_bytes, is_bad, followed, found}
 use Rattle.dn_radix.specs.Laws.{LevelIsLeast, WordsAreFound}
 use Rattle.dn_radix.proofs.Pieces.{IsPieceAt, piece_at, length_entries, length_pieces, length_tree, page_count_next, page_some, tree_few, piece_fits, room_next}
 use Rattle.dn_radix.proofs.Words.{length_words, word_there}
@@ -17,10 +17,10 @@ abbrev pub AreSmall : List ℕ → Type 0
 AreSmall ws = (k : ℕ) → get_or ws k 0 < 2 ^ 64
 
 -- a word of a list that is all 0
-pub word_of_zeros : (ws : List ℕ) (k : ℕ) → is_zero ws ≡ true → get_or ws k 0 ≡ 0
+pub word_of_zeros : (ws : List ℕ) (k : ℕ) → are_all_zero ws ≡ true → get_or ws k 0 ≡ 0
 word_of_zeros [] k e = refl
 word_of_zeros (w ∷ ws) zero e = grind arith
-word_of_zeros (w ∷ ws) (suc k) e = word_of_zeros ws k (and_parts (w == 0) (is_zero ws) e).1
+word_of_zeros (w ∷ ws) (suc k) e = word_of_zeros ws k (and_parts (w == 0) (are_all_zero ws) e).1
 
 pub zeros : (n k : ℕ) → get_or {A = ℕ} (replicate {A = ℕ} n 0) k 0 ≡ zero
 zeros zero k = refl
@@ -34,7 +34,7 @@ padded (w ∷ ws) n zero = refl
 padded (w ∷ ws) n (suc k) = padded ws n k
 
 -- a word of pages that stand among others, and its bytes
-pub word_among : (all pre made post : List ℕ) (at j place : ℕ) → all ≡ pre ++ (made ++ post) → length pre ≡ 512 * at → j < length made → get_or made j 0 < 2 ^ 64 → place ≡ 4096 * at + 8 * j → word_at (word_bytes all) place ≡ get_or made j 0
+pub word_among : (all pre made post : List ℕ) (at j place : ℕ) → all ≡ pre ++ (made ++ post) → length pre ≡ 512 * at → j < length made → get_or made j 0 < 2 ^ 64 → place ≡ 4096 * at + 8 * j → word_in_bytes (joined_bytes all) place ≡ get_or made j 0
 word_among all pre made post at j place is before l small e =
     let a = length-append pre (made ++ post) in
     let b = length-append made post in
@@ -82,7 +82,7 @@ piece_small size from ws small k = by (cases_lt k size)
     by (inr l) = let e = length-take size (drop from ws) in let m = min-le_left size (length (drop from ws)) in let none : get_or (take size (drop from ws)) k 0 ≡ 0 = get_or-eq_default (take size (drop from ws)) 0 (omega (arith, e, m, l)) in omega (arith, none)
 
 -- in a tree that stands among other pages each word is found from its first page on
-pub found_in : (level at i : ℕ) (ws all pre post : List ℕ) → length ws ≤ room level → AreSmall ws → i < room level → at + page_count level ws ≤ 2 ^ 30 → length pre ≡ 512 * at → all ≡ pre ++ (tree level at ws ++ post) → found (word_bytes all) level i (4096 * at) ≡ Ok (get_or ws i 0)
+pub found_in : (level at i : ℕ) (ws all pre post : List ℕ) → length ws ≤ room level → AreSmall ws → i < room level → at + page_count level ws ≤ 2 ^ 30 → length pre ≡ 512 * at → all ≡ pre ++ (tree level at ws ++ post) → found (joined_bytes all) level i (4096 * at) ≡ Ok (get_or ws i 0)
 unfolding found tree
 found_in zero at i ws all pre post fits small there few before is =
     let len = length_tree zero at ws fits in
@@ -102,14 +102,14 @@ found_in (suc level) at i ws all pre post fits small there few before is =
     let rest : i % size < size = mod_below i size some in
     let p : List ℕ = take size (drop (i / size * size) ws) in
     let r : IsPieceAt f (tree level) (at + 1) (pieces 512 size ws) (i / size) p = piece_at f (tree level) size (length_tree level) 512 (i / size) (at + 1) ws p below refl in
-    by p (pieces 512 size ws) (is_zero p) refl r (piece_fits size (drop (i / size * size) ws)) (piece_small size (i / size * size) ws small)
+    by p (pieces 512 size ws) (are_all_zero p) refl r (piece_fits size (drop (i / size * size) ws)) (piece_small size (i / size * size) ws small)
     (length_entries f (at + 1) (pieces 512 size ws) ∙ length_pieces 512 size ws) below
     (piece_word size i ws some) (page_count_next level ws)
     (found_in level r.first (i % size) p all
     (pre ++ (entries f (at + 1) (pieces 512 size ws) ++ r.front)) (r.back ++ post))
     rest is
   where
-    by : (p : List ℕ) (ps : List (List ℕ)) (b : Bool) → is_zero p ≡ b
+    by : (p : List ℕ) (ps : List (List ℕ)) (b : Bool) → are_all_zero p ≡ b
         → (r : IsPieceAt (page_count level) (tree level) (at + 1) ps (i / room level) p)
         → length p ≤ room level → AreSmall p
         → length (entries (page_count level) (at + 1) ps) ≡ 512 → i / room level < 512
@@ -118,17 +118,17 @@ found_in (suc level) at i ws all pre post fits small there few before is =
         → (length p ≤ room level → AreSmall p → i % room level < room level → r.first + page_count level p ≤ 2 ^ 30
         → length (pre ++ (entries (page_count level) (at + 1) ps ++ r.front)) ≡ 512 * r.first
         → all ≡ (pre ++ (entries (page_count level) (at + 1) ps ++ r.front)) ++ (tree level r.first p ++ (r.back ++ post))
-        → found (word_bytes all) level (i % room level) (4096 * r.first) ≡ Ok (get_or p (i % room level) 0))
+        → found (joined_bytes all) level (i % room level) (4096 * r.first) ≡ Ok (get_or p (i % room level) 0))
         → i % room level < room level
         → all ≡ pre ++ ((entries (page_count level) (at + 1) ps ++ trees (page_count level) (tree level) (at + 1) ps) ++ post)
-        → followed (found (word_bytes all) level (i % room level)) (length (word_bytes all)) (4096 * at + 8 * (i / room level)) (word_at (word_bytes all) (4096 * at + 8 * (i / room level))) ≡ Ok (get_or ws i 0)
+        → followed (found (joined_bytes all) level (i % room level)) (length (joined_bytes all)) (4096 * at + 8 * (i / room level)) (word_in_bytes (joined_bytes all) (4096 * at + 8 * (i / room level))) ≡ Ok (get_or ws i 0)
     by p ps true z r pfits psmall elen below word pages again rest whole =
         let es : List ℕ = entries (page_count level) (at + 1) ps in
         let ts : List ℕ = trees (page_count level) (tree level) (at + 1) ps in
         let e : get_or es (i / room level) 0 ≡ 0 = r.none z in
         let is' : all ≡ pre ++ (es ++ (ts ++ post)) = whole ∙ ap (λ (l : List ℕ). pre ++ l) (append_assoc es ts post) in
         let w = word_among all pre es (ts ++ post) at (i / room level) (4096 * at + 8 * (i / room level)) is' before (omega (arith, elen, below)) (omega (arith, e)) refl in
-        followed_none (found (word_bytes all) level (i % room level)) (length (word_bytes all)) (4096 * at + 8 * (i / room level)) (word_at (word_bytes all) (4096 * at + 8 * (i / room level))) (w ∙ e)
+        followed_none (found (joined_bytes all) level (i % room level)) (length (joined_bytes all)) (4096 * at + 8 * (i / room level)) (word_in_bytes (joined_bytes all) (4096 * at + 8 * (i / room level))) (w ∙ e)
         ∙ ap Ok (sym (word_of_zeros p (i % room level) z) ∙ word)
     by p ps false z r pfits psmall elen below word pages again rest whole =
         let es : List ℕ = entries (page_count level) (at + 1) ps in
@@ -154,8 +154,8 @@ found_in (suc level) at i ws all pre post fits small there few before is =
         let l8 = length_words all in
         let place = r.place in
         let before' : length (pre ++ (es ++ r.front)) ≡ 512 * r.first = omega (arith, l1, l2, elen, before, place) in
-        let page : 4096 * r.first + 4096 ≤ length (word_bytes all) = omega (arith, before', l3, l4, l5, l6, l7, l8) in
-        followed_good (found (word_bytes all) level (i % room level)) (length (word_bytes all)) (4096 * at + 8 * (i / room level)) (word_at (word_bytes all) (4096 * at + 8 * (i / room level))) r.first (w ∙ e) page
+        let page : 4096 * r.first + 4096 ≤ length (joined_bytes all) = omega (arith, before', l3, l4, l5, l6, l7, l8) in
+        followed_good (found (joined_bytes all) level (i % room level)) (length (joined_bytes all)) (4096 * at + 8 * (i / room level)) (word_in_bytes (joined_bytes all) (4096 * at + 8 * (i / room level))) r.first (w ∙ e) page
         ∙ again pfits psmall rest few' before' is''
         ∙ ap Ok word
 

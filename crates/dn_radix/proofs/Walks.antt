@@ -9,15 +9,15 @@ use Rattle.dn_radix.specs.Tree.{level_of, tree_bytes}
 use Rattle.dn_radix.proofs.Read.{tree_size}
 use Rattle.dn_radix.proofs.Reached.{words_are_found}
 use Rattle.dn_radix.specs.Laws.{TreeIsWalked}
-use Rattle.dn_radix.specs.Walked.{record_of_words, walked_words, with_word}
+use Rattle.dn_radix.specs.Walked.{record_of_words, walked_words, word_before}
 
 words_walked : (ws : List ℕ) (i n : ℕ) → length ws ≤ 1048576 → ((k : ℕ) → get_or ws k 0 < 2 ^ 64) → i + n ≤ length ws → walked_words (tree_bytes ws) (level_of (length ws)) i n ≡ Ok (take n (drop i ws))
 words_walked ws i zero few small l = refl
 words_walked ws i (suc n) few small l =
     let here : i < length ws = omega arith in
     let next : i + 1 ≡ suc i = omega arith in
-    ap (λ (r : Result ℕ ℕ). with_word r (walked_words (tree_bytes ws) (level_of (length ws)) (suc i) n)) (words_are_found ws i few small here)
-    ∙ ap (with_word (Ok (get_or ws i 0))) (words_walked ws (suc i) n few small (omega arith))
+    ap (λ (r : Result ℕ ℕ). word_before r (walked_words (tree_bytes ws) (level_of (length ws)) (suc i) n)) (words_are_found ws i few small here)
+    ∙ ap (word_before (Ok (get_or ws i 0))) (words_walked ws (suc i) n few small (omega arith))
     ∙ ap (λ (k : ℕ). Ok (get_or ws i 0 ∷ take n (drop k ws))) (sym next)
     ∙ ap (λ (l : List ℕ). Ok (take (suc n) l)) (sym (drop_more ws i 0 here))
 
@@ -43,12 +43,12 @@ walk_more image level first width word w read read' l so_far here more =
     let next : suc (first + word) ≡ first + (word + 1) = omega arith in
     so_far
     ∙ ap (λ (n : ℕ). with_words read (walked_words image level (first + word) n)) left
-    ∙ ap (λ (r : Result ℕ ℕ). with_words read (with_word r (walked_words image level (suc (first + word)) (width - (word + 1))))) (sym here)
-    ∙ ap (λ (n : ℕ). with_words read (with_word (Ok w) (walked_words image level n (width - (word + 1))))) next
+    ∙ ap (λ (r : Result ℕ ℕ). with_words read (word_before r (walked_words image level (suc (first + word)) (width - (word + 1))))) (sym here)
+    ∙ ap (λ (n : ℕ). with_words read (word_before (Ok w) (walked_words image level n (width - (word + 1))))) next
     ∙ joined (walked_words image level (first + (word + 1)) (width - (word + 1)))
     ∙ ap (λ (ws : List ℕ). with_words ws (walked_words image level (first + (word + 1)) (width - (word + 1)))) (sym more)
   where
-    joined : (r : Result (List ℕ) ℕ) → with_words read (with_word (Ok w) r) ≡ with_words (read ++ w ∷ []) r
+    joined : (r : Result (List ℕ) ℕ) → with_words read (word_before (Ok w) r) ≡ with_words (read ++ w ∷ []) r
     joined (Ok vs) = ap Ok (sym (append_assoc read (w ∷ []) vs))
     joined (Err place) = refl
 
@@ -58,7 +58,7 @@ walk_bad image level first width word place read l so_far here =
     let left : width - word ≡ suc (width - (word + 1)) = omega arith in
     so_far
     ∙ ap (λ (n : ℕ). with_words read (walked_words image level (first + word) n)) left
-    ∙ ap (λ (r : Result ℕ ℕ). with_words read (with_word r (walked_words image level (suc (first + word)) (width - (word + 1))))) (sym here)
+    ∙ ap (λ (r : Result ℕ ℕ). with_words read (word_before r (walked_words image level (suc (first + word)) (width - (word + 1))))) (sym here)
 
 -- all words were found
 pub walk_all : (image : List ℕ) (level first width word : ℕ) (read : List ℕ) → width ≤ word → walked_words image level first width ≡ with_words read (walked_words image level (first + word) (width - word)) → walked_words image level first width ≡ Ok read

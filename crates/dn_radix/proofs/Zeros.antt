@@ -8,43 +8,43 @@ use Rattle.std.proofs.lemmas.Bool.{cases_lt}
 use Rattle.std.proofs.lemmas.Grind.{get_or_after_one}
 use Rattle.std.proofs.lemmas.List.{take-append-drop, drop-drop, drop-take, take-take, drop_all, get_or-take, get_or-drop, get_or_past, length-drop, length-take}
 use Rattle.std.proofs.lemmas.List.Folds.{list_all-append}
-use Rattle.dn_radix.specs.Tree.{AreMarks, is_zero, room}
+use Rattle.dn_radix.specs.Tree.{AreMarks, are_all_zero, room}
 
 -- a mark for each page of so many words
 abbrev pub MarksOf : ℕ → List ℕ → List ℕ → Type 0
-MarksOf size ws marks = (page : ℕ) → is_zero (take size (drop (page * size) ws)) ≡ (get_or marks page 0 == 0)
+MarksOf size ws marks = (page : ℕ) → are_all_zero (take size (drop (page * size) ws)) ≡ (get_or marks page 0 == 0)
 
 -- the first words, and those after them
-zero_both : (n : ℕ) (ws : List ℕ) → is_zero ws ≡ (is_zero (take n ws) && is_zero (drop n ws))
+zero_both : (n : ℕ) (ws : List ℕ) → are_all_zero ws ≡ (are_all_zero (take n ws) && are_all_zero (drop n ws))
 zero_both n ws =
-    ap is_zero (sym (take-append-drop n ws)) ∙ list_all-append (λ w. w == 0) (take n ws) (drop n ws)
+    ap are_all_zero (sym (take-append-drop n ws)) ∙ list_all-append (λ w. w == 0) (take n ws) (drop n ws)
 
 -- the words after the first page, and their marks
 marks_after : (size : ℕ) (ws marks : List ℕ) → MarksOf size ws marks → MarksOf size (drop size ws) (drop 1 marks)
 marks_after size ws marks m page =
     let e : size + page * size ≡ (1 + page) * size = omega arith in
-    ap (λ (l : List ℕ). is_zero (take size l)) (drop-drop (page * size) size ws ∙ ap (λ n. drop n ws) e)
+    ap (λ (l : List ℕ). are_all_zero (take size l)) (drop-drop (page * size) size ws ∙ ap (λ n. drop n ws) e)
     ∙ m (1 + page)
     ∙ ap (λ n. n == 0) (sym (get_or_after_one marks page 0))
 
 -- the first page by its mark
-first_page : (size : ℕ) (ws marks : List ℕ) → MarksOf size ws marks → is_zero (take size ws) ≡ (get_or marks 0 0 == 0)
+first_page : (size : ℕ) (ws marks : List ℕ) → MarksOf size ws marks → are_all_zero (take size ws) ≡ (get_or marks 0 0 == 0)
 first_page size ws marks m =
     let e : 0 ≡ 0 * size = omega arith in
-    ap (λ n. is_zero (take size (drop n ws))) e ∙ m 0
+    ap (λ n. are_all_zero (take size (drop n ws))) e ∙ m 0
 
 -- words of which no page has a mark
-none_marked : (size n : ℕ) (ws : List ℕ) → length ws ≤ n * size → MarksOf size ws [] → is_zero ws ≡ true
+none_marked : (size n : ℕ) (ws : List ℕ) → length ws ≤ n * size → MarksOf size ws [] → are_all_zero ws ≡ true
 none_marked size zero [] l m = refl
 none_marked size zero (w ∷ ws) l m = absurd (omega arith)
 none_marked size (suc n) ws l m =
     let d = length-drop size ws in
     zero_both size ws
-    ∙ ap (λ b. b && is_zero (drop size ws)) (first_page size ws [] m)
+    ∙ ap (λ b. b && are_all_zero (drop size ws)) (first_page size ws [] m)
     ∙ none_marked size n (drop size ws) (omega (arith, d, l)) (marks_after size ws [] m)
 
 -- words are all 0 exactly where their marks are
-marks_zero : (size : ℕ) (marks ws : List ℕ) → 0 < size → MarksOf size ws marks → is_zero ws ≡ is_zero marks
+marks_zero : (size : ℕ) (marks ws : List ℕ) → 0 < size → MarksOf size ws marks → are_all_zero ws ≡ are_all_zero marks
 marks_zero size [] ws some m = none_marked size (length ws) ws (many (length ws)) m
   where
     many : (n : ℕ) → n ≤ n * size
@@ -52,10 +52,10 @@ marks_zero size [] ws some m = none_marked size (length ws) ws (many (length ws)
     many (suc n) = let ih = many n in omega (arith, ih, some)
 marks_zero size (k ∷ ks) ws some m =
     zero_both size ws
-    ∙ ap (λ b. b && is_zero (drop size ws)) (first_page size ws (k ∷ ks) m)
+    ∙ ap (λ b. b && are_all_zero (drop size ws)) (first_page size ws (k ∷ ks) m)
     ∙ ap (λ b. (k == 0) && b) (marks_zero size ks (drop size ws) some (marks_after size ws (k ∷ ks) m))
 
-pub marked_zero : (ws marks : List ℕ) → AreMarks ws marks → is_zero ws ≡ is_zero marks
+pub marked_zero : (ws marks : List ℕ) → AreMarks ws marks → are_all_zero ws ≡ are_all_zero marks
 marked_zero ws marks m = marks_zero 512 marks ws (omega arith) m
 
 -- a page of a piece is a page of the whole
@@ -71,10 +71,10 @@ page_within size ws from m page l =
     ∙ ap (take size) (drop-drop (page * size) (from * size) ws ∙ ap (λ n. drop n ws) e)
 
 -- after all words there is none, and after all marks none
-page_past : (size : ℕ) (ws : List ℕ) (page : ℕ) → length ws ≤ page * size → is_zero (take size (drop (page * size) ws)) ≡ true
-page_past size ws page l = ap (λ (r : List ℕ). is_zero (take size r)) (drop_all (page * size) ws l) ∙ none size
+page_past : (size : ℕ) (ws : List ℕ) (page : ℕ) → length ws ≤ page * size → are_all_zero (take size (drop (page * size) ws)) ≡ true
+page_past size ws page l = ap (λ (r : List ℕ). are_all_zero (take size r)) (drop_all (page * size) ws l) ∙ none size
   where
-    none : (n : ℕ) → is_zero (take n []) ≡ true
+    none : (n : ℕ) → are_all_zero (take n []) ≡ true
     none zero = refl
     none (suc n) = refl
 
@@ -85,9 +85,9 @@ mark_past marks page l = ap (λ n. n == 0) (get_or_past marks page 0 l)
 pages_marked : (size : ℕ) (ws marks : List ℕ) (from m : ℕ) → MarksOf size ws marks → MarksOf size (take (m * size) (drop (from * size) ws)) (take m (drop from marks))
 pages_marked size ws marks from m are page = by (cases_lt page m)
   where
-    by : (page < m) ⊎ (m ≤ page) → is_zero (take size (drop (page * size) (take (m * size) (drop (from * size) ws)))) ≡ (get_or (take m (drop from marks)) page 0 == 0)
+    by : (page < m) ⊎ (m ≤ page) → are_all_zero (take size (drop (page * size) (take (m * size) (drop (from * size) ws)))) ≡ (get_or (take m (drop from marks)) page 0 == 0)
     by (inl l) =
-        ap is_zero (page_within size ws from m page l)
+        ap are_all_zero (page_within size ws from m page l)
         ∙ are (from + page)
         ∙ ap (λ n. n == 0) (sym (get_or-take m (drop from marks) page 0 l ∙ get_or-drop from marks page 0))
     by (inr g) =
@@ -111,28 +111,28 @@ pub piece_marked : (ws marks part own : List ℕ) (size k : ℕ) → size / 512 
 piece_marked ws marks part own size k whole are p o page =
     let m : ℕ = size / 512 in
     let e : k * m * 512 ≡ k * size = mul_assoc k m 512 ∙ ap (λ n. k * n) whole in
-    ap (λ (l : List ℕ). is_zero (take 512 (drop (page * 512) l))) (p ∙ ap (λ n. take n (drop (k * size) ws)) (sym whole) ∙ ap (λ n. take (m * 512) (drop n ws)) (sym e))
+    ap (λ (l : List ℕ). are_all_zero (take 512 (drop (page * 512) l))) (p ∙ ap (λ n. take n (drop (k * size) ws)) (sym whole) ∙ ap (λ n. take (m * 512) (drop n ws)) (sym e))
     ∙ pages_marked 512 ws marks (k * m) m are page
     ∙ ap (λ (l : List ℕ). get_or l page 0 == 0) (sym o)
 
 -- a page more
-pub marks_more : (size : ℕ) (ws marks more part : List ℕ) (page mark : ℕ) → length marks ≡ page → ((i : ℕ) → i < page → is_zero (take size (drop (i * size) ws)) ≡ (get_or marks i 0 == 0)) → part ≡ take size (drop (page * size) ws) → is_zero part ≡ (mark == 0) → more ≡ marks ++ mark ∷ [] → (i : ℕ) → i < page + 1 → is_zero (take size (drop (i * size) ws)) ≡ (get_or more i 0 == 0)
+pub marks_more : (size : ℕ) (ws marks more part : List ℕ) (page mark : ℕ) → length marks ≡ page → ((i : ℕ) → i < page → are_all_zero (take size (drop (i * size) ws)) ≡ (get_or marks i 0 == 0)) → part ≡ take size (drop (page * size) ws) → are_all_zero part ≡ (mark == 0) → more ≡ marks ++ mark ∷ [] → (i : ℕ) → i < page + 1 → are_all_zero (take size (drop (i * size) ws)) ≡ (get_or more i 0 == 0)
 marks_more size ws marks more part page mark long before is z m i l = by (cases_lt i page)
   where
-    by : (i < page) ⊎ (page ≤ i) → is_zero (take size (drop (i * size) ws)) ≡ (get_or more i 0 == 0)
+    by : (i < page) ⊎ (page ≤ i) → are_all_zero (take size (drop (i * size) ws)) ≡ (get_or more i 0 == 0)
     by (inl b) = before i b ∙ ap (λ n. n == 0) (sym (ap (λ (r : List ℕ). get_or r i 0) m ∙ get_or-append marks (mark ∷ []) 0 i (omega (arith, b, long))))
     by (inr b) =
         let here : i ≡ length marks = omega (arith, l, b, long) in
         let there : i ≡ page = omega (arith, l, b) in
-        ap (λ n. is_zero (take size (drop (n * size) ws))) there
-        ∙ ap is_zero (sym is) ∙ z
+        ap (λ n. are_all_zero (take size (drop (n * size) ws))) there
+        ∙ ap are_all_zero (sym is) ∙ z
         ∙ ap (λ n. n == 0) (sym (ap (λ (r : List ℕ). get_or r i 0) m ∙ ap (λ n. get_or (marks ++ mark ∷ []) n 0) here ∙ get_or-append_seam marks mark [] 0))
 
 -- all pages
-pub marks_all : (ws marks : List ℕ) (page : ℕ) → length marks ≡ page → ((i : ℕ) → i < page → is_zero (take 512 (drop (i * 512) ws)) ≡ (get_or marks i 0 == 0)) → length ws ≤ page * 512 → AreMarks ws marks
+pub marks_all : (ws marks : List ℕ) (page : ℕ) → length marks ≡ page → ((i : ℕ) → i < page → are_all_zero (take 512 (drop (i * 512) ws)) ≡ (get_or marks i 0 == 0)) → length ws ≤ page * 512 → AreMarks ws marks
 marks_all ws marks page long before all i = by (cases_lt i page)
   where
-    by : (i < page) ⊎ (page ≤ i) → is_zero (take 512 (drop (i * 512) ws)) ≡ (get_or marks i 0 == 0)
+    by : (i < page) ⊎ (page ≤ i) → are_all_zero (take 512 (drop (i * 512) ws)) ≡ (get_or marks i 0 == 0)
     by (inl b) = before i b
     by (inr b) = page_past 512 ws i (omega (arith, all, b)) ∙ sym (mark_past marks i (omega (arith, b, long)))
 

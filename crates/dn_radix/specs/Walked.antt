@@ -9,16 +9,16 @@ use Rattle.dn_radix.specs.Found.{found}
 use Rattle.dn_radix.specs.Tree.{level_of}
 
 -- a word before others, or the first of what is bad
-abbrev pub with_word : Result ℕ ℕ → Result (List ℕ) ℕ → Result (List ℕ) ℕ
-with_word (Err place) rest = Err place
-with_word (Ok w) (Err place) = Err place
-with_word (Ok w) (Ok ws) = Ok (w ∷ ws)
+abbrev pub word_before : Result ℕ ℕ → Result (List ℕ) ℕ → Result (List ℕ) ℕ
+word_before (Err place) rest = Err place
+word_before (Ok w) (Err place) = Err place
+word_before (Ok w) (Ok ws) = Ok (w ∷ ws)
 
 -- so many words from a number on, or the place of the first bad entry
 abbrev pub walked_words : List ℕ → ℕ → ℕ → ℕ → Result (List ℕ) ℕ
 walked_words image level i zero = Ok []
 walked_words image level i (suc n) =
-    with_word (found image level i 0) (walked_words image level (suc i) n)
+    word_before (found image level i 0) (walked_words image level (suc i) n)
 
 -- the record that words spell, where the unit can hold it
 abbrev pub record_of_words : UnitPart → Meaning → Result (List ℕ) ℕ → Result (Option Record) ℕ

@@ -2,7 +2,7 @@
 
 ghost use Rattle.std.specs.Prelude.{◌≡◌, ℕ, ◌+◌, ◌^◌, ◌≤◌, ◌++◌, length, IfOk, OnOk};
 ghost use Rattle.dn_base.specs.Terms.{Answers};
-ghost use Rattle.dn_radix.specs.Terms.{built, entries, level_of, page_count, pages_of, pieces, radix_fault_view, room, tree, tree_bytes, word_bytes};
+ghost use Rattle.dn_radix.specs.Terms.{built, entries, level_of, page_count, pages_of, pieces, radix_fault_view, room, tree, tree_bytes, joined_bytes};
 
 use crate::OutOfMemory;
 use crate::fault::RadixFault;
@@ -77,7 +77,7 @@ fn push_tree(
     requires fits { length leaves.words.now ≤ room level }
     requires few { at + page_count level leaves.words.now ≤ 2 ^ 24 }
     ensures { OnOk result (out.new.items
-        ≡ out.old.items ++ word_bytes (tree level at leaves.entry.words.now)) }
+        ≡ out.old.items ++ joined_bytes (tree level at leaves.entry.words.now)) }
 {
     if level == 0 {
         return push_page(out, leaves.words);
@@ -100,7 +100,7 @@ fn push_tree(
 fn push_page(out: &mut Vec<u8>, words: &[u64]) -> Result<(), OutOfMemory>
     requires { length words.now ≤ 512 }
     ensures { OnOk result ((at : ℕ) → out.new.items
-        ≡ out.old.items ++ word_bytes (tree 0 at words.now)) }
+        ≡ out.old.items ++ joined_bytes (tree 0 at words.now)) }
 {
     push_words(out, words)?;
     for place in words.len()..512 {
@@ -112,7 +112,7 @@ fn push_page(out: &mut Vec<u8>, words: &[u64]) -> Result<(), OutOfMemory>
 /// Appends the bytes of words, the lowest byte of each first.
 fn push_words(out: &mut Vec<u8>, words: &[u64]) -> Result<(), OutOfMemory>
     requires { length words.now ≤ 512 }
-    ensures { OnOk result (out.new.items ≡ out.old.items ++ word_bytes words.now) }
+    ensures { OnOk result (out.new.items ≡ out.old.items ++ joined_bytes words.now) }
 {
     let mut page = [0u8; 4096];
     let size = 8 * words.len();
@@ -158,7 +158,7 @@ pub(crate) fn tree_of(alloc: Global, words: &[u64], size: usize) -> Result<Vec<u
     tree_over(alloc, Leaves { words, marks }, size)
 }
 
-/// The same, of words with their marks.
+/// The bytes of the tree of words with their marks, for which there is room for so many at first.
 fn tree_over(alloc: Global, leaves: Leaves, size: usize) -> Result<Vec<u8>, OutOfMemory>
     requires { length leaves.words.now ≤ 1048576 }
     ensures { IfOk result (λ bytes. bytes.items ≡ tree_bytes leaves.entry.words.now) }

@@ -2,7 +2,7 @@
 
 ghost use Rattle.std.specs.Prelude.{◌≡◌, ℕ, ◌+◌, ◌*◌, ◌^◌, ◌<◌, ◌≤◌, length, IfOk, IfSome};
 ghost use Rattle.dn_base.specs.Terms.{Answers};
-ghost use Rattle.dn_radix.specs.Terms.{bad_view, found, is_bad, room, word_at, word_of_page};
+ghost use Rattle.dn_radix.specs.Terms.{bad_view, found, is_bad, room, word_in_bytes, word_of_page};
 
 use crate::fault::Bad;
 use byteorder::{ByteOrder, LittleEndian};
@@ -38,7 +38,7 @@ fn is_bad(size: usize, entry: u64) -> bool
 #[tactic(auto, using(std::proofs::lemmas::List::take_rest))]
 fn word_at(image: &[u8], place: usize) -> u64
     requires { place + 8 ≤ length image.now }
-    ensures { result ≡ word_at image.now place }
+    ensures { result ≡ word_in_bytes image.now place }
 {
     LittleEndian::read_u64(&image[place..])
 }

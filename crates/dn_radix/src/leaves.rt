@@ -1,7 +1,7 @@
 //! The words at the bottom of a tree, of which it is known which pages are all 0.
 
 ghost use Rattle.std.specs.Prelude.{◌≡◌, ◌*◌, ◌^◌, ◌<◌, ◌≤◌, drop, length, take, IfOk};
-ghost use Rattle.dn_radix.specs.Terms.{AreMarks, is_zero, room};
+ghost use Rattle.dn_radix.specs.Terms.{AreMarks, are_all_zero, room};
 
 use crate::OutOfMemory;
 use crate::find::room;
@@ -37,7 +37,7 @@ pub(crate) fn marks_of(alloc: Global, words: &[u64]) -> Result<Vec<u64>, OutOfMe
 
 /// Whether each of the words is 0, by their marks.
 pub(crate) fn are_zero(leaves: Leaves) -> bool
-    ensures { result ≡ is_zero leaves.entry.words.now }
+    ensures { result ≡ are_all_zero leaves.entry.words.now }
 {
     is_zero(leaves.marks)
 }
@@ -56,7 +56,7 @@ pub(crate) fn piece<'a>(leaves: Leaves<'a>, below: u32, k: usize) -> Leaves<'a>
 
 /// Whether each of the words is 0.
 fn is_zero(words: &[u64]) -> bool
-    ensures { result ≡ is_zero words.now }
+    ensures { result ≡ are_all_zero words.now }
 {
     for word in words {
         if *word != 0 {

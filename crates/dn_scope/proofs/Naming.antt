@@ -10,7 +10,7 @@ use Rattle.dn_parse.specs.Views.{param_view}
 use Rattle.dn_scope.specs.declared.modules.Known.{Known}
 use Rattle.dn_scope.specs.Uses.{Module, Visibility, outside, within_module, module_from, usable_modules, has_twice, is_module, word_of_param, with_module}
 use Rattle.dn_scope.specs.Numbered.{is_known}
-use Rattle.dn_scope.specs.Stack.{sees, known_view}
+use Rattle.dn_scope.specs.Stack.{may_use, known_view}
 use Rattle.dn_scope.proofs.Known.{twice-push, twice-append, found_is}
 use Rattle.dn_scope.proofs.Scopes.{at_any}
 use Rattle.dn_base.proofs.Orders.{one-add}
@@ -77,7 +77,7 @@ module _ (title : List ℕ) where
     placed number e = some_at _ _ number e
 
     -- a module that may be used
-    pub found_module : (s : Visibility) (number : ℕ) (m : Module) → position (bytes_eq title) titles ≡ Some number → slice_get ms number ≡ Some m → sees s number ≡ true → module_from 0 title (usable_modules s ms) ≡ Some (number, m)
+    pub found_module : (s : Visibility) (number : ℕ) (m : Module) → position (bytes_eq title) titles ≡ Some number → slice_get ms number ≡ Some m → may_use s number ≡ true → module_from 0 title (usable_modules s ms) ≡ Some (number, m)
     found_module outside number m e at see = at_place ms 0 m (ap (slice_get ms) (placed number e) ∙ at) ∙ ap (λ (j : ℕ). Some (j, m)) (let f = placed number e in omega arith)
     found_module (within_module before) number m e at see =
         let f = placed number e in
@@ -85,7 +85,7 @@ module _ (title : List ℕ) where
         taken ms 0 before (omega arith) ∙ at_place ms 0 m (ap (slice_get ms) f ∙ at) ∙ ap (λ (j : ℕ). Some (j, m)) (omega arith)
 
     -- one that may not
-    pub hidden_module : (s : Visibility) (number : ℕ) → position (bytes_eq title) titles ≡ Some number → sees s number ≡ false → module_from 0 title (usable_modules s ms) ≡ None
+    pub hidden_module : (s : Visibility) (number : ℕ) → position (bytes_eq title) titles ≡ Some number → may_use s number ≡ false → module_from 0 title (usable_modules s ms) ≡ None
     hidden_module outside number e see = cc
     hidden_module (within_module before) number e see =
         let f = placed number e in

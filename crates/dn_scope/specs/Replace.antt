@@ -85,13 +85,13 @@ abbrev pub in_declared : Replacement → List Part → List Part
 in_declared r ps = prefixed_name r.naming (map (in_part r.numbers) ps)
 
 -- the word of a name of one part without an index
-abbrev pub word_by : List ℕ → Option Expression → Option (List ℕ)
-word_by w None = Some w
-word_by w (Some e) = None
+abbrev pub plain_word : List ℕ → Option Expression → Option (List ℕ)
+plain_word w None = Some w
+plain_word w (Some e) = None
 
 -- the word of a name of one part without an index
 abbrev pub word_of_name : List Part → Option (List ℕ)
-word_of_name (p ∷ []) = word_by p.title p.index
+word_of_name (p ∷ []) = plain_word p.title p.index
 word_of_name _ = None
 
 -- the full name that stands for a node parameter, where the word is one

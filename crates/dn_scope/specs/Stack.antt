@@ -23,9 +23,9 @@ visibility_view All = outside
 visibility_view (First count) = within_module count
 
 -- whether a statement may use the module with this number
-abbrev pub sees : Visibility → ℕ → Bool
-sees outside number = true
-sees (within_module before) number = nat_lt number before
+abbrev pub may_use : Visibility → ℕ → Bool
+may_use outside number = true
+may_use (within_module before) number = nat_lt number before
 
 -- the statements of a body
 abbrev pub body_view : List Stmt → Items

@@ -76,11 +76,11 @@ pub struct Modules<'a, 't> {
 }
 
 impl Visible {
-    ghost use Rattle.dn_scope.specs.Stack.{visibility_view, sees};
+    ghost use Rattle.dn_scope.specs.Stack.{visibility_view, may_use};
 
     /// Whether a statement may use the module with this number, which is known.
     fn includes(self, number: u16) -> bool
-        ensures { result ≡ sees (visibility_view self) number }
+        ensures { result ≡ may_use (visibility_view self) number }
     {
         match self {
             Visible::All => true,

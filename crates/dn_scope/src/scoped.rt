@@ -46,7 +46,7 @@ impl ScopedName {
         }
     }
 
-    /// The same name once more. Only the numbers of owners are changed.
+    /// Another holder of this name, which is not copied: only the numbers of holders change.
     pub fn share(&self) -> Result<ScopedName, AllocError>
         ensures { IfOk result (λ n. n ≡ self.now) }
     {

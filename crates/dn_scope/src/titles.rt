@@ -45,7 +45,7 @@ impl Titles {
         Ok(Some(Titles { words }))
     }
 
-    /// The same words once more. Only their number of owners is changed.
+    /// Another holder of these words, which are not copied: only the number of their holders changes.
     pub fn share(&self) -> Result<Titles, AllocError>
         ensures { IfOk result (λ t. t ≡ self.now) }
     {

@@ -193,7 +193,7 @@ pub fn declared_name(alloc: Global, scope: &Scope, name: &[PartExpr]) -> Result<
     Ok(Text::from_string(text)?)
 }
 
-/// The same full name, which all who hold it share.
+/// The full name that a declared name spells, as a text that all who hold it share.
 pub fn shared_name(alloc: Global, scope: &Scope, name: &[PartExpr]) -> Result<Text, NameFault>
     ensures { Answers (λ x. x) name_fault_view result
         (full_name (in_declared scope.now (name_view name.now))) }
@@ -202,7 +202,7 @@ pub fn shared_name(alloc: Global, scope: &Scope, name: &[PartExpr]) -> Result<Te
     Ok(Text::of(alloc, text.as_str())?)
 }
 
-/// The same full name, behind that of the use.
+/// The full name that a declared name spells, kept behind the full name of the use.
 fn scoped_name(
     recent: &mut Recent,
     scope: &Scope,

@@ -15,7 +15,7 @@ use Rattle.dn_net.proofs.Gaps.{Stand, cut_each_stands, accepts_upward, cut_each_
 use Rattle.dn_net.proofs.Least.{within_to}
 use Rattle.dn_walk.specs.Legs.{span_view}
 use Rattle.dn_walk.proofs.Holes.{spans_are_left}
-use Rattle.dn_shape.specs.Split.{maximal_spans, StandApart, SpansAreMaximal}
+use Rattle.dn_shape.specs.Split.{maximal_spans, AreBlocksApart, SpansAreMaximal}
 
 -- every address stands
 whole_stands : Stand 0 (all_addresses ∷ [])
@@ -25,7 +25,7 @@ stand_in_range : (from : ℕ) (bs : List Block) → Stand from bs → IsTrue (li
 stand_in_range from [] h = refl
 stand_in_range from (b ∷ bs) h = rw (le-leb b.lo b.hi h.1, le-leb b.hi top h.2, stand_in_range (b.hi + 2) bs h.3) refl
 
-stand_apart : (from : ℕ) (bs : List Block) → Stand from bs → StandApart from bs
+stand_apart : (from : ℕ) (bs : List Block) → Stand from bs → AreBlocksApart from bs
 stand_apart from [] h = tt
 stand_apart from (b ∷ bs) h = (h.0, h.1, h.2, stand_apart (b.hi + 2) bs h.3)
 

@@ -134,15 +134,15 @@ split_name net x = renamed_at net x (slice_get net x.node)
 -- THE LAWS
 -- the blocks stand at an address or above it, ascending up to the top, and leave out at least one
 -- address between two
-abbrev pub StandApart : ℕ → List Block → Type 0
-StandApart from [] = Unit {0}
-StandApart from (b ∷ bs) = (from ≤ b.lo) × (b.lo ≤ b.hi) × (b.hi ≤ top) × StandApart (b.hi + 2) bs
+abbrev pub AreBlocksApart : ℕ → List Block → Type 0
+AreBlocksApart from [] = Unit {0}
+AreBlocksApart from (b ∷ bs) = (from ≤ b.lo) × (b.lo ≤ b.hi) × (b.hi ≤ top) × AreBlocksApart (b.hi + 2) bs
 
 -- The maximal spans of blocks have exactly the addresses of the blocks, and no two of them
 -- overlap or are adjacent.
 abbrev pub SpansAreMaximal : Type 0
 SpansAreMaximal = (blocks : List Block) → IsTrue (list_all block_in_range blocks) →
-    StandApart 0 (maximal_spans blocks)
+    AreBlocksApart 0 (maximal_spans blocks)
     × ((a : ℕ) → in_some_block a (maximal_spans blocks) ≡ in_some_block a blocks)
 
 -- The number in a new node's name is the first for which the name names no node.

@@ -1,9 +1,12 @@
 //! Splitting and absorbing: nets that are made of others and keep every view.
 //!
-//! [`split::split`] divides each node that accepts and translates into one that translates and
-//! one that accepts. [`absorb::absorb`] makes each node that leads to a node lead where that node
-//! leads. Both give a new net, or say which limit it would pass; the laws that every view is kept
-//! stand in [`laws`].
+//! ```text
+//! let parts = split::split(alloc, &net)?;            // no node both translates and accepts
+//! let fewer = absorb::absorb(alloc, &net, node)?;    // past the node
+//! ```
+//!
+//! Both give a new net and leave the old one as it is, or say which limit the new one would pass,
+//! or why the node cannot be absorbed. [`laws`] says that every view is kept, and every rule.
 #![tactic(auto)]
 
 pub mod absorb;

@@ -214,7 +214,7 @@ fn pack(kinds: &Kinds, unit: &Unit, record: Record, packed: &mut [u64; 4])
     pack_by(&**kind, unit, record, packed);
 }
 
-/// The same, of this kind.
+/// Leaves the words of a record of this kind in the first places, and 0 in the others.
 fn pack_by(kind: &dyn UnitKind, unit: &Unit, record: Record, packed: &mut [u64; 4])
     requires { IsPackable (meaning kind.now) (unit_shape unit.now) «record» }
     ensures { packed.new ≡ (meaning kind.now).pack (unit_shape unit.now) «record»

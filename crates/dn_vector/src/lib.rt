@@ -1,8 +1,13 @@
 //! Routing lines of agents to interrupt vectors.
 //!
-//! [`route`](mod@route) is the call; [`refusal`](mod@refusal) tells which refusal holds before any
-//! vector is looked at, [`vectors`] which vectors of a node are free, and [`search`] the least of them
-//! that has an admissible placement.
+//! ```text
+//! let vector = route::route(alloc, &mut book, system, id, agent, line, node, &mut device)?;
+//! ```
+//!
+//! The answer is the least free vector of the node that has an admissible placement at the line,
+//! which is an address of the agent; or the first refusal that holds, and then nothing has changed.
+//! [`refusal`](mod@refusal) tells which refusal holds before any vector is looked at, [`vectors`]
+//! which vectors of a node are free, and [`search`] finds the least.
 #![tactic(auto)]
 
 pub mod refusal;

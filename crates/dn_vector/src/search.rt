@@ -75,8 +75,8 @@ pub fn least_vector(alloc: Global, asked: Asked) -> Result<Option<FoundRoute>, O
     least_of_blocks(alloc, asked, &reach, &taken, blocks)
 }
 
-/// The same of the vectors of blocks, which stand in order. Blocks past the vector that is found are not
-/// looked at.
+/// The least free vector of blocks, which stand in order, that has an admissible placement. Blocks past the
+/// vector that is found are not looked at.
 fn least_of_blocks(
     alloc: Global,
     asked: Asked,
@@ -116,7 +116,7 @@ fn later(one: u64, other: u64) -> u64
     if one < other { other } else { one }
 }
 
-/// The same of the vectors from a first to a last.
+/// The least free vector from a first to a last that has an admissible placement.
 fn least_between(
     alloc: Global,
     asked: Asked,

@@ -21,7 +21,7 @@ use Rattle.dn_tables.specs.Placement.{Place}
 use Rattle.dn_placement.specs.declared.request.Request.{Request}
 use Rattle.dn_placement.specs.Records.{hop_record, hop_rights, hops_records, or_record, placed_records}
 use Rattle.dn_walk.specs.Ends.{name_of_end}
-use Rattle.dn_view.specs.Near.{first_name, hop_near_by, hops_near, levels_near, name_count}
+use Rattle.dn_view.specs.Near.{first_slot_name, hop_near_by, hops_near, levels_near, name_count}
 use Rattle.dn_view.specs.Passes.{outputs_by}
 use Rattle.dn_view.specs.Records.{AreFitted, IsFitted, fresh_record, fresh_records}
 use Rattle.dn_view.proofs.Fitted.{IsHopRecord, hop_record_is}
@@ -61,7 +61,7 @@ near_given net size hops levels a z e =
   where
     by : (hop : Hop) (o : Option UnitPart) → hop_near_by o size hop levels a z ≡ true → levels_give levels a z ≡ true
     by hop None f = cc
-    by hop (Some u) f = levels_to (first_name u hop) (name_count u size hop) levels a z f
+    by hop (Some u) f = levels_to (first_slot_name u hop) (name_count u size hop) levels a z f
 
 module _ (net : List NodeDecl) (rq : Request) (p : Place) (fitted : AreFitted net rq p) (access : Access) (h : Held) (levels : List (List Row)) where
   abbrev fresh : Held
@@ -72,8 +72,8 @@ module _ (net : List NodeDecl) (rq : Request) (p : Place) (fitted : AreFitted ne
   by_hop a s u r given at k =
       member_any (λ (hop : Hop). hop_near_by (unit_at net hop.unit) rq.size hop levels a s) p.hops k.hop k.listed
       (subst (λ o. hop_near_by o rq.size k.hop levels a s ≡ true) (sym f.is_unit)
-      (subst (λ (z : End). levels_near (first_name f.unit k.hop) (name_count f.unit rq.size k.hop) levels a z ≡ true) (sym is)
-      (levels_from (first_name f.unit k.hop) (name_count f.unit rq.size k.hop) levels a i.0 i.1 (subst (λ (z : End). levels_give levels a z ≡ true) is given))))
+      (subst (λ (z : End). levels_near (first_slot_name f.unit k.hop) (name_count f.unit rq.size k.hop) levels a z ≡ true) (sym is)
+      (levels_from (first_slot_name f.unit k.hop) (name_count f.unit rq.size k.hop) levels a i.0 i.1 (subst (λ (z : End). levels_give levels a z ≡ true) is given))))
     where
       f : IsFitted net rq.size k.hop
       f = member_of_all (IsFitted net rq.size) p.hops k.hop fitted.hops k.listed
@@ -90,7 +90,7 @@ module _ (net : List NodeDecl) (rq : Request) (p : Place) (fitted : AreFitted ne
       i : (i : ℕ) × (i < name_count f.unit rq.size k.hop) × (s.base ≡ (k.hop.x - k.hop.x % 2 ^ f.unit.page) + i)
       i = in_slots (2 ^ f.unit.page) k.hop.x rq.size s.base (pow_pos f.unit.page) fitted.some (subst (λ n. k.hop.x / 2 ^ f.unit.page ≤ n) page here.from) (subst (λ n. n ≤ (k.hop.x + rq.size - 1) / 2 ^ f.unit.page) page here.to)
 
-      is : s ≡ further_end i.0 (first_name f.unit k.hop)
+      is : s ≡ further_end i.0 (first_slot_name f.unit k.hop)
       is = ap (λ n. record { node = n; base = s.base }) here.here ∙ ap (λ n. record { node = k.hop.unit; base = n }) i.2
 
   -- what comes to something by the fresh record of its slot stands in a slot of a hop

@@ -34,8 +34,8 @@ abbrev pub levels_near : End → ℕ → List (List Row) → ℕ → End → Boo
 levels_near t size levels a z = list_any (λ rows. rows_near t size rows a z) levels
 
 -- the first name of the first slot of a hop
-abbrev pub first_name : UnitPart → Hop → End
-first_name u hop = record { node = hop.unit; base = hop.x - hop.x % 2 ^ u.page }
+abbrev pub first_slot_name : UnitPart → Hop → End
+first_slot_name u hop = record { node = hop.unit; base = hop.x - hop.x % 2 ^ u.page }
 
 -- how many names there are from it up to the last of the last slot, where the hop has so many addresses
 abbrev pub name_count : UnitPart → ℕ → Hop → ℕ
@@ -48,7 +48,7 @@ name_count u size hop =
 abbrev pub hop_near_by : Option UnitPart → ℕ → Hop → List (List Row) → ℕ → End → Bool
 hop_near_by None size hop levels a z = false
 hop_near_by (Some u) size hop levels a z =
-    levels_near (first_name u hop) (name_count u size hop) levels a z
+    levels_near (first_slot_name u hop) (name_count u size hop) levels a z
 
 -- so it does by names of the slots of one of the hops
 abbrev pub hops_near : List NodeDecl → ℕ → List Hop → List (List Row) → ℕ → End → Bool

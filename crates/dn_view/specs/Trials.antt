@@ -46,8 +46,8 @@ IsExactIn means trial node =
     IsExactAt trial.system.on.net.now (trial_records means trial) trial.request.now trial.placement.now trial.access node
 
 -- the trial for reading
-abbrev pub reading : {K : Type 0} {V : K → Type 0} → Trial K V → Trial K V
-reading trial = record {
+abbrev pub reading_trial : {K : Type 0} {V : K → Type 0} → Trial K V → Trial K V
+reading_trial trial = record {
   system = trial.system;
   tables = trial.tables;
   request = trial.request;

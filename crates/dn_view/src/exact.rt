@@ -10,7 +10,7 @@ ghost use Rattle.dn_kind.specs.Terms.{allows, are_rights, kinds_of};
 ghost use Rattle.dn_tables.specs.Terms.{FitsNet, record_kept};
 ghost use Rattle.dn_placement.specs.Terms.{IsAdmissible, IsPlacement, slots_of_set};
 ghost use Rattle.dn_walk.specs.Terms.{name_of_end};
-ghost use Rattle.dn_view.specs.Terms.{AreExactAmong, AreExactIn, ComesIn, IsAskedAt, IsExactIn, IsPassedIn, IsSystem, IsTrial, are_buffer, is_buffer_end, is_buffer_row, is_part_of_buffer, reading};
+ghost use Rattle.dn_view.specs.Terms.{AreExactAmong, AreExactIn, ComesIn, IsAskedAt, IsExactIn, IsPassedIn, IsSystem, IsTrial, are_buffer, is_buffer_end, is_buffer_row, is_part_of_buffer, reading_trial};
 
 use crate::OutOfMemory;
 use crate::course::Course;
@@ -74,7 +74,7 @@ pub fn exact<'a>(
 /// be known that every agent does so for reading: then those are passed over that show the same for writing.
 fn exact_for(alloc: Global, trial: Trial, is_read: bool) -> Result<bool, OutOfMemory>
     requires trial { IsTrial meaning trial }
-    requires reading { IsTrue is_read → AreExactIn meaning (reading trial) }
+    requires reading { IsTrue is_read → AreExactIn meaning (reading_trial trial) }
     ensures { IfOk result (λ is_exact. IsTrue is_exact ↔ AreExactIn meaning trial.entry) }
 {
     let own = exact_at(alloc, trial, trial.request.agent, is_read)?;
@@ -100,7 +100,7 @@ fn exact_for(alloc: Global, trial: Trial, is_read: bool) -> Result<bool, OutOfMe
 /// request's agent does so, and it may be known that every agent does so for reading.
 fn are_exact(alloc: Global, trial: Trial, nodes: &[u16], is_read: bool) -> Result<bool, OutOfMemory>
     requires trial { IsTrial meaning trial }
-    requires reading { IsTrue is_read → AreExactIn meaning (reading trial) }
+    requires reading { IsTrue is_read → AreExactIn meaning (reading_trial trial) }
     requires own { IsTrue (is_agent_at (slice_get trial.system.on.net.now
         trial.request.now.agent)) → IsExactIn meaning trial trial.request.now.agent }
     ensures { IfOk result (λ are. IsTrue are ↔ AreExactAmong meaning trial.entry nodes.now) }
@@ -122,7 +122,7 @@ fn are_exact(alloc: Global, trial: Trial, nodes: &[u16], is_read: bool) -> Resul
 fn exact_at(alloc: Global, trial: Trial, node: u16, is_read: bool) -> Result<bool, OutOfMemory>
     requires trial { IsTrial meaning trial }
     requires reading { IsTrue is_read → IsTrue (is_agent_at
-        (slice_get trial.system.on.net.now node)) → IsExactIn meaning (reading trial) node }
+        (slice_get trial.system.on.net.now node)) → IsExactIn meaning (reading_trial trial) node }
     ensures { IfOk result (λ is_exact. IsTrue is_exact ↔ (IsTrue (is_agent_at
         (slice_get trial.entry.system.on.net.now node)) → IsExactIn meaning trial.entry node)) }
 {

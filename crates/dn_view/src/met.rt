@@ -9,7 +9,7 @@ ghost use Rattle.dn_net.specs.declared.node.Unit.{Unit as UnitPart};
 ghost use Rattle.dn_net.specs.Terms.{unit_at};
 ghost use Rattle.dn_walk.specs.Terms.{name_of_end};
 ghost use Rattle.dn_flat.specs.Terms.{levels_give};
-ghost use Rattle.dn_view.specs.Terms.{ComesIn, IsFitted, IsSystem, IsTrial, first_name, hop_near_by, hops_near, leads_on, name_count, stops_of};
+ghost use Rattle.dn_view.specs.Terms.{ComesIn, IsFitted, IsSystem, IsTrial, first_slot_name, hop_near_by, hops_near, leads_on, name_count, stops_of};
 
 use crate::OutOfMemory;
 use crate::near::push_near;
@@ -100,7 +100,7 @@ fn slot_names(checked: CheckedNet, size: u64, hop: Hop) -> (End, u64)
     requires some { 1 ≤ size }
     requires fitted { IsFitted checked.net.now size hop }
     ensures first { (u : UnitPart) → unit_at checked.entry.net.now hop.unit ≡ Some u
-        → result.0 ≡ first_name u hop }
+        → result.0 ≡ first_slot_name u hop }
     ensures count { (u : UnitPart) → unit_at checked.entry.net.now hop.unit ≡ Some u
         → result.1 ≡ name_count u size hop }
 {

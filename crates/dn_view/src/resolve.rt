@@ -54,8 +54,8 @@ pub fn resolve<'a>(
     set_of(alloc, found)
 }
 
-/// The same of a name that leads to few, which are followed one by one, level by level. `None` says nothing of the
-/// name, beside that [`resolve`] is to answer. `Err` is want of memory.
+/// What a name that leads to few names resolves to for an access under the tables: they are followed one by one, level
+/// by level. `None` says nothing of the name: [`resolve`] is to answer then. `Err` is want of memory.
 pub fn resolve_few(
     alloc: Global,
     on: KindedNet,

@@ -33,7 +33,7 @@ pub(crate) fn first_chain(
     chain_by(alloc, checked, &next, units)
 }
 
-/// The same, by the units to which each node leads.
+/// The first row of units that breaks the rule, by the units to which each node leads.
 fn chain_by(
     alloc: Global,
     checked: CheckedNet,

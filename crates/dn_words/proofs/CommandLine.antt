@@ -16,7 +16,7 @@ use Rattle.clap.specs.declared.error.kind.ErrorKind.{ErrorKind}
 use Rattle.clap.specs.declared.error.kind.ErrorKind.TheVariants.{UnknownArgument, MissingRequiredArgument}
 use Rattle.clap.proofs.WalkLemmas.{first_value-rows}
 use Rattle.dn_base.proofs.Booleans.{and_parts, not-true}
-use Rattle.dn_words.specs.Split.{Split, parts_found, parts_of, program}
+use Rattle.dn_words.specs.Split.{Split, parts_found, words_apart, program}
 use Rattle.dn_words.specs.Words.{is_plain_word}
 
 -- the program once it is built
@@ -147,7 +147,7 @@ found_in f =
     (first_value-rows f (codes "N")) (first_value-rows f (codes "COMMAND"))
 
 -- words of which none begins with `-`, where they have no fault, are split into what was found in them
-pub found_parts : (ws : List Text) → list_all is_plain_word ws ≡ true → fault_of program ws ≡ [] → (f : Found) → rows_of f ≡ matches_of program ws → parts_found f ≡ parts_of ws
+pub found_parts : (ws : List Text) → list_all is_plain_word ws ≡ true → fault_of program ws ≡ [] → (f : Found) → rows_of f ≡ matches_of program ws → parts_found f ≡ words_apart ws
 unfolding parts_in
 found_parts [] plain e f r = let bad : MissingRequiredArgument ∷ [] ≡ [] = sym fault_none ∙ e in cc
 found_parts (w ∷ []) plain e f r =
@@ -166,7 +166,7 @@ found_parts (w ∷ n ∷ x ∷ rest) plain e f r =
     cc
 
 -- and where they have one, they are neither one word nor two
-pub no_parts : (ws : List Text) → list_all is_plain_word ws ≡ true → (k : ErrorKind) → IsAmong k (fault_of program ws) → None ≡ parts_of ws
+pub no_parts : (ws : List Text) → list_all is_plain_word ws ≡ true → (k : ErrorKind) → IsAmong k (fault_of program ws) → None ≡ words_apart ws
 no_parts [] plain k a = refl
 no_parts (w ∷ []) plain k a =
     let p = is_word w (and_parts (is_plain_word w) true plain).0 in

@@ -27,14 +27,14 @@ abbrev pub Split : Type 0
 Split = List ℕ × Option (List ℕ)
 
 -- the bytes of the parts
-abbrev pub parts_view : CommandWords → Split
-parts_view p = (p.command.now, option_map (λ s. s.now) p.number)
+abbrev pub split_view : CommandWords → Split
+split_view p = (p.command.now, option_map (λ s. s.now) p.number)
 
 -- one word, or two
-abbrev pub parts_of : List (List ℕ) → Option Split
-parts_of (command ∷ []) = Some (command, None)
-parts_of (command ∷ number ∷ []) = Some (command, Some number)
-parts_of _ = None
+abbrev pub words_apart : List (List ℕ) → Option Split
+words_apart (command ∷ []) = Some (command, None)
+words_apart (command ∷ number ∷ []) = Some (command, Some number)
+words_apart _ = None
 
 -- what was found for the two arguments
 abbrev pub parts_found : Found → Option Split

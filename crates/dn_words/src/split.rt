@@ -4,7 +4,7 @@ ghost use Rattle.std.specs.Prelude.{◌≡◌, map, option_map, IfOk, IsTrue};
 ghost use Rattle.std.specs.List.{list_all};
 ghost use Rattle.std.specs.String.{string_bytes};
 ghost use Rattle.clap.specs.Words.{app_of, found_of};
-ghost use Rattle.dn_words.specs.Terms.{is_plain_word, parts_found, parts_of, parts_view, program};
+ghost use Rattle.dn_words.specs.Terms.{is_plain_word, parts_found, words_apart, split_view, program};
 
 use crate::OutOfMemory;
 use clap::error::ErrorKind;
@@ -27,8 +27,8 @@ pub(crate) fn split<'a>(
     words: &'a [String],
 ) -> Result<Option<CommandWords<'a>>, OutOfMemory>
     requires { IsTrue (list_all (λ s. is_plain_word (string_bytes s)) words.now) }
-    ensures { IfOk result (λ parts. option_map parts_view parts
-        ≡ parts_of (map (λ s. string_bytes s) words.entry.now)) }
+    ensures { IfOk result (λ parts. option_map split_view parts
+        ≡ words_apart (map (λ s. string_bytes s) words.entry.now)) }
 {
     match program(alloc)?.try_get_matches_from(words) {
         Ok(matches) => Ok(parts_found(&matches)),
@@ -54,7 +54,7 @@ fn program<'a>(alloc: Global) -> Result<Command<'a>, OutOfMemory>
 
 /// The words that were found.
 fn parts_found<'a>(matches: &ArgMatches<'a>) -> Option<CommandWords<'a>>
-    ensures { option_map parts_view result ≡ parts_found (found_of matches.now) }
+    ensures { option_map split_view result ≡ parts_found (found_of matches.now) }
 {
     let command = matches.get_str("COMMAND")?;
     Some(CommandWords {

@@ -30,8 +30,8 @@ pub record IsDesk {K : Type 0} {V : K → Type 0} (means : (k : K) × V k → Me
   pub on_device : IsOnDevice d.book.set (sizes_of d.device.tables) (Some d.device.tables)
 
 -- a placement of the request in the slots as the tables of a desk leave them
-abbrev pub IsPlacedAt : {K : Type 0} {V : K → Type 0} → ((k : K) × V k → Meaning) → Desk K V → Request → Place → Type 0
-IsPlacedAt means d rq p = IsPlacement d.system.on.net.now (slots_of_set (kinds_of means d.system.on.kinds.now) d.book.set) rq p
+abbrev pub IsPlacementAtDesk : {K : Type 0} {V : K → Type 0} → ((k : K) × V k → Meaning) → Desk K V → Request → Place → Type 0
+IsPlacementAtDesk means d rq p = IsPlacement d.system.on.net.now (slots_of_set (kinds_of means d.system.on.kinds.now) d.book.set) rq p
 
 -- the buffer ends at the last address or before
 abbrev pub EndsWithin : Request → Type 0

@@ -2,7 +2,7 @@
 
 ghost use Rattle.std.specs.Prelude.{◌≡◌, ◌≤◌, IfOk, IfSome, IsTrue};
 ghost use Rattle.dn_kind.specs.Terms.{are_rights};
-ghost use Rattle.test_tables.specs.Terms.{EndsWithin, IsDesk, IsPlacedAt, part};
+ghost use Rattle.test_tables.specs.Terms.{EndsWithin, IsDesk, IsPlacementAtDesk, part};
 
 use crate::desk::Desk;
 use crate::own::is_hop_free;
@@ -126,7 +126,7 @@ pub fn is_exact_on(
     rights: Rights,
 ) -> Result<Option<bool>, Unmade>
     requires desk { IsDesk meaning desk.now }
-    requires placed { IsPlacedAt meaning desk.now request.now placement.now }
+    requires placed { IsPlacementAtDesk meaning desk.now request.now placement.now }
 {
     if size == 0 || size > request.size || !are_rights(rights) {
         return Ok(None);
@@ -148,8 +148,8 @@ pub fn with_own(
     own: u8,
 ) -> Option<Placement>
     requires desk { IsDesk meaning desk.now }
-    requires placed { IsPlacedAt meaning desk.now request.now placement.now }
-    ensures placed { IfSome result (IsPlacedAt meaning desk.now request.now) }
+    requires placed { IsPlacementAtDesk meaning desk.now request.now placement.now }
+    ensures placed { IfSome result (IsPlacementAtDesk meaning desk.now request.now) }
 {
     let hops = placement.hops();
     let hop = *hops.get(usize::from(own))?;
@@ -170,7 +170,7 @@ pub fn first_on(
 ) -> Result<Option<Placement>, Unmade>
     requires desk { IsDesk meaning desk.now }
     ensures placed { IfOk result
-        (λ found. IfSome found (IsPlacedAt meaning desk.now request.now)) }
+        (λ found. IfSome found (IsPlacementAtDesk meaning desk.now request.now)) }
 {
     let system = desk.system;
     if !is_agent(system.on.net, request.agent) || !is_formed(request) {

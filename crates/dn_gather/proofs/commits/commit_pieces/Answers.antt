@@ -10,7 +10,7 @@ use Rattle.dn_book.proofs.Facts.{changed_book}
 use Rattle.dn_gather.specs.declared.piece.Piece.{Piece}
 use Rattle.dn_gather.specs.Commits.{AreCommitted}
 use Rattle.dn_gather.specs.Gather.{grants_of}
-use Rattle.dn_gather.specs.Grants.{grant_at}
+use Rattle.dn_gather.specs.Grants.{piece_grant}
 use Rattle.dn_gather.proofs.Committing.{all_came, all_left, count_grants, fenced, less_left, next_comes, next_is, none_came, one_came, one_stopped}
 use Rattle.dn_gather.proofs.commits.commit_pieces.Given.{Over}
 use Rattle.dn_gather.proofs.commits.commit_pieces.Goals.{After-grant_of-grant}
@@ -23,10 +23,10 @@ abbrev no_hop : Hop
 no_hop = record { unit = 0; port = 0; x = 0; y = 0 }
 
 -- the grant of the next piece
-next : (g : Over) (c : After-grant_of-grant g) → c.grant_of-grant.result ≡ grant_at c.args.agent c.args.rights c.loop-k.a (get_or c.args.pieces.now c.loop-k.k no_piece) (get_or c.args.scatter.now.hops c.loop-k.k no_hop)
+next : (g : Over) (c : After-grant_of-grant g) → c.grant_of-grant.result ≡ piece_grant c.args.agent c.args.rights c.loop-k.a (get_or c.args.pieces.now c.loop-k.k no_piece) (get_or c.args.scatter.now.hops c.loop-k.k no_hop)
 next g c =
     let lent : c.as_slice-hops.result.now ≡ c.args.scatter.now.hops = search rules in
-    subst (λ (hops : List Hop). c.grant_of-grant.result ≡ grant_at c.args.agent c.args.rights c.loop-k.a (get_or c.args.pieces.now c.loop-k.k no_piece) (get_or hops c.loop-k.k no_hop)) lent c.grant_of-grant.ensures
+    subst (λ (hops : List Hop). c.grant_of-grant.result ≡ piece_grant c.args.agent c.args.rights c.loop-k.a (get_or c.args.pieces.now c.loop-k.k no_piece) (get_or hops c.loop-k.k no_hop)) lent c.grant_of-grant.ensures
 
 -- it is one of the grants
 there : (g : Over) (c : After-grant_of-grant g) → c.loop-k.k < length (grants_of c.args.agent c.args.rights c.args.pieces.now c.args.scatter.now)

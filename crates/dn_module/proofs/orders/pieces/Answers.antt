@@ -2,7 +2,7 @@ use Rattle.std.proofs.Common.{rules, ◌≡◌, ◌∙◌, ap, ℕ, ◌+◌, ◌
 use Rattle.dn_base.proofs.Lists.{drop_at, list_all-last}
 use Rattle.dn_parse.specs.Views.{piece_view}
 use Rattle.dn_module.specs.declared.command.PieceTarget.{PieceTarget}
-use Rattle.dn_module.specs.Commands.{node_within, piece_of, pieces_within}
+use Rattle.dn_module.specs.Commands.{node_within, piece_target, pieces_within}
 use Rattle.dn_scope.specs.Values.{◌>>=◌, each}
 use Rattle.dn_scope.proofs.Each.{after_one, followed}
 use Rattle.dn_module.proofs.orders.pieces.Goals as goal
@@ -23,6 +23,6 @@ loop-expr-preserved c =
     let i = c.loop-expr.expr-index in
     let longer : c.push.new.self ≡ c.loop-expr.made ++ c.in_ok-piece.piece ∷ [] = search rules in
     record {
-      made = made_seen (piece_of c.args.names.now) piece_view asked i c.expr-item.result c.in_ok-piece.piece c.loop-expr.made c.push.new.self c.loop-expr-test.true c.expr-item.is c.in_ok-piece.ensures.made longer c.loop-expr.invariant.made;
+      made = made_seen (piece_target c.args.names.now) piece_view asked i c.expr-item.result c.in_ok-piece.piece c.loop-expr.made c.push.new.self c.loop-expr-test.true c.expr-item.is c.in_ok-piece.ensures.made longer c.loop-expr.invariant.made;
       known = subst (λ (ps : List PieceTarget). IsTrue (pieces_within (length c.args.names.now) ps)) (sym longer) (list_all-last (λ (p : PieceTarget). node_within (length c.args.names.now) p.node.node) c.loop-expr.made c.in_ok-piece.piece c.loop-expr.invariant.known c.in_ok-piece.ensures.known);
     }

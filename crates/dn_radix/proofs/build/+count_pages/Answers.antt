@@ -1,5 +1,5 @@
 use Rattle.std.proofs.Common.{◌≡◌, ◌-◌, ◌*◌, false, true, ap, arith, rules, drop}
-use Rattle.dn_radix.specs.Tree.{is_zero, page_count, pages_of, room}
+use Rattle.dn_radix.specs.Tree.{are_all_zero, page_count, pages_of, room}
 use Rattle.dn_radix.proofs.Pieces.{tree_few}
 use Rattle.dn_radix.proofs.Steps.{count_first, count_begun, none_left, pages_pass, pages_take}
 use Rattle.dn_radix.proofs.build.+count_pages.Goals as goal
@@ -13,7 +13,7 @@ loop-k-init t c = count_begun c.args.level c.args.leaves.words.now c.if-level-eq
 
 pub overflow_add-count : goal.overflow_add-count
 overflow_add-count t c =
-    let z : is_zero c.piece-part.result.words.now ≡ false = search rules in
+    let z : are_all_zero c.piece-part.result.words.now ≡ false = search rules in
     let on = pages_take (page_count (c.args.level - 1)) 512 (room (c.args.level - 1)) c.loop-k.k c.loop-k.count (page_count c.args.level c.args.leaves.words.now) c.args.leaves.words.now c.piece-part.result.words.now c.loop-k-test.true c.piece-part.ensures z c.loop-k.invariant in
     let few = tree_few c.args.level c.args.leaves.words.now c.requires in
     let e = c.count_pages-count.ensures in
@@ -23,13 +23,13 @@ pub loop-k-preserved : goal.loop-k-preserved
 loop-k-preserved t c =
     elim c.if-not-are_zero.branch [
       | then-not-are_zero w ↦
-          let z : is_zero c.piece-part.result.words.now ≡ false = search rules in
+          let z : are_all_zero c.piece-part.result.words.now ≡ false = search rules in
           let on = pages_take (page_count (c.args.level - 1)) 512 (room (c.args.level - 1)) c.loop-k.k c.loop-k.count (page_count c.args.level c.args.leaves.words.now) c.args.leaves.words.now c.piece-part.result.words.now c.loop-k-test.true c.piece-part.ensures z c.loop-k.invariant in
           let e = w.count_pages-count.ensures in
           let f = w.count-is in
           omega (arith, on, e, f)
       | else-not-are_zero w ↦
-          let z : is_zero c.piece-part.result.words.now ≡ true = search rules in
+          let z : are_all_zero c.piece-part.result.words.now ≡ true = search rules in
           let on = pages_pass (page_count (c.args.level - 1)) 512 (room (c.args.level - 1)) c.loop-k.k c.loop-k.count (page_count c.args.level c.args.leaves.words.now) c.args.leaves.words.now c.piece-part.result.words.now c.loop-k-test.true c.piece-part.ensures z c.loop-k.invariant in
           let f = w.count-is in
           omega (arith, on, f)

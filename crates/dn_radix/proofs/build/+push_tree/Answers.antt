@@ -1,5 +1,5 @@
 use Rattle.std.proofs.Common.{◌≡◌, ◌∙◌, ◌+◌, ◌-◌, ◌*◌, ◌≤◌, ◌++◌, false, true, List, ℕ, length, sym, ap, arith, rules, subst, drop, append-nil}
-use Rattle.dn_radix.specs.Tree.{entries, is_zero, page_count, pages_of, pieces, room, tree, trees, word_bytes}
+use Rattle.dn_radix.specs.Tree.{entries, are_all_zero, page_count, pages_of, pieces, room, tree, trees, joined_bytes}
 use Rattle.dn_radix.proofs.Pieces.{length_entries, length_pieces, piece_fits, pieces_first}
 use Rattle.dn_radix.proofs.Steps.{begun, count_begun, tree_is, none_left, pages_pass, pages_take, trees_pass, trees_take}
 use Rattle.dn_radix.proofs.build.+push_tree.Goals as goal
@@ -38,7 +38,7 @@ loop-k-init t c =
 
 pub push_tree-requires : goal.push_tree-requires
 push_tree-requires t c =
-    let z : is_zero c.piece-part.result.words.now ≡ false = search rules in
+    let z : are_all_zero c.piece-part.result.words.now ≡ false = search rules in
     let on = pages_take (page_count (c.args.level - 1)) 512 (room (c.args.level - 1)) c.loop-k.k c.loop-k.next (c.args.at + page_count c.args.level c.args.leaves.words.now) c.args.leaves.words.now c.piece-part.result.words.now c.loop-k-test.true c.piece-part.ensures z c.loop-k.invariant.pages in
     let few = c.requires.few in
     let fits = subst (λ (q : List ℕ). length q ≤ room (c.args.level - 1)) (sym c.piece-part.ensures) (piece_fits (room (c.args.level - 1)) (drop (c.loop-k.k * room (c.args.level - 1)) c.args.leaves.words.now)) in
@@ -46,7 +46,7 @@ push_tree-requires t c =
 
 pub overflow_add-next-then-not-are_zero : goal.overflow_add-next-then-not-are_zero
 overflow_add-next-then-not-are_zero t c =
-    let z : is_zero c.piece-part.result.words.now ≡ false = search rules in
+    let z : are_all_zero c.piece-part.result.words.now ≡ false = search rules in
     let on = pages_take (page_count (c.args.level - 1)) 512 (room (c.args.level - 1)) c.loop-k.k c.loop-k.next (c.args.at + page_count c.args.level c.args.leaves.words.now) c.args.leaves.words.now c.piece-part.result.words.now c.loop-k-test.true c.piece-part.ensures z c.loop-k.invariant.pages in
     let few = c.requires.few in
     let e = c.count_pages-next.ensures in
@@ -59,29 +59,29 @@ loop-k-preserved t c =
     let size : ℕ = room (c.args.level - 1) in
     let ws : List ℕ = c.args.leaves.words.now in
     let all : ℕ = c.args.at + page_count c.args.level ws in
-    let whole : List ℕ = c.args.out.now.items ++ word_bytes (tree c.args.level c.args.at ws) in
+    let whole : List ℕ = c.args.out.now.items ++ joined_bytes (tree c.args.level c.args.at ws) in
     let p : List ℕ = c.piece-part.result.words.now in
     let rest : List (List ℕ) = pieces (512 - (c.loop-k.k + 1)) size (drop ((c.loop-k.k + 1) * size) ws) in
     elim c.if-not-are_zero.branch [
       | then-not-are_zero+in_ok-push_tree w ↦
-          let z : is_zero p ≡ false = search rules in
+          let z : are_all_zero p ≡ false = search rules in
           let on = pages_take f 512 size c.loop-k.k c.loop-k.next all ws p c.loop-k-test.true c.piece-part.ensures z c.loop-k.invariant.pages in
           let e : c.if-not-are_zero.next ≡ c.loop-k.next + f p = w.next-is ∙ ap (λ m. c.loop-k.next + m) w.count_pages-next.ensures in
-          let o : c.if-not-are_zero.out.items ≡ c.loop-k.out.items ++ word_bytes (made c.loop-k.next p) = ap (λ v. v.items) w.out-is ∙ w.in_ok-push_tree.ensures in
+          let o : c.if-not-are_zero.out.items ≡ c.loop-k.out.items ++ joined_bytes (made c.loop-k.next p) = ap (λ v. v.items) w.out-is ∙ w.in_ok-push_tree.ensures in
           let trees' = trees_take f made 512 size c.loop-k.k c.loop-k.next ws p c.loop-k.out.items c.if-not-are_zero.out.items whole c.loop-k-test.true c.piece-part.ensures z o c.loop-k.invariant.made in
           record {
             pages = omega (arith, on, e);
-            made = ap (λ m. c.if-not-are_zero.out.items ++ word_bytes (trees f made m rest)) e ∙ trees';
+            made = ap (λ m. c.if-not-are_zero.out.items ++ joined_bytes (trees f made m rest)) e ∙ trees';
           }
       | else-not-are_zero w ↦
-          let z : is_zero p ≡ true = search rules in
+          let z : are_all_zero p ≡ true = search rules in
           let on = pages_pass f 512 size c.loop-k.k c.loop-k.next all ws p c.loop-k-test.true c.piece-part.ensures z c.loop-k.invariant.pages in
           let e = w.next-is in
           let o : c.if-not-are_zero.out.items ≡ c.loop-k.out.items = ap (λ v. v.items) w.out-is in
           let trees' = trees_pass f made 512 size c.loop-k.k c.loop-k.next ws p c.loop-k.out.items whole c.loop-k-test.true c.piece-part.ensures z c.loop-k.invariant.made in
           record {
             pages = omega (arith, on, e);
-            made = ap (λ (r : List ℕ). r ++ word_bytes (trees f made c.if-not-are_zero.next rest)) o ∙ ap (λ m. c.loop-k.out.items ++ word_bytes (trees f made m rest)) e ∙ trees';
+            made = ap (λ (r : List ℕ). r ++ joined_bytes (trees f made c.if-not-are_zero.next rest)) o ∙ ap (λ m. c.loop-k.out.items ++ joined_bytes (trees f made m rest)) e ∙ trees';
           }
     ]
 
@@ -89,5 +89,5 @@ pub returns : goal.returns
 returns t c =
     let none = none_left 512 c.loop-k.k (room (c.args.level - 1)) (drop (c.loop-k.k * room (c.args.level - 1)) c.args.leaves.words.now) c.loop-k-test.false in
     sym (append-nil c.loop-k.out.items)
-    ∙ ap (λ (ps : List (List ℕ)). c.loop-k.out.items ++ word_bytes (trees (page_count (c.args.level - 1)) (tree (c.args.level - 1)) c.loop-k.next ps)) (sym none)
+    ∙ ap (λ (ps : List (List ℕ)). c.loop-k.out.items ++ joined_bytes (trees (page_count (c.args.level - 1)) (tree (c.args.level - 1)) c.loop-k.next ps)) (sym none)
     ∙ c.loop-k.invariant.made

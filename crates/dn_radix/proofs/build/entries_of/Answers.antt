@@ -1,12 +1,12 @@
 use Rattle.std.proofs.Common.{◌≡◌, ◌∙◌, ◌+◌, ◌-◌, ◌*◌, ◌++◌, [], ◌∷◌, false, true, List, ℕ, sym, ap, arith, rules, drop, append-nil}
-use Rattle.dn_radix.specs.Tree.{entries, is_zero, page_count, pages_of, pieces, room}
+use Rattle.dn_radix.specs.Tree.{entries, are_all_zero, page_count, pages_of, pieces, room}
 use Rattle.dn_radix.proofs.Steps.{none_left, pages_pass, pages_take, entries_pass, entries_take}
 use Rattle.dn_radix.proofs.build.entries_of.Goals as goal
 use Rattle.dn_radix.proofs.build.entries_of.Goals.{then-are_zero+in_ok-push, else-are_zero+in_ok-push-2}
 
 pub overflow_add-next : goal.overflow_add-next
 overflow_add-next c =
-    let z : is_zero c.piece-part.result.words.now ≡ false = search rules in
+    let z : are_all_zero c.piece-part.result.words.now ≡ false = search rules in
     let whole : ℕ = c.args.first + pages_of (page_count c.args.below) (pieces 512 (room c.args.below) c.args.leaves.words.now) in
     let on = pages_take (page_count c.args.below) 512 (room c.args.below) c.loop-k.k c.loop-k.next whole c.args.leaves.words.now c.piece-part.result.words.now c.loop-k-test.true c.piece-part.ensures z c.loop-k.invariant.pages in
     let few = c.requires.few in
@@ -24,7 +24,7 @@ loop-k-preserved c =
     let rest : List (List ℕ) = pieces (512 - (c.loop-k.k + 1)) size (drop ((c.loop-k.k + 1) * size) ws) in
     elim c.if-are_zero.branch [
       | then-are_zero+in_ok-push w ↦
-          let z : is_zero p ≡ true = search rules in
+          let z : are_all_zero p ≡ true = search rules in
           let on = pages_pass f 512 size c.loop-k.k c.loop-k.next all ws p c.loop-k-test.true c.piece-part.ensures z c.loop-k.invariant.pages in
           let e = w.next-is in
           let o : c.if-are_zero.list.items ≡ c.loop-k.list.items ++ 0 ∷ [] = ap (λ v. v.items) w.list-is ∙ w.in_ok-push.ensures.items in
@@ -34,7 +34,7 @@ loop-k-preserved c =
             made = ap (λ n. c.if-are_zero.list.items ++ entries f n rest) e ∙ made;
           }
       | else-are_zero+in_ok-push-2 w ↦
-          let z : is_zero p ≡ false = search rules in
+          let z : are_all_zero p ≡ false = search rules in
           let on = pages_take f 512 size c.loop-k.k c.loop-k.next all ws p c.loop-k-test.true c.piece-part.ensures z c.loop-k.invariant.pages in
           let n = w.count_pages-next.ensures in
           let e : c.if-are_zero.next ≡ c.loop-k.next + f p = w.next-is ∙ ap (λ m. c.loop-k.next + m) n in

@@ -20,7 +20,7 @@ revoke a;
 grant b dma dram 0x6000 0x1000;
 ";
 
-/// The same for the card behind two units in a row.
+/// What is played for the card behind two units in a row.
 pub(crate) const FOR_PHI: &str = "grant a phi dram 0x4000 0x1000;
 revoke a;
 grant b phi dram 0x6000 0x1000;
