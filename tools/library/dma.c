@@ -9,7 +9,7 @@
  *
  * usage: dma [CALLS [SEED]]
  */
-#include "heap.h"
+#include <netconf_heap.h>
 #include <netconf.h>
 #include <stdio.h>
 #include <stdlib.h>

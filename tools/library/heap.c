@@ -3,7 +3,7 @@
  * A heap over an array: blocks of powers of two, each kept for its size once it was given back. It needs no C library, and
  * its memory never grows. Each block has a header of 16 bytes with the logarithm of its size.
  */
-#include "heap.h"
+#include <netconf_heap.h>
 
 #ifndef HEAP_SIZE
 #define HEAP_SIZE (64u << 20)

@@ -1,6 +1,6 @@
 /* SPDX-License-Identifier: Apache-2.0 */
 /* The heap of the library over malloc. A program that has functions of these names of its own is linked without this file. */
-#include "heap.h"
+#include <netconf_heap.h>
 #include <stdlib.h>
 
 static struct rattle_block block_of(void *at)

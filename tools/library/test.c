@@ -1,11 +1,11 @@
 /* SPDX-License-Identifier: Apache-2.0 */
 /*
- * Tests of the library from C: every call, every status, a closed session, places that are too small, allocation failing
- * at each call in turn, and a long history of grants and revokes whose events are performed on tables of this file.
+ * Tests of the library from C: every call, every status, a closed session, places that are too small, and each allocation
+ * failing in turn, after which the call has changed nothing and is done when it is made again.
  *
- * Without an argument all tests are run. It prints a line for each test, and ends with 1 where one failed.
+ * All tests are run. It prints a line for each, and ends with 1 where one failed.
  */
-#include "heap.h"
+#include <netconf_heap.h>
 #include <netconf.h>
 #include <stdio.h>
 #include <stdlib.h>
@@ -142,7 +142,13 @@ static void test_closed(void)
     CHECK(netconf_grant(&session, 1, 0, 0, 0, 1, NETCONF_READ, &address) == NETCONF_CLOSED);
     CHECK(netconf_grant_at(&session, 1, 0, 0, 0, 1, NETCONF_READ, 0, &address) == NETCONF_CLOSED);
     CHECK(address == 7);
+    CHECK(netconf_route(&session, 1, 0, 0, 0, &address) == NETCONF_CLOSED);
+    CHECK(address == 7);
     CHECK(netconf_revoke(&session, 1) == NETCONF_CLOSED);
+    CHECK(netconf_resolve(&session, 0, 0, NETCONF_FOR_READ, NULL, 0, &count) == NETCONF_CLOSED);
+    CHECK(netconf_view(&session, 0, NETCONF_FOR_READ, 0, NULL, 0, &count) == NETCONF_CLOSED);
+    CHECK(netconf_image(&session, out, sizeof out, &count) == NETCONF_CLOSED);
+    CHECK(count == 7);
     CHECK(netconf_pending(&session, 0, events, 1, &count) == NETCONF_CLOSED);
     CHECK(count == 0);
     CHECK(netconf_settle(&session) == NETCONF_CLOSED);
@@ -274,22 +280,290 @@ static void test_events(void)
     netconf_close(&session);
 }
 
-#define CALLS 4
+/* What agents see, before and after grants. */
+static void test_seeing(void)
+{
+    struct netconf session = {0};
+    struct netconf_place places[2];
+    struct netconf_row rows[4];
+    uint8_t line[1];
+    size_t written, count = 7;
+    uint64_t address;
+    uint16_t card, dram, core;
+
+    CHECK(open_text(&session, description, line, 0, &written) == NETCONF_DONE);
+    card = node(&session, "card");
+    dram = node(&session, "dram");
+    core = node(&session, "core0");
+    memset(places, 0, sizeof places);
+    memset(rows, 0, sizeof rows);
+    CHECK(netconf_resolve(&session, 6, 0, NETCONF_FOR_READ, places, 2, &count) == NETCONF_NO_NODE);
+    CHECK(netconf_resolve(&session, card, 0, 0, places, 2, &count) == NETCONF_BAD_ARGUMENT);
+    CHECK(netconf_resolve(&session, card, 0, 3, places, 2, &count) == NETCONF_BAD_ARGUMENT);
+    CHECK(netconf_view(&session, 6, NETCONF_FOR_READ, 0, rows, 4, &count) == NETCONF_NO_NODE);
+    CHECK(netconf_view(&session, card, 3, 0, rows, 4, &count) == NETCONF_BAD_ARGUMENT);
+    CHECK(count == 7 && places[0].node == 0 && rows[0].last == 0);
+    CHECK(netconf_resolve(&session, card, 0, NETCONF_FOR_READ, places, 2, &count) == NETCONF_DONE && count == 0);
+    CHECK(netconf_view(&session, card, NETCONF_FOR_READ, 0, rows, 4, &count) == NETCONF_DONE && count == 0);
+    CHECK(netconf_grant(&session, 1, card, dram, 0x9000, 0x2000, NETCONF_READ, &address) == NETCONF_DONE);
+    CHECK(netconf_grant_at(&session, 2, card, dram, 0x4000, 0x1000, NETCONF_READ_WRITE, 0x3000, &address)
+          == NETCONF_DONE);
+    CHECK(netconf_resolve(&session, card, 0x1008, NETCONF_FOR_READ, places, 0, &count) == NETCONF_DONE);
+    CHECK(count == 1 && places[0].address == 0);
+    CHECK(netconf_resolve(&session, card, 0x1008, NETCONF_FOR_READ, places, 2, &count) == NETCONF_DONE);
+    CHECK(count == 1 && places[0].node == dram && places[0].unused == 0 && places[0].address == 0xa008);
+    CHECK(netconf_resolve(&session, card, 0x1008, NETCONF_FOR_WRITE, places, 2, &count) == NETCONF_DONE && count == 0);
+    CHECK(netconf_resolve(&session, card, 0x4000, NETCONF_FOR_READ, places, 2, &count) == NETCONF_DONE && count == 0);
+    CHECK(netconf_view(&session, card, NETCONF_FOR_READ, 0, NULL, 0, &count) == NETCONF_DONE && count == 2);
+    CHECK(netconf_view(&session, card, NETCONF_FOR_READ, 1, rows, 4, &count) == NETCONF_DONE && count == 2);
+    CHECK(rows[0].first == 0x3000 && rows[0].last == 0x3fff && rows[0].place.address == 0x4000);
+    CHECK(rows[1].last == 0);
+    CHECK(netconf_view(&session, card, NETCONF_FOR_READ, 0, rows, 4, &count) == NETCONF_DONE && count == 2);
+    CHECK(rows[0].first == 0 && rows[0].last == 0x1fff && rows[0].place.node == dram && rows[0].place.unused == 0);
+    CHECK(rows[0].place.address == 0x9000 && rows[1].first == 0x3000 && rows[2].last == 0);
+    CHECK(netconf_view(&session, card, NETCONF_FOR_READ, 2, rows, 4, &count) == NETCONF_DONE && count == 2);
+    CHECK(netconf_view(&session, card, NETCONF_FOR_READ, SIZE_MAX, rows, 4, &count) == NETCONF_DONE && count == 2);
+    CHECK(netconf_view(&session, card, NETCONF_FOR_WRITE, 0, rows, 4, &count) == NETCONF_DONE && count == 1);
+    CHECK(rows[0].first == 0x3000);
+    CHECK(netconf_view(&session, core, NETCONF_FOR_READ, 0, rows, 4, &count) == NETCONF_DONE && count == 1);
+    CHECK(rows[0].first == 0x80000000 && rows[0].last == 0xbfffffff && rows[0].place.address == 0);
+    CHECK(netconf_revoke(&session, 1) == NETCONF_DONE);
+    CHECK(netconf_view(&session, card, NETCONF_FOR_READ, 0, rows, 4, &count) == NETCONF_DONE && count == 1);
+    CHECK(rows[0].first == 0x3000);
+    netconf_close(&session);
+}
+
+static const char *const audited = "audit bytes 48 records 2 shut 0 shared 1\n"
+                                   "view core0 for read rows 1\n"
+                                   "0x80000000-0xbfffffff dram@0x0\n"
+                                   "view core0 for write rows 1\n"
+                                   "0x80000000-0xbfffffff dram@0x0\n"
+                                   "view card for read rows 1\n"
+                                   "0x0-0x1fff dram@0x9000\n"
+                                   "view card for write rows 1\n"
+                                   "0x0-0x1fff dram@0x9000\n"
+                                   "shared dram 0x9000-0xafff core0 card\n";
+
+/* The image of the tables is that which the program dumps (examples/first_grant.out has it). */
+static void test_image(void)
+{
+    static const uint8_t expected[] = {0x44, 0x4e, 0x49, 0x4d, 2, 0, 1, 0, 4, 0,   1, 0, 4, 0, 0, 0,
+                                       1,    9,    0,    4,    0, 0, 0, 0, 1, 0xa, 0, 4, 0, 0, 0, 0};
+    struct netconf session = {0};
+    struct netconf_place places[1];
+    uint8_t out[64], report[512];
+    size_t written = 7, count = 7, byte;
+    uint64_t address, at = 7;
+
+    CHECK(open_text(&session, description, out, 0, &written) == NETCONF_DONE);
+    CHECK(netconf_grant(&session, 1, 5, 0, 0x9000, 0x2000, NETCONF_READ_WRITE, &address) == NETCONF_DONE);
+    memset(out, 0xa5, sizeof out);
+    CHECK(netconf_image(&session, out, 0, &written) == NETCONF_TOO_SMALL && written == 48);
+    CHECK(netconf_image(&session, out, 47, &written) == NETCONF_TOO_SMALL && written == 48 && out[0] == 0xa5);
+    CHECK(netconf_image(&session, out, sizeof out, &written) == NETCONF_DONE && written == 48);
+    CHECK(!memcmp(out, expected, sizeof expected));
+    for (byte = sizeof expected; byte < sizeof out; byte++) CHECK(out[byte] == (byte < 48 ? 0 : 0xa5));
+    CHECK(netconf_image(&session, out, 48, &written) == NETCONF_DONE && written == 48);
+    /* The image says the same when the grant is gone. */
+    CHECK(netconf_revoke(&session, 1) == NETCONF_DONE);
+    CHECK(netconf_lookup(&session, out, 48, 5, 0x1008, 0, places, 1, &count, &at) == NETCONF_BAD_ARGUMENT);
+    CHECK(netconf_lookup(&session, out, 48, 4, 0x1008, NETCONF_FOR_READ, places, 1, &count, &at) == NETCONF_NO_AGENT);
+    CHECK(netconf_lookup(&session, out, 48, 99, 0x1008, NETCONF_FOR_READ, places, 1, &count, &at) == NETCONF_NO_AGENT);
+    CHECK(count == 7 && at == 7);
+    CHECK(netconf_lookup(&session, out, 48, 5, 0x1008, NETCONF_FOR_READ, places, 0, &count, &at) == NETCONF_DONE);
+    CHECK(count == 1 && at == 7);
+    CHECK(netconf_lookup(&session, out, 48, 5, 0x1008, NETCONF_FOR_WRITE, places, 1, &count, &at) == NETCONF_DONE);
+    CHECK(count == 1 && places[0].node == 0 && places[0].address == 0xa008 && places[0].unused == 0);
+    CHECK(netconf_lookup(&session, out, 48, 5, 0x3000, NETCONF_FOR_READ, places, 1, &count, &at) == NETCONF_DONE);
+    CHECK(count == 0);
+    CHECK(netconf_lookup(&session, out, 47, 5, 0, NETCONF_FOR_READ, places, 1, &count, &at) == NETCONF_IMAGE_SHORT);
+    CHECK(at == 47);
+    CHECK(netconf_lookup(&session, NULL, 0, 5, 0, NETCONF_FOR_READ, places, 1, &count, &at) == NETCONF_IMAGE_SHORT);
+    CHECK(at == 0);
+    CHECK(netconf_lookup(&session, out, 49, 5, 0, NETCONF_FOR_READ, places, 1, &count, &at) == NETCONF_IMAGE_TRAILING);
+    CHECK(at == 48);
+    CHECK(netconf_audit(&session, out, 48, report, 0, &count, &at) == NETCONF_TOO_SMALL && count == strlen(audited));
+    CHECK(netconf_audit(&session, out, 48, report, count, &count, &at) == NETCONF_DONE && count == strlen(audited));
+    CHECK(!memcmp(report, audited, count) && at == 48);
+    CHECK(netconf_audit(&session, out, 47, report, sizeof report, &count, &at) == NETCONF_IMAGE_SHORT && at == 47);
+    CHECK(netconf_audit(&session, out, 49, report, sizeof report, &count, &at) == NETCONF_IMAGE_TRAILING && at == 48);
+    CHECK(count == strlen(audited));
+    out[4] = 9;
+    CHECK(netconf_audit(&session, out, 48, report, sizeof report, &count, &at) == NETCONF_IMAGE_HEADER && at == 4);
+    CHECK(netconf_lookup(&session, out, 48, 5, 0, NETCONF_FOR_READ, places, 1, &count, &at) == NETCONF_IMAGE_HEADER);
+    CHECK(at == 4);
+    out[4] = 2;
+    out[8] = 5;
+    CHECK(netconf_audit(&session, out, 48, report, sizeof report, &count, &at) == NETCONF_IMAGE_SHAPE && at == 0);
+    CHECK(netconf_lookup(&session, out, 48, 5, 0, NETCONF_FOR_READ, places, 1, &count, &at) == NETCONF_IMAGE_SHAPE);
+    CHECK(at == 0);
+    netconf_close(&session);
+    CHECK(netconf_lookup(&session, out, 48, 5, 0, NETCONF_FOR_READ, places, 1, &count, &at) == NETCONF_CLOSED);
+    CHECK(netconf_audit(&session, out, 48, report, sizeof report, &count, &at) == NETCONF_CLOSED);
+}
+
+/* A buffer in pieces is seen at consecutive addresses, and each refusal of one. */
+static void test_gather(void)
+{
+    struct netconf session = {0};
+    struct netconf_piece pieces[9] = {{0, 0, 0, 0, 0}};
+    struct netconf_row rows[4];
+    uint8_t line[1];
+    size_t written, count, at;
+    uint64_t address = 77;
+    uint32_t piece = 88;
+
+    CHECK(netconf_gather(&session, 5, pieces, 0, NETCONF_READ, &address, &piece) == NETCONF_BAD_ARGUMENT);
+    CHECK(open_text(&session, description, line, 0, &written) == NETCONF_DONE);
+    for (at = 0; at < 9; at++) {
+        pieces[at].id = (uint32_t)at;
+        pieces[at].base = 0x10000 - 0x1000 * (uint64_t)at;
+        pieces[at].size = 0x1000;
+    }
+    CHECK(netconf_gather(&session, 5, pieces, 0, NETCONF_READ, &address, &piece) == NETCONF_BAD_ARGUMENT);
+    CHECK(netconf_gather(&session, 5, pieces, 9, NETCONF_READ, &address, &piece) == NETCONF_BAD_ARGUMENT);
+    CHECK(netconf_gather(&session, 5, pieces, 2, 4, &address, &piece) == NETCONF_BAD_ARGUMENT);
+    CHECK(netconf_gather(&session, 0, pieces, 2, NETCONF_READ, &address, &piece) == NETCONF_NO_AGENT);
+    CHECK(netconf_gather(&session, 5, pieces, 8, NETCONF_READ, &address, &piece) == NETCONF_NO_PLACEMENT);
+    CHECK(address == 77 && piece == 88);
+    pieces[1].id = 0;
+    CHECK(netconf_gather(&session, 5, pieces, 2, NETCONF_READ, &address, &piece) == NETCONF_ID_USED && piece == 1);
+    pieces[1].id = 1;
+    pieces[2].node = 99;
+    CHECK(netconf_gather(&session, 5, pieces, 3, NETCONF_READ, &address, &piece) == NETCONF_NO_TARGET && piece == 2);
+    pieces[2].node = 0;
+    pieces[1].base = 0x40000000;
+    CHECK(address == 77);
+    CHECK(netconf_gather(&session, 5, pieces, 3, NETCONF_READ, &address, &piece) == NETCONF_NOT_ACCEPTED);
+    CHECK(piece == 1 && address == 0x40000000);
+    pieces[1].base = 0xf000;
+    CHECK(netconf_gather(&session, 5, pieces, 3, NETCONF_READ, &address, &piece) == NETCONF_DONE && address == 0);
+    CHECK(netconf_view(&session, 5, NETCONF_FOR_READ, 0, rows, 4, &count) == NETCONF_DONE && count == 3);
+    for (at = 0; at < 3; at++)
+        CHECK(rows[at].first == 0x1000 * at && rows[at].place.address == 0x10000 - 0x1000 * (uint64_t)at);
+    CHECK(netconf_gather(&session, 5, pieces, 1, NETCONF_READ, &address, &piece) == NETCONF_ID_USED && piece == 0);
+    CHECK(netconf_revoke(&session, 1) == NETCONF_DONE);
+    CHECK(netconf_view(&session, 5, NETCONF_FOR_READ, 0, rows, 4, &count) == NETCONF_DONE && count == 2);
+    netconf_close(&session);
+    CHECK(netconf_gather(&session, 5, pieces, 2, NETCONF_READ, &address, &piece) == NETCONF_CLOSED);
+}
+
+static const char *const lines = "vectors cpu is accept [0x0-0xff];\n"
+                                 "unit remapper kind vectors page 0 slots 2 reach 8 to cpu;\n"
+                                 "agent disk is map [0x0-0x1 to remapper at 0x0];\n"
+                                 "sram is accept [0x0-0xfff];\n";
+
+/* Lines are routed to vectors, and each refusal of a route. */
+static void test_routes(void)
+{
+    struct netconf session = {0};
+    struct netconf_place places[1];
+    uint8_t line[1];
+    size_t written, count;
+    uint64_t vector = 77;
+    uint16_t disk, cpu, sram;
+
+    CHECK(open_text(&session, lines, line, 0, &written) == NETCONF_DONE);
+    disk = node(&session, "disk");
+    cpu = node(&session, "cpu");
+    sram = node(&session, "sram");
+    CHECK(netconf_route(&session, 1, cpu, 0, cpu, &vector) == NETCONF_NO_AGENT);
+    CHECK(netconf_route(&session, 1, 999, 0, cpu, &vector) == NETCONF_NO_AGENT);
+    CHECK(netconf_route(&session, 1, disk, 0, sram, &vector) == NETCONF_NO_TARGET);
+    CHECK(netconf_route(&session, 1, disk, 0, 999, &vector) == NETCONF_NO_TARGET);
+    CHECK(netconf_route(&session, 1, disk, 2, cpu, &vector) == NETCONF_NO_PLACEMENT);
+    CHECK(netconf_grant(&session, 1, disk, cpu, 0, 1, NETCONF_READ, &vector) == NETCONF_NO_TARGET);
+    CHECK(vector == 77);
+    CHECK(netconf_route(&session, 1, disk, 1, cpu, &vector) == NETCONF_DONE && vector == 0);
+    CHECK(netconf_route(&session, 1, disk, 0, cpu, &vector) == NETCONF_ID_USED);
+    CHECK(netconf_route(&session, 2, disk, 0, cpu, &vector) == NETCONF_DONE && vector == 1);
+    CHECK(netconf_resolve(&session, disk, 0, NETCONF_FOR_WRITE, places, 1, &count) == NETCONF_DONE);
+    CHECK(count == 1 && places[0].node == cpu && places[0].address == 1);
+    CHECK(netconf_revoke(&session, 1) == NETCONF_DONE);
+    CHECK(netconf_route(&session, 3, disk, 0, cpu, &vector) == NETCONF_NO_PLACEMENT && vector == 1);
+    CHECK(netconf_route(&session, 3, disk, 1, cpu, &vector) == NETCONF_DONE && vector == 0);
+    netconf_close(&session);
+}
+
+/* A book of 4,096 grants takes no more, also at an address and of a line, until one is taken out. */
+static void test_book_full(void)
+{
+    static const char *const text = "dram is accept [0x0-0xffffffff]; vectors cpu is accept [0x20-0x2f];\n"
+                                    "unit iommu kind pages page 12 slots 8192 reach 40 to dram;\n"
+                                    "unit remapper kind vectors page 0 slots 4 reach 8 to cpu;\n"
+                                    "agent card is map [0x0-0x1ffffff to iommu at 0x0];\n"
+                                    "agent nic is map [0x0-0x3 to remapper at 0x0];\n";
+    struct netconf session = {0};
+    uint8_t line[1];
+    size_t written;
+    uint64_t address, left = 77;
+    uint16_t card, dram, nic, cpu;
+    uint32_t id;
+
+    CHECK(open_text(&session, text, line, 0, &written) == NETCONF_DONE);
+    card = node(&session, "card");
+    dram = node(&session, "dram");
+    nic = node(&session, "nic");
+    cpu = node(&session, "cpu");
+    for (id = 0; id < 4096; id++) {
+        CHECK(netconf_grant(&session, id, card, dram, (uint64_t)id << 12, 0x1000, NETCONF_READ, &address)
+              == NETCONF_DONE);
+        CHECK(address == (uint64_t)id << 12);
+        CHECK(netconf_settle(&session) == NETCONF_DONE);
+    }
+    CHECK(netconf_grant(&session, id, card, dram, 0, 0x1000, NETCONF_READ, &left) == NETCONF_BOOK_FULL);
+    CHECK(netconf_grant_at(&session, id, card, dram, 0, 0x1000, NETCONF_READ, 0x1fff000, &left) == NETCONF_BOOK_FULL);
+    CHECK(netconf_route(&session, id, nic, 0, cpu, &left) == NETCONF_BOOK_FULL);
+    CHECK(left == 77);
+    CHECK(netconf_grant(&session, id, card, dram, 0xffffffff, 2, NETCONF_READ, &address) == NETCONF_NOT_ACCEPTED);
+    CHECK(netconf_revoke(&session, 2000) == NETCONF_DONE);
+    CHECK(netconf_route(&session, id, nic, 0, cpu, &left) == NETCONF_DONE && left == 0x20);
+    netconf_close(&session);
+    CHECK(live_blocks == 0);
+}
+
+#define CALLS 12
 
 /* One call of a history in which each is done. */
 static uint32_t call_number(struct netconf *session, unsigned number)
 {
-    uint8_t line[1];
+    struct netconf_place places[1];
+    struct netconf_row rows[2];
+    char text[1024];
+    static const struct netconf_piece pieces[1] = {{4, 0, 0, 0x20000, 0x1000}};
+    uint8_t line[1], image[128], report[1024];
     size_t written;
     uint64_t address;
+    uint32_t status, piece;
 
     switch (number) {
     case 0:
-        return open_text(session, description, line, 0, &written);
+        snprintf(text, sizeof text, "%s%s", description, lines);
+        return open_text(session, text, line, 0, &written);
     case 1:
         return netconf_grant(session, 1, 5, 0, 0x9000, 0x2000, NETCONF_READ_WRITE, &address);
     case 2:
         return netconf_grant_at(session, 2, 5, 0, 0x4000, 0x1000, NETCONF_READ, 0x3000, &address);
+    case 3:
+        return netconf_resolve(session, 5, 0x3000, NETCONF_FOR_READ, places, 1, &written);
+    case 4:
+        return netconf_view(session, 5, NETCONF_FOR_READ, 0, rows, 2, &written);
+    case 5:
+        return netconf_image(session, image, sizeof image, &written);
+    case 6:
+        return netconf_route(session, 3, 8, 0, 6, &address);
+    case 7:
+        return netconf_revoke(session, 3);
+    case 8:
+        status = netconf_image(session, image, sizeof image, &written);
+        if (status != NETCONF_DONE) return status;
+        return netconf_lookup(session, image, written, 5, 0x3000, NETCONF_FOR_READ, places, 1, &written, &address);
+    case 9:
+        status = netconf_image(session, image, sizeof image, &written);
+        if (status != NETCONF_DONE) return status;
+        return netconf_audit(session, image, written, report, sizeof report, &written, &address);
+    case 10:
+        return netconf_gather(session, 5, pieces, 1, NETCONF_READ, &address, &piece);
     default:
         return netconf_revoke(session, 1);
     }
@@ -311,7 +585,7 @@ static void test_memory(void)
     long failing;
     unsigned number = 0;
 
-    for (failing = 0; number < CALLS; failing++) {
+    for (failing = 0; number < CALLS && failing < 10000; failing++) {
         struct netconf session = {0};
         size_t pending = 0;
         uint32_t status = NETCONF_DONE;
@@ -373,11 +647,65 @@ static void test_moved(void)
     netconf_close(&second);
 }
 
+static const char *const commands = "begin;\n"
+                                    "grant rx card dram 0x9000 0x2000;\n"
+                                    "view card;\n"
+                                    "grant odd card dram 0x4100 0x100;\n"
+                                    "resolve card 0x1000;\n";
+static const char *const answers = "rx at 0x0\n"
+                                   "view card rows 1\n"
+                                   "0x0-0x1fff dram@0x9000\n"
+                                   "odd refused: NoPlacement\n"
+                                   "card@0x1000: dram@0xa000\n";
+
+/* Answers a text of the description and some commands, and compares the answer. */
+static uint32_t run_text(const char *more, uint8_t *out, size_t room, size_t *written, uint8_t *exit_status)
+{
+    char text[1024];
+
+    snprintf(text, sizeof text, "%s%s", description, more);
+    return netconf_run((const uint8_t *)text, strlen(text), out, room, written, exit_status);
+}
+
+/* A text is answered as the program answers it. */
+static void test_run(void)
+{
+    uint8_t out[256], before[256];
+    uint8_t exit_status = 9;
+    size_t written = 7, size = strlen(answers);
+    long failing;
+    uint32_t status;
+
+    memset(out, 0xa5, sizeof out);
+    memcpy(before, out, sizeof out);
+    CHECK(run_text(commands, out, 0, &written, &exit_status) == NETCONF_TOO_SMALL);
+    CHECK(written == size && exit_status == 0);
+    CHECK(run_text(commands, out, size - 1, &written, &exit_status) == NETCONF_TOO_SMALL && written == size);
+    CHECK(!memcmp(out, before, sizeof out));
+    CHECK(run_text(commands, out, size, &written, &exit_status) == NETCONF_DONE);
+    CHECK(written == size && exit_status == 0 && !memcmp(out, answers, size));
+    CHECK(!memcmp(out + size, before, sizeof out - size));
+    CHECK(run_text("a is", out, sizeof out, &written, &exit_status) == NETCONF_DONE && exit_status == 4);
+    CHECK(written == strlen("refused: line 7 Statement\n") && !memcmp(out, "refused: line 7 Statement\n", written));
+    CHECK(netconf_run(NULL, 0, NULL, 0, &written, &exit_status) == NETCONF_DONE && written == 0 && exit_status == 0);
+    memcpy(out, before, sizeof out);
+    for (failing = 0, status = NETCONF_NO_MEMORY; status != NETCONF_DONE && failing < 10000; failing++) {
+        allocations_left = failing;
+        status = run_text(commands, out, sizeof out, &written, &exit_status);
+        allocations_left = -1;
+        if (status == NETCONF_DONE) break;
+        CHECK(status == NETCONF_NO_MEMORY && written == 0 && exit_status == 0);
+        CHECK(!memcmp(out, before, sizeof out));
+        CHECK(live_blocks == 0);
+    }
+    CHECK(failing > 100 && written == size && !memcmp(out, answers, size));
+}
+
 static void test_status_texts(void)
 {
     uint32_t status;
 
-    for (status = 0; status < 24; status++) CHECK(strlen(netconf_status_text(status)) > 3);
+    for (status = 0; status < 28; status++) CHECK(strlen(netconf_status_text(status)) > 3);
     CHECK(!strcmp(netconf_status_text(NETCONF_DONE), "done"));
     CHECK(!strcmp(netconf_status_text(1000), "no status of the library"));
 }
@@ -397,9 +725,15 @@ int main(void)
     run_test("names", test_names);
     run_test("grants", test_grants);
     run_test("events", test_events);
+    run_test("seeing", test_seeing);
+    run_test("image", test_image);
+    run_test("gather", test_gather);
+    run_test("routes", test_routes);
+    run_test("book_full", test_book_full);
     run_test("memory", test_memory);
     run_test("two_sessions", test_two_sessions);
     run_test("moved", test_moved);
+    run_test("run", test_run);
     run_test("status_texts", test_status_texts);
     CHECK(live_blocks == 0);
     return failures != 0;

@@ -2,12 +2,15 @@
 the tables of netconf-export.
 
 usage: tools/machine/run [--machine NAME]... [--net FILE] [--show] [--plant FAULT]... [--planted] [--keep FOLDER]
-[PROGRAM]
+[--archive FILE] [PROGRAM]
 
 For each `dump` of the description the program is asked by `lookup` what each card may read and write, page by page, and
 where its messages arrive. On the machine pc, a program for the bare machine, built with gcc, loads the bytes of each
-dump by tools/loader and has the cards try it. On the others no program runs: tables, registers and cards are driven
-over QEMU's protocol of tests. These are demonstrations on emulated machines: they prove nothing of hardware.
+dump by tools/loader and has the cards try it. On the machine library a program on the same PC opens the description by
+the library and makes a random history of grants, gathers, routes and revokes, of which the program is asked by
+`resolve`; the cards read and write between its events, and try all of their pages and messages after each step. On the
+others no program runs: tables, registers and cards are driven over QEMU's protocol of tests. These are demonstrations
+on emulated machines: they prove nothing of hardware.
 
 PROGRAM is the built netconf (default: that of the variable NETCONF, or crates/netconf/out/netconf). With --plant an
 image, the layout or the loader is made wrong in one place, and the trial must fail; with --planted each fault that is
@@ -22,9 +25,11 @@ import sys
 import tempfile
 from dataclasses import dataclass
 
+from machine import session
 from machine.boards import BOARDS
 from machine.many import run_all
 from machine.plants import PLANTS, planted
+from machine.session import SessionTrial
 from machine.trial import PAGE, Trial, data_text
 from netconf_tools.ending import ended
 from netconf_tools.layout_text import header
@@ -32,6 +37,7 @@ from netconf_tools.text import Trouble, program, read
 from netconf_tools.version import add_version
 
 HERE = pathlib.Path(__file__).resolve().parent
+TOOLS = HERE.parent
 
 PC = "pc"
 """The machine on which a loader takes images."""
@@ -46,8 +52,14 @@ COMPILE = ["-m64", "-O2", "-std=gnu99", "-Wall", "-Wextra", "-Werror", "-ffreest
            "-fno-asynchronous-unwind-tables"]
 LINK = ["-m64", "-nostdlib", "-static", "-no-pie", "-Wl,--build-id=none", "-Wl,-z,max-page-size=4096",
         "-Wl,-z,noexecstack"]
-SOURCES = ("start.S", "pc.c", "trial.c")
+SOURCES = ("start.S", "pc.c", "cards.c", "trial.c")
 DRIVER = "vtd.c"
+SESSION_SOURCES = ("start.S", "pc.c", "cards.c", "vtd.c", "events.c", "session.c")
+LIBRARY = "library"
+"""The PC on which a program calls the library."""
+
+CPU_OF_LIBRARY = "qemu64,+ssse3,+sse4.1,+sse4.2,+popcnt,+cx16"
+"""The library is compiled for x86-64-v2."""
 
 Sight = tuple[str, str, int, int, int | None]
 """What the machine saw: a card, what it did, the address; then the processor's address, or the processor and the
@@ -69,22 +81,22 @@ def missing() -> list[str]:
                                      ("gcc for x86-64", compiler())) if not found]
 
 
-def build(folder: pathlib.Path, defines: list[str]) -> pathlib.Path:
-    """Builds the program for the bare machine from the headers and the driver that stand in a folder."""
+def build(folder: pathlib.Path, defines: list[str], sources: list[pathlib.Path]) -> pathlib.Path:
+    """Builds the program for the bare machine from sources, with the headers that stand in a folder."""
     binary = folder / "trial.elf"
-    command = [compiler() or "gcc", *COMPILE, *(f"-D{define}" for define in defines), f"-I{folder}", f"-I{HERE}",
-               f"-I{HERE.parent / 'loader'}",
-               *LINK, f"-Wl,-T,{HERE / 'machine.ld'}", *(str(HERE / name) for name in SOURCES), str(folder / DRIVER),
-               "-o", str(binary)]
+    includes = (folder, HERE, TOOLS / "loader", TOOLS / "library", TOOLS.parent / "include")
+    command = [compiler() or "gcc", *COMPILE, *(f"-D{define}" for define in defines),
+               *(f"-I{include}" for include in includes), *LINK, f"-Wl,-T,{HERE / 'machine.ld'}",
+               *map(str, sources), "-o", str(binary)]
     done = subprocess.run(command, capture_output=True, text=True, check=False)
     if done.returncode:
         raise Trouble(f"the trial is not compiled:\n{done.stderr}")
     return binary
 
 
-def qemu(binary: pathlib.Path, cards: list[tuple[str, int, int]]) -> tuple[str, str]:
+def qemu(binary: pathlib.Path, cards: list[tuple[str, int, int]], cpu: str = "qemu64") -> tuple[str, str]:
     """What the machine prints, and the status of QEMU."""
-    command = ["qemu-system-x86_64", "-machine", "q35", "-accel", "tcg", "-cpu", "qemu64", "-smp", "2", "-m", "3G",
+    command = ["qemu-system-x86_64", "-machine", "q35", "-accel", "tcg", "-cpu", cpu, "-smp", "2", "-m", "3G",
                "-icount", "shift=10,sleep=off",
                "-nodefaults", "-no-reboot", "-display", "none", "-serial", "stdio", "-monitor", "none",
                "-device", "isa-debug-exit,iobase=0xf4,iosize=4", "-device", "intel-iommu,intremap=on,aw-bits=48"]
@@ -98,7 +110,7 @@ def qemu(binary: pathlib.Path, cards: list[tuple[str, int, int]]) -> tuple[str, 
     return done.stdout.decode("latin-1"), done.stderr.decode("latin-1")
 
 
-def shown(lines: list[str]) -> list[str]:
+def shown(lines: list[str], step: str = "dump") -> list[str]:
     """What the machine saw, as lines: pages side by side that a card reads or writes, with the processor's address of
     the first, and messages. What was tried at a fence is left out: it is tried again once the dump is loaded."""
     steps: dict[str, list[Sight]] = {}
@@ -110,7 +122,7 @@ def shown(lines: list[str]) -> list[str]:
             vector = int(words[6], 16) if len(words) > 6 else None
             sight = words[2], words[3], int(words[4], 0), int(words[5], 16), vector
             steps.setdefault(words[1], []).append(sight)
-    return [f"dump {number}: {row}" for number, seen in steps.items() for row in rows_of(sorted(set(seen)))]
+    return [f"{step} {number}: {row}" for number, seen in steps.items() for row in rows_of(sorted(set(seen)))]
 
 
 @dataclass
@@ -152,7 +164,26 @@ def outcome(trial: Trial, plant: str | None, folder: pathlib.Path,
     (folder / DRIVER).write_text(made.driver)
     (folder / "board.h").write_text(header(made.layout, "board"))
     (folder / "data.h").write_text(data_text(trial, made.images))
-    output, errors = qemu(build(folder, defines), trial.cards)
+    sources = [*(HERE / name for name in SOURCES), folder / DRIVER]
+    return result_of(*qemu(build(folder, defines, sources), trial.cards))
+
+
+def session_outcome(trial: SessionTrial, archive: pathlib.Path, plant: str | None, folder: pathlib.Path,
+                    is_shown: bool = False) -> tuple[list[str], int, int]:
+    """The same of a trial of the library."""
+    (folder / "board.h").write_text(header(trial.layout, "board"))
+    (folder / "data.h").write_text(session.data_text(trial))
+    for name in SESSION_SOURCES:
+        (folder / name).write_text(session.source_text(name, plant))
+    sources = [*(folder / name for name in SESSION_SOURCES), TOOLS / "library" / "heap.c", archive]
+    # netconf_image.h has functions of the same names as the library, so each file has its own of these.
+    defines = ["HEAP_SIZE=0x1000000", "NETCONF_API=static inline", "NETCONF_IMAGE_IMPLEMENTATION=",
+               *(["STOP_AT_FIRST"] if plant else []), *(["SHOW"] if is_shown else [])]
+    return result_of(*qemu(build(folder, defines, sources), trial.cards, CPU_OF_LIBRARY))
+
+
+def result_of(output: str, errors: str) -> tuple[list[str], int, int]:
+    """The lines that a machine printed, and how many comparisons passed and failed."""
     lines = output.splitlines()
     words = lines[-1].split() if lines else []
     if len(words) == 4 and words[1] == "passed," and words[3] == "failed":
@@ -167,14 +198,35 @@ def run(trial: Trial, plants: list[str], folder: pathlib.Path, is_shown: bool) -
         lines = [line for line in lines if not line.startswith(("seen ", "fence "))] + shown(lines)
         print("".join(f"{line}\n" for line in lines), end="")
         return passed, failed
-    found = 0
-    for plant in plants:
-        lines, _, failed = outcome(trial, plant, folder)
-        found += failed != 0
-        first = next((line for line in lines if line.startswith("FAILED: ")), "FAILED: nothing fails")
-        print(f"planted {plant} ({PLANTS[plant].what}): " + (f"found. {first.removeprefix('FAILED: ')}" if failed
-                                                             else "NOT FOUND"))
-    return found, len(plants) - found
+    found = [is_found(plant, PLANTS[plant].what, *outcome(trial, plant, folder)) for plant in plants]
+    return sum(found), len(plants) - sum(found)
+
+
+def is_found(plant: str, what: str, lines: list[str], _: int, failed: int) -> bool:
+    """Says whether a planted fault was found, and by what."""
+    first = next((line for line in lines if line.startswith("FAILED: ")), "FAILED: nothing fails")
+    print(f"planted {plant} ({what}): " + (f"found. {first.removeprefix('FAILED: ')}" if failed else "NOT FOUND"))
+    return failed != 0
+
+
+def run_session(options: argparse.Namespace) -> tuple[int, int]:
+    """Runs the trial of the library, or plants each fault in it; returns how many passed and failed."""
+    archive = pathlib.Path(options.archive or TOOLS.parent / "crates/netconf_c/out/libnetconf_c.a").resolve()
+    if missing() or not archive.exists():
+        print(f"skipped: library: there is no {' and no '.join(missing() or [str(archive)])}")
+        return 0, 0
+    with tempfile.TemporaryDirectory() as made:
+        folder = pathlib.Path(options.keep or made)
+        folder.mkdir(parents=True, exist_ok=True)
+        trial = SessionTrial(read(options.net or str(HERE / "q35.net")))
+        if options.planted:
+            found = [is_found(plant, session.PLANTS[plant].what, *session_outcome(trial, archive, plant, folder))
+                     for plant in session.PLANTS]
+            return sum(found), len(found) - sum(found)
+        lines, passed, failed = session_outcome(trial, archive, None, folder, options.show)
+        lines = [line for line in lines if not line.startswith("seen ")] + shown(lines, "step")
+        print("".join(f"{line}\n" for line in lines), end="")
+        return passed, failed
 
 
 def main() -> int:
@@ -182,9 +234,12 @@ def main() -> int:
     parser = argparse.ArgumentParser(prog="tools/machine/run",
                                      description="Tries the tables of a description on a machine of QEMU.")
     add_version(parser)
-    parser.add_argument("--machine", choices=[PC, *BOARDS], action="append", default=[],
-                        help="try this machine: pc has a loader at work that takes images; the others have the tables "
-                             "of netconf-export in the format of that name (default: all; with --net or --plant: pc)")
+    parser.add_argument("--machine", choices=[PC, LIBRARY, *BOARDS], action="append", default=[],
+                        help="try this machine: pc has a loader at work that takes images; library a program that "
+                             "grants, routes and revokes by the library; the others have the tables of "
+                             "netconf-export in the format of that name (default: all; with --net or --plant: pc)")
+    parser.add_argument("--archive", metavar="FILE",
+                        help="the library (default: crates/netconf_c/out/libnetconf_c.a)")
     parser.add_argument("--net", metavar="FILE",
                         help="the description (default: q35.net beside this file for pc, cards.net for the others)")
     parser.add_argument("--plant", choices=PLANTS, action="append", default=[], metavar="FAULT",
@@ -199,18 +254,17 @@ def main() -> int:
 
 def run_machines(options: argparse.Namespace) -> int:
     """Runs the trials on the machines that are chosen, and says how many comparisons passed and failed."""
-    chosen = options.machine or ([PC] if options.net or options.plant else [PC, *BOARDS])
+    chosen = options.machine or ([PC] if options.net or options.plant else [PC, LIBRARY, *BOARDS])
     passed = failed = 0
     try:
         if options.program:
             os.environ["NETCONF"] = os.path.abspath(options.program)
         program()
-        tables = [name for name in chosen if name != PC]
-        if PC in chosen:
-            passed, failed = run_pc(options)
-        if tables:
-            more = run_all(tables, options.net, options.planted, options.show)
-            passed, failed = passed + more[0], failed + more[1]
+        tables = [name for name in chosen if name in BOARDS]
+        counts = [run_pc(options)] if PC in chosen else []
+        counts += [run_session(options)] if LIBRARY in chosen else []
+        counts += [run_all(tables, options.net, options.planted, options.show)] if tables else []
+        passed, failed = (sum(numbers) for numbers in zip(*counts))
     except (Trouble, OSError) as trouble:
         print(f"FAILED: {trouble}")
         failed += 1

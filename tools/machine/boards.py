@@ -45,6 +45,9 @@ class Board(ABC):
     memories: ClassVar[tuple[int, int, int, int]]
     """Where the memories of the cards stand: low, middle, high and frames."""
 
+    block: ClassVar[int]
+    """Where 1 GiB of memory stands, at a multiple of its size, that holds nothing else."""
+
     tables: ClassVar[int]
     """The address of memory at which the tables stand; the queues of the IOMMU stand below."""
 
@@ -121,9 +124,10 @@ class Board(ABC):
 
 
 class Arm(Board):
-    """The machine ``virt`` of an Arm processor, with an SMMUv3. Registers are of IHI 0070, 6.3."""
+    """The machine ``virt`` of an Arm processor, with an SMMUv3. Registers are those of IHI 0070."""
     program = "qemu-system-aarch64"
     memories = 0x44000000, 0x44060000, 0x60000000, 0x64000000
+    block = 0x80000000
     tables, queues, unit, windows = 0x48000000, 0x47f00000, 0x9050000, 0x10000000
     configuration = 0x3f000000
     CR0, CR0ACK, STRTAB_BASE, STRTAB_CONFIG = 0x20, 0x24, 0x80, 0x88
@@ -136,7 +140,7 @@ class Arm(Board):
     @classmethod
     def machine(cls, folder: pathlib.Path) -> list[str]:
         """Returns the words for the machine."""
-        iommu = ["-M", "virt,iommu=smmuv3,highmem=off", "-cpu", "cortex-a57,start-powered-off=on", "-m", "1G"]
+        iommu = ["-M", "virt,iommu=smmuv3,highmem=off", "-cpu", "cortex-a57,start-powered-off=on", "-m", "2G"]
         return [*iommu, "-global", "arm-smmuv3.stage=2"] if cls.form == "smmuv3-s2" else iommu
 
     def configure(self, qemu: Qtest, device: int, function: int, offset: int, value: int) -> None:
@@ -209,6 +213,7 @@ class RiscvVirt(Board):
     program = "qemu-system-riscv64"
     is_new = True
     memories = 0x84000000, 0x84060000, 0xa0000000, 0xa4000000
+    block = 0xc0000000
     tables, queues, unit, windows = 0x88000000, 0x87f00000, 0x3010000, 0x40000000
     configuration = 0x30000000
     DDTP, CQB, CQH, CQT, FQB, CQCSR, FQCSR = 0x10, 0x18, 0x20, 0x24, 0x28, 0x48, 0x4c
@@ -223,7 +228,7 @@ class RiscvVirt(Board):
     @classmethod
     def machine(cls, folder: pathlib.Path) -> list[str]:
         """Returns the words for the machine."""
-        return ["-M", "virt,iommu-sys=on", "-cpu", "rv64,start-powered-off=on", "-m", "1G", "-bios", "none"]
+        return ["-M", "virt,iommu-sys=on", "-cpu", "rv64,start-powered-off=on", "-m", "2G", "-bios", "none"]
 
     def configure(self, qemu: Qtest, device: int, function: int, offset: int, value: int) -> None:
         """Writes to the memory of configurations, which has 4 KiB for each function."""
@@ -271,6 +276,7 @@ class Pc(Board):
     """The machine ``q35`` of a PC. Its processor begins in a ROM that halts it."""
     program = "qemu-system-x86_64"
     memories = 0x4000000, 0x4060000, 0x110000000, 0x8000000
+    block = 0x40000000
     tables, queues, windows = 0x20000000, 0x1ff00000, 0xc0000000
 
     @classmethod
@@ -331,7 +337,7 @@ class PcIntel(Pc):
 
 
 class PcAmd(Pc):
-    """AMD's IOMMU. Registers are of the AMD I/O virtualization specification, 3.4."""
+    """AMD's IOMMU. Registers are those of the AMD I/O virtualization specification."""
     name = form = "amd"
     unit = 0xfed80000
     DEVICES, COMMANDS, EVENTS, CONTROL, HEAD, TAIL = 0x0, 0x8, 0x10, 0x18, 0x2000, 0x2008

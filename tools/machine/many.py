@@ -4,11 +4,14 @@ import concurrent.futures
 import os
 from typing import NamedTuple
 
-from machine.boards import BACKPORTS, BOARDS, qemu_of
+from machine.boards import BACKPORTS, BOARDS, HERE, qemu_of
 from machine.table_plants import STEP_PLANTS, WORD_PLANTS, planted
 from machine.tables import Outcome, TablesTrial, trial_of
 from machine.trial import PAGE
 from netconf_tools.text import Trouble
+
+BLOCK = str(HERE / "block.net")
+"""The description of a card with 1 GiB, which is tried after that of the cards."""
 
 PLANTS = {**{name: what for name, (what, _) in WORD_PLANTS.items()}, **STEP_PLANTS}
 """The faults that can be planted in exported tables, each with what it is."""
@@ -42,6 +45,8 @@ def result_of(name: str, net: str | None, is_planted: bool, is_shown: bool) -> R
         if is_planted:
             return planted_result(name, trial)
         found = trial.run()
+        if net is None:
+            found.add(trial_of(name, BLOCK).run())
     except (Trouble, LookupError, OSError) as trouble:
         return Result([f"FAILED: {name}: {trouble}"], 0, 1)
     shown = [f"{name}: {line}" for line in rows_of(found)] if is_shown else []

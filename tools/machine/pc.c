@@ -46,6 +46,15 @@ void *memcpy(void *to, const void *from, size_t size)
     return to;
 }
 
+void *memmove(void *to, const void *from, size_t size)
+{
+    unsigned char *bytes = to;
+    const unsigned char *source = from;
+    if (bytes <= source) return memcpy(to, from, size);
+    while (size-- > 0) bytes[size] = source[size];
+    return to;
+}
+
 int memcmp(const void *one, const void *other, size_t size)
 {
     const unsigned char *a = one, *b = other;

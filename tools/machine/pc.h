@@ -29,9 +29,10 @@ extern volatile uint32_t arrivals[MOST_PROCESSORS][256];
 uint32_t pci_read(unsigned device, unsigned function, unsigned offset);
 void pci_write(unsigned device, unsigned function, unsigned offset, uint32_t value);
 
-/* What gcc calls for copies and comparisons. */
+/* What gcc and the library call for copies and comparisons. */
 void *memset(void *to, int value, size_t size);
 void *memcpy(void *to, const void *from, size_t size);
+void *memmove(void *to, const void *from, size_t size);
 int memcmp(const void *one, const void *other, size_t size);
 
 #endif

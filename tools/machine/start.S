@@ -53,10 +53,10 @@ above:  movl %eax, (%edi,%ecx,8)
         call long_mode
         ljmp $8, $first_long
 
-/* Turns on 64-bit mode with the pages at `fourth`. */
+/* Turns on 64-bit mode with the pages at `fourth`, and the registers of SSE, which the library moves memory by. */
 long_mode:
         movl %cr4, %eax
-        orl $0x20, %eax
+        orl $0x620, %eax
         movl %eax, %cr4
         movl $fourth, %eax
         movl %eax, %cr3
@@ -65,7 +65,8 @@ long_mode:
         orl $0x100, %eax
         wrmsr
         movl %cr0, %eax
-        orl $0x80000001, %eax
+        andl $0xfffffffb, %eax
+        orl $0x80000003, %eax
         movl %eax, %cr0
         ret
 
@@ -173,7 +174,7 @@ table_of_segments:
 fourth: .skip 4096
 third:  .skip 4096
 directories: .skip 8 * 4096
-        .skip 16384
+        .skip 262144
 stack_end:
         .skip 16384
 second_stack_end:

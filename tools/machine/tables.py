@@ -2,6 +2,7 @@
 it."""
 
 import contextlib
+import functools
 import pathlib
 import random
 import re
@@ -24,6 +25,9 @@ from netconf_tools.views import Board as Description
 USE = re.compile(r"(?<=use cards\()0x\w+, 0x\w+, 0x\w+, 0x\w+(?=\))")
 """The addresses at which the description of the cards has its memories."""
 
+USE_BLOCK = re.compile(r"(?<=use block\()0x\w+, 0x\w+(?=\))")
+"""The addresses at which that of a card with 1 GiB has its memories."""
+
 BEGIN = re.compile(r"^[ \t]*begin[ \t]*;", re.M)
 """The statement after which the commands of a description stand, at the beginning of a line."""
 
@@ -34,7 +38,14 @@ SOURCE, TARGET, COUNT, RUN = 0x80, 0x88, 0x90, 0x98
 TO_CARD, FROM_CARD = 1, 3
 
 MOST_PAGES = 64
-"""How many pages of a window are all tried; of a longer one the first, the last, and so many that chance chooses."""
+"""How many pages of a window are all tried; of a longer one the first, the last, those that the card sees, and so many
+that chance chooses."""
+
+MOST_SEEN = 16
+"""How many pages of a row that a card sees are all tried; of a longer one two at each end."""
+
+MOST_FILLED = 1 << 24
+"""How many bytes of a memory are all filled and compared at most; of a larger one the pages that the cards come to."""
 
 MOST_FAILURES = 5
 """How many failures are said of one trial."""
@@ -44,18 +55,48 @@ class Asked(Trial):
     """A description with its cards and its dumps, and what the program answers of the first word of each page that is
     tried."""
 
+    @functools.cached_property
+    def seen(self) -> dict[int, set[int]]:
+        """The pages that each card sees at some dump, those of a long row at its ends alone."""
+        found: dict[int, set[int]] = {number: set() for number in self.agents}
+        names = {self.layout.agents[number].name: number for number in self.agents}
+        for step in steps_of(self.text):
+            for (name, _), lines in Description("cards", step.encode("latin-1")).views(names).items():
+                for line in lines:
+                    first, last = (int(end, 16) & -PAGE for end in line.split(" ")[0].split("-"))
+                    row = range(first, last + PAGE, PAGE)
+                    found[names[name]].update(row if len(row) <= MOST_SEEN else (*row[:2], *row[-2:]))
+        return found
+
+    @functools.cached_property
+    def pages(self) -> dict[int, list[int]]:
+        """The pages that are tried of each card."""
+        return {number: self.chosen_pages(number) for number in self.agents}
+
     def pages_of(self, number: int) -> list[int]:
-        """The pages that are tried of an agent, at most a hundred of each window."""
+        """The pages that are tried of an agent."""
+        return self.pages[number]
+
+    def chosen_pages(self, number: int) -> list[int]:
+        """The pages that are tried of an agent, of a long window about a hundred."""
         pages = super().pages_of(number)
         windows = [(window.first & -PAGE, window.last & -PAGE) for window in self.layout.agents[number].windows
                    if window.last - window.first >= MOST_PAGES * PAGE]
         chance = random.Random(number)
         for first, last in windows:
             inner = [page for page in pages if first < page < last]
-            kept = set(chance.sample(inner, MOST_PAGES // 2)) | {page for page in inner
-                                                                 if page & 0x1fffff in (0, 0x1ff000)}
-            pages = [page for page in pages if page not in set(inner) - kept]
+            kept = set(chance.sample(inner, MOST_PAGES // 2)) | self.seen[number]
+            if last - first <= MOST_FILLED:
+                kept |= {page for page in inner if page & 0x1fffff in (0, 0x1ff000)}
+            pages = [page for page in pages if not first < page < last or page in kept]
         return pages
+
+    def pages_at(self, address: int, size: int) -> list[tuple[int, int]]:
+        """The pages of a memory, by its first address and its size, to which some access that is tried comes: where
+        each begins in it, and its size."""
+        found = {memory - address & -PAGE for answers in self.answers for answer in answers.values()
+                 if (memory := self.memory_of(answer)) is not None and 0 <= memory - address < size}
+        return [(page, PAGE) for page in sorted(found | {0})]
 
     def all_probes(self) -> list[Probe]:
         """Each page for each access."""
@@ -75,6 +116,11 @@ class Outcome:
     lines: list[str] = field(default_factory=list)
     seen: list[tuple[str, str, str, int, int]] = field(default_factory=list)
 
+    def add(self, other: "Outcome") -> None:
+        """Adds what another trial found."""
+        self.passed, self.failed = self.passed + other.passed, self.failed + other.failed
+        self.lines, self.seen = [*self.lines, *other.lines], [*self.seen, *other.seen]
+
     def count(self, is_right: bool, what: str) -> None:
         """Counts one comparison."""
         if is_right:
@@ -89,6 +135,7 @@ def text_for(board: type[Board], text: str) -> str:
     """Returns a description as a machine tries it: its memories at the machine's addresses, and no buffer for writing
     alone if the format has none."""
     text = USE.sub(", ".join(f"{address:#x}" for address in board.memories), text)
+    text = USE_BLOCK.sub(f"{board.memories[0]:#x}, {board.block:#x}", text)
     return text if FORMATS[board.form].writes_alone else re.sub(r"\s+for\s+write\s*;", ";", text)
 
 
@@ -110,11 +157,17 @@ class Cards:
 
     def __init__(self, qemu: Qtest, board: Board, asked: Asked) -> None:
         self.qemu, self.board, self.asked = qemu, board, asked
-        self.copy = {place.address: bytearray(b"") for place in asked.processor.places}
+        self.copy: dict[int, bytearray] = {}
+        self.filled: dict[int, list[tuple[int, int]]] = {}
         self.chance = random.Random(7)
         for place in asked.processor.places:
-            self.copy[place.address] = bytearray(self.chance.randbytes(place.last - place.first + 1))
-            qemu.write(place.address, bytes(self.copy[place.address]))
+            size = place.last - place.first + 1
+            self.copy[place.address] = bytearray(size)
+            self.filled[place.address] = [(0, size)] if size <= MOST_FILLED else asked.pages_at(place.address, size)
+            for first, count in self.filled[place.address]:
+                data = self.chance.randbytes(count)
+                self.copy[place.address][first:first + count] = data
+                qemu.write(place.address + first, data)
         for number, (_, device, function) in enumerate(asked.cards):
             board.configure(qemu, device, function, 0x10, self.registers(number))
             board.configure(qemu, device, function, 0x4, 0x6)
@@ -157,11 +210,12 @@ class Cards:
     def compare(self) -> list[int]:
         """The addresses of the processor, up to a few, whose words are not as they should be; they are put right."""
         wrong = []
-        for start, data in self.copy.items():
-            seen = self.qemu.read(start, len(data))
+        for start, first, count in ((start, *part) for start, parts in self.filled.items() for part in parts):
+            data, seen = bytes(self.copy[start][first:first + count]), self.qemu.read(start + first, count)
             if seen != data:
-                wrong += [start + at for at in range(0, len(data), WORD) if seen[at:at + WORD] != data[at:at + WORD]]
-                self.qemu.write(start, bytes(data))
+                wrong += [start + first + at for at in range(0, count, WORD)
+                          if seen[at:at + WORD] != data[at:at + WORD]]
+                self.qemu.write(start + first, data)
         return wrong
 
 

@@ -181,18 +181,20 @@ def array(kind: str, name: str, items: list[str]) -> tuple[str, str, int]:
                                                             for item in items) + "};\n\n", name, len(items)
 
 
+def pages_at(trial: Trial, answers: Answers, number: int) -> list[int | None]:
+    """A page that a card may read, with the processor's address of it, and a page that it may write, with its own: of
+    each the first, if there is one for that access alone."""
+    found: list[int | None] = []
+    for access, other in ((False, True), (True, False)):
+        pages = [page for page in trial.pages_of(number) if answers.get((number, page, access)) is not None]
+        pages.sort(key=lambda page: answers[(number, page, other)] is not None)
+        found += [pages[0], trial.memory_of(answers[(number, pages[0], access)])] if pages else [None, None]
+    return found
+
+
 def pages_texts(trial: Trial, answers: Answers) -> list[str]:
-    """For each card a page that it may read and one that it may write, as initializers: the first of each."""
-    texts = []
-    for number in trial.agents:
-        found: list[str] = []
-        for access, other in ((False, True), (True, False)):
-            pages = [page for page in trial.pages_of(number) if answers[(number, page, access)] is not None]
-            pages.sort(key=lambda page: answers[(number, page, other)] is not None)
-            memory = trial.memory_of(answers[(number, pages[0], access)]) if pages else None
-            found += [number_text(pages[0] if pages else None), number_text(memory)]
-        texts.append("{" + ", ".join(found) + "}")
-    return texts
+    """For each card a page that it may read and one that it may write, as initializers."""
+    return [f"{{{', '.join(map(number_text, pages_at(trial, answers, number)))}}}" for number in trial.agents]
 
 
 def probe_texts(trial: Trial, answers: Answers, is_short: bool) -> list[str]:

@@ -1,8 +1,9 @@
 /* The functions of netconf_image.h stand in this file. */
 #define NETCONF_IMAGE_IMPLEMENTATION
-#include "vtd.h"
+#include "netconf_image.h"
 
 #include "pc.h"
+#include "vtd.h"
 
 /* Where the registers are on q35; a machine's firmware tells it in the ACPI table DMAR. */
 #define REGISTERS         0xfed90000ULL
@@ -56,7 +57,7 @@ static vtd_table contexts __attribute__((aligned(4096)));
 static vtd_table interrupts __attribute__((aligned(4096)));
 static vtd_table queue __attribute__((aligned(4096)));
 static vtd_table tables[TABLES] __attribute__((aligned(4096)));
-static unsigned tables_used, queue_at, is_caching;
+static unsigned tables_used, queue_at, is_caching, is_stale;
 static volatile uint32_t queue_done;
 static uint32_t on;
 static const struct netconf_layout *layout;
@@ -96,8 +97,11 @@ int vtd_forget(void)
     order(WAIT | WRITE_STATUS | STATUS_DONE, (uintptr_t)&queue_done);
     write64(REGISTERS + QUEUE_TAIL, (uint64_t)queue_at << 4);
     for (turns = 0; turns < WAITS && !queue_done; turns++) pause();
+    is_stale = 0;
     return turns == WAITS;
 }
+
+int vtd_is_stale(void) { return (int)is_stale; }
 
 int vtd_start(void)
 {
@@ -259,6 +263,7 @@ static int unmap(void *context, unsigned agent, const struct netconf_page *page)
 {
     uint64_t *leaf;
     (void)context;
+    is_stale = 1;
     if (has_lines(agent)) {
         uint32_t handle = vtd_handle_of(layout, agent, page->first);
         write_half(handle, 0, 0);
@@ -279,6 +284,13 @@ static int fence(void *context)
     return 0;
 }
 
+/* Where the fence is an event of its own, a change has none. */
+static int no_fence(void *context)
+{
+    (void)context;
+    return 0;
+}
+
 /* A page that the hardware cannot say is a fault of the board here: every page of this one can be said. */
 static int uneven(void *context, unsigned agent, const struct netconf_page *page)
 {
@@ -287,9 +299,9 @@ static int uneven(void *context, unsigned agent, const struct netconf_page *page
     return 1;
 }
 
-int vtd_load(const struct netconf_image *before, const struct netconf_image *next)
+static int change(const struct netconf_image *before, const struct netconf_image *next, int (*wait)(void *))
 {
-    static const struct netconf_page_device device = {NULL, map, unmap, fence, uneven};
+    const struct netconf_page_device device = {NULL, map, unmap, wait, uneven};
     uint64_t sizes[MOST_AGENTS];
     unsigned agent;
     layout = next->layout;
@@ -298,6 +310,16 @@ int vtd_load(const struct netconf_image *before, const struct netconf_image *nex
     for (agent = 0; agent < layout->agent_count; agent++) sizes[agent] = has_lines(agent) ? 1 : 1 << 12;
     if (netconf_change_pages(before, next, sizes, &device)) return 1;
     return is_caching ? vtd_forget() : 0;
+}
+
+int vtd_load(const struct netconf_image *before, const struct netconf_image *next)
+{
+    return change(before, next, fence);
+}
+
+int vtd_write(const struct netconf_image *before, const struct netconf_image *next)
+{
+    return change(before, next, no_fence);
 }
 
 int vtd_fault(unsigned *function, uint64_t *page, int *is_write)

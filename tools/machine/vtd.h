@@ -3,7 +3,10 @@
 #ifndef VTD_H
 #define VTD_H
 
-#include "netconf_image.h"
+#include <stdint.h>
+
+struct netconf_image;
+struct netconf_layout;
 
 /* Turns translation and remapping on with empty tables, so that no device comes to anything. Returns 0, or 1 if this I/O
  * MMU lacks something that the driver needs. */
@@ -12,6 +15,12 @@ int vtd_start(void);
 /* Brings the machine from one image to the next; `before` is NULL at first. Returns 0, or 1 if the layout or the hardware
  * cannot say the next image: then nothing more is written. */
 int vtd_load(const struct netconf_image *before, const struct netconf_image *next);
+
+/* The same without a fence, where fences come as events of their own. */
+int vtd_write(const struct netconf_image *before, const struct netconf_image *next);
+
+/* Whether something was cleared since the IOMMU forgot what it keeps of its tables. */
+int vtd_is_stale(void);
 
 /* Called, if set, after each word that is written to a record of the table of interrupts; and after the fence. */
 extern void (*vtd_word_written)(unsigned handle);
