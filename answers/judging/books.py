@@ -21,16 +21,19 @@ class Grant(typing.NamedTuple):
 class Book:
     """The live grants over a net, in the order in which they were granted."""
 
-    def __init__(self, net):
-        self.net, self.grants = net, []
+    def __init__(self, net: nets.Net) -> None:
+        self.net = net
+        self.grants: list[Grant] = []
 
-    def live(self, id):
+    def live(self, id: str) -> Grant | None:
         """The live grant of an id, or None."""
         return next((grant for grant in self.grants if grant.id == id), None)
 
-    def slots(self):
+    def slots(self) -> placements.Slots:
         """The slots as the live grants leave them: each holds the record of the first grant that has one there."""
-        held, uses, owned = {}, {}, set()
+        held: dict[nets.Name, units.Record] = {}
+        uses: dict[nets.Name, int] = {}
+        owned: set[nets.Name] = set()
         for grant in self.grants:
             for slot, record in placements.placed_records(self.net, grant.request, grant.placement).items():
                 held.setdefault(slot, record)
@@ -39,7 +42,7 @@ class Book:
             owned |= {(own.unit, slot) for slot in placements.slots_of(self.net, grant.request.size, own)}
         return placements.Slots(held, uses, owned)
 
-    def owed(self, access, name):
+    def owed(self, access: str, name: nets.Name) -> frozenset[nets.Name]:
         """The names owed to a name for an access: what it resolves to in the net, and what the live grants give
         there."""
         names = nets.resolved(self.net, name)
@@ -48,12 +51,12 @@ class Book:
         return names
 
 
-def rights_of(access):
+def rights_of(access: str | None) -> frozenset[str]:
     """The rights that a command says: one access, or both where it says none."""
     return units.BOTH if access is None else frozenset([access])
 
 
-def first_not_accepted(net, node, base, size):
+def first_not_accepted(net: nets.Net, node: int, base: int, size: int) -> int | None:
     """The first address of a buffer that a node does not accept, and the base where it is empty; or None."""
     if size == 0:
         return base
@@ -62,17 +65,17 @@ def first_not_accepted(net, node, base, size):
                 None)
 
 
-def is_agent(net, node):
+def is_agent(net: nets.Net, node: int | None) -> bool:
     """The node is there, and is an agent."""
     return node is not None and net.nodes[node].role == "agent"
 
 
-def has_vectors(net, node):
+def has_vectors(net: nets.Net, node: int | None) -> bool:
     """The node is there, and has interrupt vectors."""
     return node is not None and net.nodes[node].role == "vectors"
 
 
-def grant_refusal(book, id, agent, node, base, size):
+def grant_refusal(book: Book, id: str, agent: int, node: int, base: int, size: int) -> str | None:
     """The first refusal of a grant that needs no search, or None."""
     net = book.net
     if book.live(id):
@@ -87,7 +90,7 @@ def grant_refusal(book, id, agent, node, base, size):
     return "BookFull" if len(book.grants) >= MOST_GRANTS else None
 
 
-def granted(book, id, agent_name, node_name, base, size, access):
+def granted(book: Book, id: str, agent_name: str, node_name: str, base: int, size: int, access: str | None) -> str:
     """The turn of `grant`: its reply; where the buffer is granted the book has the grant at its end."""
     agent, node = book.net.number(agent_name), book.net.number(node_name)
     refusal = grant_refusal(book, id, agent, node, base, size)
@@ -101,7 +104,7 @@ def granted(book, id, agent_name, node_name, base, size, access):
     return f"{id} at {found.v:#x}"
 
 
-def route_refusal(book, id, agent, node):
+def route_refusal(book: Book, id: str, agent: int, node: int | None) -> str | None:
     """The first refusal of a route that needs no search, or None."""
     if book.live(id):
         return "IdUsed"
@@ -112,13 +115,13 @@ def route_refusal(book, id, agent, node):
     return "BookFull" if len(book.grants) >= MOST_GRANTS else None
 
 
-def free_vectors(book, node):
+def free_vectors(book: Book, node: int) -> list[int]:
     """The vectors that a node accepts and that no live grant of it has, ascending."""
     taken = {grant.request.base for grant in book.grants if grant.request.node == node}
     return [addr for addr in range(book.net.edge) if nets.is_accepted(book.net, (node, addr)) and addr not in taken]
 
 
-def routed(book, id, agent_name, line, node_name):
+def routed(book: Book, id: str, agent_name: str, line: int, node_name: str) -> str:
     """The turn of `route`: the least free vector that has an admissible placement at the line."""
     agent, node = book.net.number(agent_name), book.net.number(node_name)
     refusal = route_refusal(book, id, agent, node)
@@ -134,7 +137,7 @@ def routed(book, id, agent_name, line, node_name):
     return f"{id} refused: NoPlacement"
 
 
-def revoked(book, id):
+def revoked(book: Book, id: str) -> str:
     """The turn of `revoke`: the book is without the grant of the id."""
     if not book.live(id):
         return f"{id} refused: NoGrant"

@@ -2,8 +2,11 @@
 
 import functools
 import typing
+from collections.abc import Callable, Iterator
+from typing import Any
 
-from judging import books, dice, drawn, narrow, nets, placements, replies, rules, scripts, shapes, units
+from judging import books, drawn, narrow, nets, placements, replies, rules, scripts, shapes, units
+from judging.dice import Dice
 
 FIRST_SEED = 20170401
 """Where the seeds of each shape begin."""
@@ -45,39 +48,39 @@ class Case(typing.NamedTuple):
     """A text with what the program is to answer; or a statement that the judge finds false by itself."""
 
     name: str
-    words: list
+    words: list[str]
     text: bytes
-    due: tuple
-    net: object = None
-    commands: tuple = ()
+    due: tuple[int, bytes]
+    net: Any = None
+    commands: tuple[tuple[Any, ...], ...] = ()
     holds: bool = True
 
 
-def case_of(name, thrown, script):
+def case_of(name: str, thrown: Dice, script: scripts.Script) -> Case:
     """The case of a script, with the texts that are due."""
     text = scripts.text_of(thrown, script.net, script.commands)
     due = 0, "".join(line + "\n" for line in script.due).encode()
     return Case(name, ["run"], text.encode(), due, script.net, tuple(script.commands))
 
 
-def drawn_out(name, thrown, case, bits):
+def drawn_out(name: str, thrown: Dice, case: Case, bits: int) -> Case:
     """The case of a script over a net whose addresses become stretches of two to so many bits."""
     drawing = drawn.Drawing(case.net, bits)
     text = scripts.text_of(thrown, drawing.drawn(), [drawing.command(command) for command in case.commands])
     return Case(name, ["run"], text.encode(), (0, drawing.output(case.due[1])))
 
 
-def refused(name, thrown, net, fault):
+def refused(name: Any, thrown: Any, net: Any, fault: Any) -> Any:
     """The cases of a net that breaks a rule: each command refuses it, whatever is asked of it."""
     text = scripts.text_of(thrown, net, [("dump",)]).encode()
     due = 4, f"refused: {fault}\n".encode()
     return [Case(f"{name} {word}", [word], text, due, net) for word in ("run", "check")]
 
 
-def of_seed(shape, seed):
+def of_seed(shape: Callable[..., Any], seed: int) -> Any:
     """The cases of a net of a shape: commands over it; of one net in eight how it is printed; and of some, drawn
     out."""
-    thrown = dice.Dice(seed)
+    thrown = Dice(seed)
     name = f"{shape.__name__} {seed}"
     net = shape(thrown)
     fault = rules.fault(net)
@@ -98,14 +101,14 @@ def of_seed(shape, seed):
     return cases
 
 
-def mixed(few=1, part=0, parts=1):
+def mixed(few: int = 1, part: int = 0, parts: int = 1) -> Iterator[Case]:
     """Cases of every shape and of one seed of so many; or of one part of these, where there are several."""
     for shape in SHAPES:
         for seed in range(FIRST_SEED, FIRST_SEED + SEEDS[shape.__name__] // few)[part::parts]:
             yield from of_seed(shape, seed)
 
 
-def of_pieces(shape, seed):
+def of_pieces(shape: Callable[..., Any], seed: int) -> list[Case]:
     """The cases of buffers in pieces over a net of a shape, where it breaks no rule; and of some, drawn out."""
     thrown, script = begun(shape, seed, 0)
     if script is None:
@@ -117,7 +120,7 @@ def of_pieces(shape, seed):
                     else [])
 
 
-def gathered(few=1, part=0, parts=1):
+def gathered(few: int = 1, part: int = 0, parts: int = 1) -> Iterator[Case]:
     """The same of each shape that has some, and of one seed of so many; or of one part of these, where there are
     several."""
     for shape in (each for each in SHAPES if each.__name__ in GATHERED):
@@ -125,14 +128,14 @@ def gathered(few=1, part=0, parts=1):
             yield from of_pieces(shape, seed)
 
 
-def requests(net):
+def requests(net: nets.Net) -> list[tuple[str, str, int, int, str | None]]:
     """Requests of all agents for one to four addresses from each below 6 of the first two nodes on, with each of the
     rights."""
     return [(net.nodes[agent].name, node.name, base, size, access) for agent in net.agents() for node in net.nodes[:2]
             if node.accepts for base in range(6) for size in range(1, 5) for access in (units.READ, units.WRITE, None)]
 
 
-def cut_down(thrown, net, most):
+def cut_down(thrown: Any, net: Any, most: Any) -> Any:
     """The net with fewer slots, outputs and ports, so that there are at most so many additions. Windows stay as they
     are."""
     while count_of_additions(net, books.Book(net).slots()) > most:
@@ -146,10 +149,10 @@ def cut_down(thrown, net, most):
     return nets.Net(net.nodes)
 
 
-def begun(shape, seed, count, most=None):
+def begun(shape: Callable[..., Any], seed: int, count: int, most: int | None = None) -> Any:
     """A script over a net of a shape in which so many changes were made, where it breaks no rule. Where it is to have
     at most so many additions, it is cut down."""
-    thrown = dice.Dice(seed)
+    thrown = Dice(seed)
     net = shape(thrown)
     if most and rules.fault(net) is None:
         net = cut_down(thrown, net, most)
@@ -161,7 +164,7 @@ def begun(shape, seed, count, most=None):
     return thrown, script
 
 
-def of_all_requests(few=1):
+def of_all_requests(few: int = 1) -> Iterator[Case]:
     """Each request of the fixed nets, over no live grant and over a few: what it is answered, and the tables with
     it."""
     for shape in REQUESTED:
@@ -174,7 +177,7 @@ def of_all_requests(few=1):
             yield case_of(f"{shape.__name__} {seed}, each request", thrown, script)
 
 
-def of_all_nodes():
+def of_all_nodes() -> Iterator[Case]:
     """What each node of a net without units sees, as rows, and what each of its addresses below 32 resolves to."""
     thrown, script = begun(shapes.neighbours, FIRST_SEED, 0)
     script.views()
@@ -184,7 +187,7 @@ def of_all_nodes():
     yield case_of(f"neighbours {FIRST_SEED}, each node", thrown, script)
 
 
-def one_addresses(script, access):
+def one_addresses(script: scripts.Script, access: str | None) -> dict[tuple[int, nets.Name], bool]:
     """Each address below 8 that the net's memories accept for each agent: which of them is granted, as names."""
     net = script.net
     found = {}
@@ -197,7 +200,7 @@ def one_addresses(script, access):
     return found
 
 
-def one_lines(script):
+def one_lines(script: scripts.Script) -> Any:
     """Each line below 8 of each agent to each core: which vector is routed, or None."""
     net, found = script.net, {}
     for agent in net.agents():
@@ -209,7 +212,7 @@ def one_lines(script):
     return found
 
 
-def count_of_additions(net, slots):
+def count_of_additions(net: Any, slots: Any) -> Any:
     """How many sets of records for both accesses the free slots can hold."""
     count = 1
     for _, records in placements.holdable(net, slots):
@@ -217,7 +220,7 @@ def count_of_additions(net, slots):
     return count
 
 
-def is_complete(script, access, most):
+def is_complete(script: scripts.Script, access: str | None, most: int) -> bool:
     """Exactly those addresses are granted, and the least free vectors routed, that some addition gives exactly.
 
     The commands that ask for each are added to the script."""
@@ -234,13 +237,13 @@ def is_complete(script, access, most):
     return holds
 
 
-def complete(name, thrown, script, access, most):
+def complete(name: str, thrown: Dice, script: scripts.Script, access: str | None, most: int) -> Case:
     """The case of a script whose refusals are complete for an access, beside what additions of so many records give."""
     holds = is_complete(script, access, most)
     return case_of(f"{name}, each address for {access or 'both'}", thrown, script)._replace(holds=holds)
 
 
-def of_refusals():
+def of_refusals() -> Iterator[Case]:
     """Refusals of one address and of a line over the fixed nets, beside all additions of up to three records."""
     for shape in FIXED:
         thrown, script = begun(shape, FIRST_SEED, 4)
@@ -249,7 +252,7 @@ def of_refusals():
             yield complete(f"{shape.__name__} {FIRST_SEED}", thrown, script, access, MOST_RECORDS.get(shape, 3))
 
 
-def small(shape, seed):
+def small(shape: Any, seed: Any) -> Any:
     """A script over a net of a shape whose free slots can hold few records, with its dice and an access; or None."""
     thrown, script = begun(shape, seed, 3, MOST_ADDITIONS if shape in narrow.SHAPES else None)
     if script is None or count_of_additions(script.net, script.book.slots()) > MOST_ADDITIONS:
@@ -257,25 +260,26 @@ def small(shape, seed):
     return thrown, script, None if script.cores else thrown.one_of([units.READ, units.WRITE, None])
 
 
-def of_small_refusals(few=1):
+def of_small_refusals(few: int = 1) -> Iterator[Any]:
     """The same over generated nets whose free slots can hold few records, beside additions of any number."""
     for shape in SHAPES:
         for seed in range(FIRST_SEED, FIRST_SEED + FULL_SEEDS // few):
             found = small(shape, seed)
             if found:
-                yield complete(f"{shape.__name__} {seed}", *found, MOST_ADDITIONS)
+                thrown, script, access = found
+                yield complete(f"{shape.__name__} {seed}", thrown, script, access, MOST_ADDITIONS)
 
 
-def completeness(count):
+def completeness(count: Any) -> Any:
     """For each shape and so many seeds a call that says whether the refusals over that small net are complete."""
-    def is_complete_over(shape, seed):
+    def is_complete_over(shape: Any, seed: Any) -> Any:
         found = small(shape, seed)
-        return found is None or is_complete(*found[1:], MOST_ADDITIONS)
+        return found is None or is_complete(found[1], found[2], MOST_ADDITIONS)
     seeds = range(FIRST_SEED, FIRST_SEED + count)
     return [functools.partial(is_complete_over, shape, seed) for seed in seeds for shape in SHAPES]
 
 
-def of_name(name):
+def of_name(name: Any) -> Any:
     """The cases of a name that was printed."""
     shape, seed = name.split(",")[0].split()[:2]
     if "," in name:

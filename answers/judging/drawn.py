@@ -5,6 +5,7 @@ stands, and all answers are those of the small net, drawn out likewise: so what 
 search among them. What stands behind the edge of a net is behind that of the drawn one."""
 
 import re
+from typing import Any
 
 from judging import nets
 
@@ -14,18 +15,18 @@ NUMBERS = re.compile(rb"0x([0-9a-f]+)(?:-0x([0-9a-f]+))?")
 class Drawing:
     """Addresses become stretches of two to so many bits; the last one of all, and what is past it, stay as they are."""
 
-    def __init__(self, net, bits):
+    def __init__(self, net: nets.Net, bits: int) -> None:
         self.net, self.bits = net, bits
 
-    def first(self, addr):
+    def first(self, addr: int) -> int:
         """The first address of the stretch that an address becomes."""
         return addr << self.bits if addr <= nets.TOP >> self.bits else addr
 
-    def last(self, addr):
+    def last(self, addr: int) -> int:
         """The last address of that stretch."""
         return (addr + 1 << self.bits) - 1
 
-    def node(self, node):
+    def node(self, node: nets.Node) -> nets.Node:
         """A node whose blocks are drawn out; the slots of a unit are as many as before, and its page and outputs
         larger."""
         accepts = [(self.first(lo), self.last(hi)) for lo, hi in node.accepts]
@@ -35,7 +36,7 @@ class Drawing:
             node.unit.kind, node.unit.page + self.bits, node.unit.slots, node.unit.reach + self.bits, node.unit.ports)
         return nets.Node(node.name, node.role, accepts, entries, node.over, unit)
 
-    def command(self, command):
+    def command(self, command: tuple[Any, ...]) -> tuple[Any, ...]:
         """A command over the drawn net: addresses and sizes are drawn out."""
         if command[0] == "grant":
             word, id, agent, node, base, size, access = command
@@ -46,20 +47,20 @@ class Drawing:
                                       for id, node, base, size in pieces), access
         return tuple(self.first(part) if isinstance(part, int) else part for part in command)
 
-    def output(self, output):
+    def output(self, output: bytes) -> bytes:
         """What is printed, drawn out: the last address of a row is the last of its stretch."""
-        def number(found):
+        def number(found: re.Match[bytes]) -> bytes:
             if found[2] is None:
                 return b"%#x" % self.first(int(found[1], 16))
             return b"%#x-%#x" % (self.first(int(found[1], 16)), self.last(int(found[2], 16)))
         return NUMBERS.sub(number, output)
 
-    def drawn(self):
+    def drawn(self) -> nets.Net:
         """The net that is drawn out."""
         return nets.Net([self.node(node) for node in self.net.nodes])
 
 
-def most_bits(net):
+def most_bits(net: nets.Net) -> Any:
     """By how many bits a net can be drawn out, so that its edge is at most the last address; by none where it has
     vectors, whose units have pages of one address."""
     parts = [node.unit for node in net.nodes if node.unit]

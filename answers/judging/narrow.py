@@ -2,14 +2,20 @@
 units with many ports, and rows of three units. They are made by dice, as those of shapes.py are."""
 
 from judging.shapes import Draft, agents, bus, memory
+from typing import Any
+
+from judging import nets
+from judging.dice import Dice
 
 
-def crooked(dice, dests, most, ends=9):
+def crooked(dice: Dice, dests: list[tuple[str, int]], most: int,
+            ends: int = 9) -> list[tuple[int, int, list[tuple[str, int]]]]:
     """One to so many map entries, apart and in any order: each from any address of a destination on, and of any length;
     once in a while one that has addresses of another entry again.
 
     A destination is a name and how many addresses it has."""
-    entries, at = [], dice.roll(2)
+    entries: list[Any] = []
+    at = dice.roll(2)
     for _ in range(dice.between(1, most)):
         if entries and dice.once_in(3):
             lo, hi, [(name, addr)] = dice.one_of(entries)
@@ -25,7 +31,7 @@ def crooked(dice, dests, most, ends=9):
     return dice.mixed(entries)
 
 
-def way(draft, name, dests, outputs):
+def way(draft: Draft, name: str, dests: list[tuple[str, int]], outputs: int) -> None:
     """A node on the way from a unit: all of the first destination from an address on, or crooked windows, or no
     window."""
     dice = draft.dice
@@ -37,7 +43,7 @@ def way(draft, name, dests, outputs):
         bus(draft, name, dests, outputs, 6)
 
 
-def callers(draft, names, doors, direct):
+def callers(draft: Draft, names: list[str], doors: list[tuple[str, int, int]], direct: str) -> None:
     """Agents before units: with crooked windows, or as other shapes have them, or with the windows of the agent before.
 
     A door is a unit, its slots and the exponent of its page."""
@@ -54,7 +60,7 @@ def callers(draft, names, doors, direct):
         draft.node(name, "agent", entries=kept)
 
 
-def ports(dice):
+def ports(dice: Dice) -> nets.Net:
     """A unit with three to eight ports, several of which lead to one memory: at other addresses, in part, or in two
     ways."""
     draft = Draft(dice)
@@ -80,7 +86,7 @@ def ports(dice):
     return draft.net()
 
 
-def inner_ports(draft, name, inner, others, outputs):
+def inner_ports(draft: Any, name: Any, inner: Any, others: Any, outputs: Any) -> Any:
     """The ports of a unit before another one: nodes on the way to that one, it itself, or others."""
     dice, found = draft.dice, []
     for number in range(dice.between(1, 2)):
@@ -92,7 +98,7 @@ def inner_ports(draft, name, inner, others, outputs):
     return list(dict.fromkeys(found + others[: dice.once_in(3)]))
 
 
-def rows(dice):
+def rows(dice: Any) -> Any:
     """Three units in a row with crooked windows between them, each with one to three ports; agents come in at each of
     them."""
     draft = Draft(dice)
@@ -119,7 +125,7 @@ def rows(dice):
     return draft.net()
 
 
-def aliases(dice):
+def aliases(dice: Dice) -> nets.Net:
     """Agents that share inputs, agents with two windows onto the same inputs, and a bus that has a memory twice."""
     draft = Draft(dice)
     last = dice.between(3, 7)
@@ -147,7 +153,7 @@ def aliases(dice):
     return draft.net()
 
 
-def full(dice):
+def full(dice: Dice) -> nets.Net:
     """Few slots of large pages near memory, which fill up, and many of small ones before them, which lead on to
     these."""
     draft = Draft(dice)
@@ -176,7 +182,7 @@ def full(dice):
     return draft.net()
 
 
-def remappers(dice):
+def remappers(dice: Any) -> Any:
     """Lines that come to the vectors of two to four cores through one to three remappers, some with many ports."""
     draft = Draft(dice)
     cores = [f"core{number}" for number in range(dice.between(2, 4))]
@@ -203,12 +209,15 @@ def remappers(dice):
     return draft.net()
 
 
-def split_windows(dice, slots, doors):
+def split_windows(dice: Dice, slots: dict[str, int],
+                  doors: list[tuple[str, int]]) -> tuple[list[tuple[int, int, list[tuple[str, int]]]], dict[str, int]]:
     """One to three windows one after the other, each onto some of the slots of a unit; mostly from where a slot begins,
     and mostly onto slots that no window before had.
 
     A door is a unit and the exponent of its page."""
-    entries, at, used = [], dice.roll(2), {}
+    entries: list[Any] = []
+    used: dict[str, int] = {}
+    at = dice.roll(2)
     for _ in range(dice.between(1, 3)):
         unit, page = dice.one_of(doors)
         first, count = used.get(unit, dice.roll(2)), dice.between(1, 4)
@@ -222,7 +231,7 @@ def split_windows(dice, slots, doors):
     return dice.mixed(entries), used
 
 
-def lists(dice):
+def lists(dice: Dice) -> nets.Net:
     """One or two units with some ports and many slots, and agents with windows onto different slots: room for buffers
     in pieces."""
     draft, doors, slots = Draft(dice), [], {}
@@ -251,13 +260,14 @@ def lists(dice):
 SHAPES = (ports, rows, aliases, full, remappers, lists)
 
 
-def eight_ports(dice):
+def eight_ports(dice: Dice) -> nets.Net:
     """A unit with eight ports: to a memory whole, twice; from another page or within a page on; in single addresses;
     beside another memory; by `over`; and in part. Two agents have parts of its slots."""
     draft = Draft(dice)
     draft.node("ram", accepts=[(0, 5)])
     draft.node("rom", accepts=[(0, 1)])
-    windows = [[(0, 5, 0)], [(0, 5, 0)], [(2, 7, 0)], [(1, 4, 2)], [(0, 0, 5), (3, 3, 0)], [(2, 3, 4)], [], [(0, 1, 3)]]
+    windows: list[list[nets.Block]] = [
+        [(0, 5, 0)], [(0, 5, 0)], [(2, 7, 0)], [(1, 4, 2)], [(0, 0, 5), (3, 3, 0)], [(2, 3, 4)], [], [(0, 1, 3)]]
     for number, parts in enumerate(windows):
         entries = [(lo, hi, [("ram", addr)]) for lo, hi, addr in parts] + [(0, 1, [("rom", 0)])] * (number == 5)
         draft.node(f"way{number}", entries=entries, over=None if parts else "ram")
@@ -267,7 +277,7 @@ def eight_ports(dice):
     return draft.net(False)
 
 
-def crooked_row(dice):
+def crooked_row(dice: Dice) -> nets.Net:
     """Three units in a row with windows between them that begin and end within pages, and two ways to one input; agents
     have an input of the first unit twice, and inputs of the others."""
     draft = Draft(dice)
@@ -283,7 +293,7 @@ def crooked_row(dice):
     return draft.net(False)
 
 
-def row_of_remappers(dice):
+def row_of_remappers(dice: Dice) -> nets.Net:
     """Three remappers in a row before the vectors of three cores, with a line that comes to an input of another line
     again."""
     draft = Draft(dice)

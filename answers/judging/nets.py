@@ -3,55 +3,70 @@
 A name is a pair of a node's number and an address. All searches are plain: they look at each address below the edge of
 a net, so that nets are to be small."""
 
+from collections.abc import Callable, Iterable
+from typing import Any
+
 TOP = (1 << 56) - 1
 STEPS = 65
+
+Name = tuple[int, int]
+"""The number of a node and an address; or the first and the last address of a block."""
+
+Block = tuple[int, int, int]
+"""The first and the last address of a window, and where the first is sent."""
+
+Entry = tuple[int, int, list[Name]]
+"""An entry of a map: its first and its last address, and the names to which the first is sent."""
 
 
 class Unit:
     """What a unit is: its kind, the exponent of its page, its slots, the bits of its outputs, and its ports by
     number."""
 
-    def __init__(self, kind, page, slots, reach, ports):
+    def __init__(self, kind: str, page: int, slots: int, reach: int, ports: list[int]) -> None:
         self.kind, self.page, self.slots, self.reach, self.ports = kind, page, slots, reach, list(ports)
 
 
 class Node:
     """A node: accept blocks (first, last), map entries (first, last, [(node, address)]), and the number of `over`."""
 
-    def __init__(self, name, role="plain", accepts=(), entries=(), over=None, unit=None):
-        self.name, self.role, self.over, self.unit = name, role, over, unit
+    def __init__(self, name: str, role: str = "plain", accepts: Iterable[Name] = (), entries: Iterable[Entry] = (),
+                 over: int | None = None, unit: Unit | None = None) -> None:
+        self.name, self.role, self.over = name, role, over
+        self.unit: Any = unit
+        # Whoever asks for more than whether there is one has looked at the role.
         self.accepts, self.entries = list(accepts), list(entries)
 
 
 class Net:
     """A list of nodes, with what was found of their names before."""
 
-    def __init__(self, nodes):
+    def __init__(self, nodes: list[Node]) -> None:
         self.nodes = nodes
         self.edge = edge_of(nodes)
-        self.known = {}
+        self.known: dict[tuple[str, Name], Any] = {}
 
-    def once(self, what, name, find):
+    def once(self, what: str, name: Name, find: Callable[..., Any]) -> Any:
         """What was found of a name before, or what is found now."""
         key = what, name
         if key not in self.known:
             self.known[key] = find(self, name)
         return self.known[key]
 
-    def units(self):
+    def units(self) -> list[int]:
         """The numbers of the units, ascending."""
         return [number for number, node in enumerate(self.nodes) if node.unit]
 
-    def agents(self):
+    def agents(self) -> list[int]:
         """The numbers of the agents, ascending."""
         return [number for number, node in enumerate(self.nodes) if node.role == "agent"]
 
-    def number(self, name):
+    def number(self, name: str) -> Any:
         """The number of the node of this name, or None."""
         return next((number for number, node in enumerate(self.nodes) if node.name == name), None)
 
 
-def edge_of(nodes):
+def edge_of(nodes: list[Node]) -> int:
     """An address past all blocks, all that blocks are sent to, and all slots: from it on an address goes by `over`
     alone."""
     last = 0
@@ -64,19 +79,19 @@ def edge_of(nodes):
     return min(last, TOP) + 1
 
 
-def is_accepted(net, name):
+def is_accepted(net: Net, name: Name) -> bool:
     """The address is at most the top, and lies in an accept block of the node."""
     number, addr = name
     return addr <= TOP and any(lo <= addr <= hi for lo, hi in net.nodes[number].accepts)
 
 
-def is_stop(net, name):
+def is_stop(net: Net, name: Name) -> bool:
     """The address is at most the top, and the node is a unit."""
     number, addr = name
     return addr <= TOP and net.nodes[number].unit is not None
 
 
-def decode(net, name):
+def decode(net: Net, name: Name) -> tuple[list[Name], int]:
     """The destinations of the entry that covers a name, or the `over` node at 0, and by how much their addresses are
     raised."""
     number, addr = name
@@ -89,46 +104,50 @@ def decode(net, name):
     return ([(node.over, 0)], addr) if node.over is not None else ([], 0)
 
 
-def find_steps(net, name):
+def find_steps(net: Net, name: Name) -> list[Name]:
     """The names to which a name decodes."""
     dests, raised = decode(net, name)
     return [(number, addr + raised) for number, addr in dests]
 
 
-def steps(net, name):
+def steps(net: Net, name: Name) -> list[Name]:
     """The names one step on from a name."""
-    return net.once("steps", name, find_steps)
+    found: list[Name] = net.once("steps", name, find_steps)
+    return found
 
 
-def ends(net, passes, name):
+def ends(net: Net, passes: Callable[..., Any], name: Name) -> frozenset[Name]:
     """The names that pass a test and end a chain of at most 65 steps."""
-    found, level, count = set(), {name}, 0
+    found: set[Name] = set()
+    level, count = {name}, 0
     while level and count <= STEPS:
         found.update(each for each in level if passes(net, each))
         level, count = {on for each in level for on in steps(net, each)}, count + 1
     return frozenset(found)
 
 
-def find_resolved(net, name):
+def find_resolved(net: Net, name: Name) -> frozenset[Name]:
     """The accepted names that end a chain from a name."""
     return ends(net, is_accepted, name)
 
 
-def resolved(net, name):
+def resolved(net: Net, name: Name) -> frozenset[Name]:
     """The accepted names to which a name resolves in the net."""
-    return net.once("resolved", name, find_resolved)
+    found: frozenset[Name] = net.once("resolved", name, find_resolved)
+    return found
 
 
-def find_stops(net, name):
+def find_stops(net: Net, name: Name) -> frozenset[Name]:
     """The stops that end a chain from a name."""
     return ends(net, is_stop, name)
 
 
-def stops(net, name):
+def stops(net: Net, name: Name) -> frozenset[Name]:
     """The stops of a name."""
-    return net.once("stops", name, find_stops)
+    found: frozenset[Name] = net.once("stops", name, find_stops)
+    return found
 
 
-def names_of(net, numbers):
+def names_of(net: Net, numbers: range | list[int]) -> list[Name]:
     """The names of nodes up to the edge of the net and at it, which stands for all behind it."""
     return [(number, addr) for number in numbers for addr in range(min(net.edge, TOP) + 1)]

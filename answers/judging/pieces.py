@@ -1,6 +1,9 @@
 """Texts that are read by pieces: however many bytes a read gives, they are answered alike; and so is each front of a
 text."""
 
+from collections.abc import Iterator
+from typing import Any
+
 from judging import program
 
 SIZES = (1, 16, 4096)
@@ -48,28 +51,28 @@ gather core p dram 0x0 0x10 and q dram 2*16 (0x20-0x10) for write; gather core s
 """
 
 
-def texts():
+def texts() -> Any:
     """Texts with words and what is due, each a name, words, text, status and output."""
     rows = [("run", BOARD, 0, ANSWERED), ("check", BOARD, 0, PRINTED), ("run", b"", 0, b""), ("check", b"", 0, b"")]
     rows += [(word, text, 4, b"refused: " + line + b"\n") for text, line in REFUSED for word in ("run", "check")]
     return [(word, text, (status, output)) for word, text, status, output in rows]
 
 
-def of_texts():
+def of_texts() -> Iterator[Any]:
     """What each text comes to by each size of pieces, with what is due."""
     for word, text, due in texts():
         for size in SIZES:
             yield f"{word} over {text[:24]!r} by {size} bytes", due, program.outcome_by_pieces([word], text, size)
 
 
-def of_cases(cases):
+def of_cases(cases: Any) -> Iterator[Any]:
     """What the texts of cases come to by single bytes and by 16, with what is due."""
     for case in cases:
         for size in SIZES[:2]:
             yield f"{case.name} by {size} bytes", case.due, program.outcome_by_pieces(case.words, case.text, size)
 
 
-def of_fronts(few=1):
+def of_fronts(few: Any = 1) -> Iterator[Any]:
     """What each front of a text comes to by pieces of 1 to 16 bytes, with what it comes to at once; it is answered or
     refused.
 

@@ -3,6 +3,8 @@ admissible the first is taken. Additions ("Grants and routes") are tried likewis
 
 import itertools
 import typing
+from collections.abc import Iterator
+from typing import Any
 
 from judging import nets, units
 
@@ -14,7 +16,7 @@ class Request(typing.NamedTuple):
     node: int
     base: int
     size: int
-    rights: frozenset
+    rights: frozenset[str]
 
 
 class Hop(typing.NamedTuple):
@@ -30,45 +32,45 @@ class Placement(typing.NamedTuple):
     """An address of the agent, one to three hops from the agent's end, and which of them is its own."""
 
     v: int
-    hops: tuple
+    hops: tuple[Hop, ...]
     own: int
 
 
 class Slots:
     """The slots of units as live grants leave them: what they hold, how many grants use each, and which are owned."""
 
-    def __init__(self, held, uses, owned):
+    def __init__(self, held: dict[nets.Name, units.Record], uses: dict[nets.Name, int], owned: set[nets.Name]) -> None:
         self.held, self.uses, self.owned = held, uses, owned
 
-    def is_free(self, slot):
+    def is_free(self, slot: nets.Name) -> bool:
         """No live grant uses the slot."""
         return not self.uses.get(slot)
 
-    def has_owner(self, slot):
+    def has_owner(self, slot: nets.Name) -> bool:
         """The slot is one of a live grant's own hop."""
         return slot in self.owned
 
 
-def name_on(name, by):
+def name_on(name: nets.Name, by: int) -> nets.Name:
     """The name so many addresses on."""
     return name[0], name[1] + by
 
 
-def slots_of(net, size, hop):
+def slots_of(net: nets.Net, size: int, hop: Hop) -> range:
     """The slots that a hop takes for so many addresses, ascending."""
     page = net.nodes[hop.unit].unit.page
     return range(hop.x >> page, ((hop.x + size - 1) >> page) + 1)
 
 
-def slot_record(net, hop, rights, slot):
+def slot_record(net: nets.Net, hop: Hop, rights: frozenset[str], slot: int) -> units.Record:
     """The record that a hop puts into a slot: its port, and one page after the other."""
     page = net.nodes[hop.unit].unit.page
     return units.Record(hop.port, (hop.y >> page) + slot - (hop.x >> page), rights)
 
 
-def placed_records(net, request, placement):
+def placed_records(net: nets.Net, request: Request, placement: Placement) -> dict[nets.Name, units.Record]:
     """The records of a placement: with the rights of the request in the own hop and both in every other."""
-    records = {}
+    records: dict[Any, Any] = {}
     for place, hop in enumerate(placement.hops):
         rights = request.rights if place == placement.own else units.BOTH
         for slot in slots_of(net, request.size, hop):
@@ -76,25 +78,25 @@ def placed_records(net, request, placement):
     return records
 
 
-def meets_buffer(net, request, name):
+def meets_buffer(net: nets.Net, request: Request, name: nets.Name) -> bool:
     """From a name on, the names resolve to exactly the buffer and reach no stop."""
     return all(nets.resolved(net, name_on(name, by)) == {(request.node, request.base + by)}
                and not nets.stops(net, name_on(name, by)) for by in range(request.size))
 
 
-def meets_hop(net, request, name, stop):
+def meets_hop(net: nets.Net, request: Request, name: nets.Name, stop: nets.Name) -> bool:
     """From a name on, each reaches the stop of the hop that begins at this one."""
     return all(name_on(stop, by) in nets.stops(net, name_on(name, by)) for by in range(request.size))
 
 
-def is_usable(net, slots, hop, slot):
+def is_usable(net: nets.Net, slots: Slots, hop: Hop, slot: int) -> bool:
     """The slot is free; or it holds just the record, with both rights, and has no owner."""
     place = hop.unit, slot
     return slots.is_free(place) or (
         slots.held.get(place) == slot_record(net, hop, units.BOTH, slot) and not slots.has_owner(place))
 
 
-def fits(net, slots, request, hop):
+def fits(net: nets.Net, slots: Slots, request: Request, hop: Hop) -> bool:
     """Input and output agree within the page, both fit the unit, and each slot is usable."""
     unit = net.nodes[hop.unit].unit
     agree = (hop.x - hop.y) % (1 << unit.page) == 0
@@ -102,7 +104,7 @@ def fits(net, slots, request, hop):
     return agree and within and all(is_usable(net, slots, hop, slot) for slot in slots_of(net, request.size, hop))
 
 
-def hops_from(net, slots, request, name):
+def hops_from(net: nets.Net, slots: Slots, request: Request, name: nets.Name) -> Iterator[Hop]:
     """All hops that a name meets and that fit: of each stop of it, through each port, to each output below the edge
     that agrees with it within the page."""
     for unit, x in nets.stops(net, name):
@@ -115,7 +117,8 @@ def hops_from(net, slots, request, name):
                     yield hop
 
 
-def ways(net, slots, request, name, most=3, known=None):
+def ways(net: nets.Net, slots: Slots, request: Request, name: nets.Name, most: int = 3,
+         known: dict[tuple[nets.Name, int], list[tuple[Hop, ...]]] | None = None) -> list[tuple[Hop, ...]]:
     """All rows of one to so many hops from a name to the buffer. What was found from other names is known."""
     known = {} if known is None else known
     if (name, most) not in known:
@@ -129,14 +132,14 @@ def ways(net, slots, request, name, most=3, known=None):
     return known[name, most]
 
 
-def is_free_hop(net, slots, request, hop):
+def is_free_hop(net: nets.Net, slots: Slots, request: Request, hop: Hop) -> bool:
     """Every slot that the hop takes is free."""
     return all(slots.is_free((hop.unit, slot)) for slot in slots_of(net, request.size, hop))
 
 
-def placements(net, slots, request, at=None):
+def placements(net: nets.Net, slots: Slots, request: Request, at: int | None = None) -> Iterator[Placement]:
     """All placements of a request, at the agent's address that is asked for, or at any."""
-    known = {}
+    known: dict[Any, Any] = {}
     for v in range(net.edge) if at is None else [at]:
         if request.size >= 1 and v + request.size <= nets.TOP + 1:
             for hops in ways(net, slots, request, (request.agent, v), 3, known):
@@ -145,7 +148,7 @@ def placements(net, slots, request, at=None):
                         yield Placement(v, hops, own)
 
 
-def key_of(net, placement):
+def key_of(net: nets.Net, placement: Placement) -> list[int]:
     """The numbers by which placements are ordered."""
     key = [len(placement.hops)]
     for hop in reversed(placement.hops):
@@ -154,34 +157,36 @@ def key_of(net, placement):
     return key + [placement.v, net.nodes[own.unit].unit.page, len(placement.hops) - placement.own]
 
 
-def asked_names(net):
+def asked_names(net: nets.Net) -> Any:
     """The names of agents that reach a unit: what others resolve to is the same under any records."""
-    if "asked" not in net.known:
+    key = "asked", (0, 0)
+    if key not in net.known:
         names = [(agent, addr) for agent in net.agents() for addr in range(net.edge)]
-        net.known["asked"] = [name for name in names if nets.stops(net, name)]
-    return net.known["asked"]
+        net.known[key] = [name for name in names if nets.stops(net, name)]
+    return net.known[key]
 
 
-def seen(net, held):
+def seen(net: nets.Net, held: dict[nets.Name, units.Record]) -> dict[tuple[str, nets.Name], frozenset[nets.Name]]:
     """What each name of an agent that reaches a unit resolves to under records, for each access."""
     return {(access, name): units.resolved_under(net, held, access, name)
             for access in units.ACCESSES for name in asked_names(net)}
 
 
-def added_name(request, v, access, name):
+def added_name(request: Request, v: int, access: str, name: nets.Name) -> frozenset[Any] | set[nets.Name]:
     """The name of the buffer that is added at a name for an access where the buffer stands at an address, as a set."""
     by = name[1] - v
     is_there = name[0] == request.agent and 0 <= by < request.size and access in request.rights
     return {(request.node, request.base + by)} if is_there else frozenset()
 
 
-def gives(net, before, held, request, v):
+def gives(net: nets.Net, before: dict[tuple[str, nets.Name], frozenset[nets.Name]], held: dict[nets.Name, units.Record],
+          request: Request, v: int) -> bool:
     """Under records each agent resolves each address for each access as before, but that the buffer is added."""
     return all(units.resolved_under(net, held, access, name) == names | added_name(request, v, access, name)
                for (access, name), names in before.items())
 
 
-def first(net, slots, request, at=None):
+def first(net: nets.Net, slots: Slots, request: Request, at: int | None = None) -> Placement | None:
     """The first admissible placement of a request, or None."""
     before = None
     for placement in sorted(placements(net, slots, request, at), key=lambda each: key_of(net, each)):
@@ -192,7 +197,7 @@ def first(net, slots, request, at=None):
     return None
 
 
-def holdable(net, slots):
+def holdable(net: nets.Net, slots: Slots) -> list[tuple[nets.Name, list[units.Record]]]:
     """Each free slot with every record for both accesses that it can hold."""
     found = []
     for number in net.units():
@@ -203,7 +208,8 @@ def holdable(net, slots):
     return found
 
 
-def additions(net, slots, rights, most):
+def additions(net: nets.Net, slots: Slots, rights: frozenset[str],
+              most: int) -> Iterator[dict[nets.Name, units.Record]]:
     """All additions for rights of at most so many records in free slots: one has the rights and every other both."""
     free = holdable(net, slots)
     for count in range(1, min(most, len(free)) + 1):
@@ -214,7 +220,8 @@ def additions(net, slots, rights, most):
                     yield {**added, own: added[own]._replace(rights=rights)}
 
 
-def passes_owned(net, slots, held, name, end):
+def passes_owned(net: nets.Net, slots: Slots, held: dict[nets.Name, units.Record], name: nets.Name,
+                 end: nets.Name) -> bool:
     """Some chain from a name to an accepted one passes a slot that a live grant owns. All records held have both
     rights."""
     for stop in nets.stops(net, name):
@@ -225,10 +232,11 @@ def passes_owned(net, slots, held, name, end):
     return False
 
 
-def given_by(net, slots, before, added, rights):
+def given_by(net: nets.Net, slots: Slots, before: dict[tuple[str, nets.Name], frozenset[nets.Name]],
+             added: dict[nets.Name, units.Record], rights: frozenset[str]) -> tuple[nets.Name, nets.Name] | None:
     """The agent's name and the name that records give it exactly, for the accesses of rights and no other; or None."""
     held = units.joined(slots.held, added)
-    given = {}
+    given: dict[Any, Any] = {}
     for (access, name), names in before.items():
         more = units.resolved_under(net, held, access, name) - names
         if more:
@@ -244,7 +252,7 @@ def given_by(net, slots, before, added, rights):
     return None
 
 
-def all_given(net, slots, rights, most):
+def all_given(net: nets.Net, slots: Slots, rights: frozenset[str], most: int) -> set[tuple[nets.Name, nets.Name]]:
     """What additions of at most so many records give exactly: pairs of an agent's name and the name that it is
     given."""
     before = seen(net, slots.held)

@@ -5,6 +5,7 @@ what a wrong program would answer. A wrong text is what the program would print 
 
 import contextlib
 import re
+from typing import Any
 
 from judging import books, gathers, nets, placements, replies, rules, units
 
@@ -12,26 +13,26 @@ RIGHT = {module: dict(vars(module)) for module in (books, gathers, placements, r
 OWED, SLOTS = books.Book.owed, books.Book.slots
 
 
-def right(module, name):
+def right(module: Any, name: Any) -> Any:
     """The right definition of a name."""
     return RIGHT[module][name]
 
 
-def key_with(change):
+def key_with(change: Any) -> Any:
     """The order of placements with a change of the numbers of hops and what stands behind them."""
-    def key_of(net, placement):
+    def key_of(net: nets.Net, placement: placements.Placement) -> Any:
         hops = [[hop.unit, hop.port, hop.y, hop.x] for hop in reversed(placement.hops)]
         page = net.nodes[placement.hops[placement.own].unit].unit.page
         return [len(hops)] + change(hops, placement.v, page, len(hops) - placement.own)
     return key_of
 
 
-def flat(hops):
+def flat(hops: Any) -> Any:
     """The numbers of all hops."""
     return [number for hop in hops for number in hop]
 
 
-def second(net, slots, request, at=None):
+def second(net: nets.Net, slots: placements.Slots, request: placements.Request, at: Any = None) -> Any:
     """The second admissible placement, where there is one."""
     found = right(placements, "first")(net, slots, request, at)
     wide = right(placements, "placements")
@@ -47,59 +48,64 @@ def second(net, slots, request, at=None):
     return found
 
 
-def gives_where(test):
+def gives_where(test: Any) -> Any:
     """What is looked at of a placement is what passes a test of an access, a name and a request."""
-    def gives(net, before, held, request, v):
+    def gives(net: nets.Net, before: Any, held: Any, request: placements.Request, v: int) -> Any:
         kept = {(access, name): names for (access, name), names in before.items() if test(access, name, request, v)}
         return right(placements, "gives")(net, kept, held, request, v)
     return gives
 
 
-def fits_where(change):
+def fits_where(change: Any) -> Any:
     """What a hop must fit, with a change of the slots, the request or the hop that is looked at."""
-    def fits(net, slots, request, hop):
+    def fits(net: nets.Net, slots: placements.Slots, request: placements.Request, hop: placements.Hop) -> Any:
         return change(right(placements, "fits"), net, slots, request, hop)
     return fits
 
 
-def below_reach(fits, net, slots, request, hop):
+def below_reach(fits: Any, net: nets.Net, slots: placements.Slots, request: placements.Request,
+                hop: placements.Hop) -> Any:
     """The last output is left out."""
     return hop.y + request.size < 1 << net.nodes[hop.unit].unit.reach and fits(net, slots, request, hop)
 
 
-def but_last_slot(fits, net, slots, request, hop):
+def but_last_slot(fits: Any, net: nets.Net, slots: placements.Slots, request: placements.Request,
+                  hop: placements.Hop) -> Any:
     """The last slot of a unit serves nothing."""
     unit = net.nodes[hop.unit].unit
     return hop.x + request.size <= unit.slots - 1 << unit.page and fits(net, slots, request, hop)
 
 
-def first_port(fits, net, slots, request, hop):
+def first_port(fits: Any, net: nets.Net, slots: placements.Slots, request: placements.Request,
+               hop: placements.Hop) -> Any:
     """Records go through the first port alone."""
     return hop.port == 0 and fits(net, slots, request, hop)
 
 
-def three_ports(fits, net, slots, request, hop):
+def three_ports(fits: Any, net: nets.Net, slots: placements.Slots, request: placements.Request,
+                hop: placements.Hop) -> Any:
     """Records go through the first three ports alone."""
     return hop.port < 3 and fits(net, slots, request, hop)
 
 
-def from_page(fits, net, slots, request, hop):
+def from_page(fits: Any, net: nets.Net, slots: placements.Slots, request: placements.Request,
+              hop: placements.Hop) -> Any:
     """A hop begins where a slot begins."""
     return hop.x % (1 << net.nodes[hop.unit].unit.page) == 0 and fits(net, slots, request, hop)
 
 
-def to_page(fits, net, slots, request, hop):
+def to_page(fits: Any, net: nets.Net, slots: placements.Slots, request: placements.Request, hop: placements.Hop) -> Any:
     """A hop ends where a slot ends."""
     return (hop.x + request.size) % (1 << net.nodes[hop.unit].unit.page) == 0 and fits(net, slots, request, hop)
 
 
-def end_owned(net, slots, request, at=None):
+def end_owned(net: nets.Net, slots: placements.Slots, request: placements.Request, at: Any = None) -> Any:
     """Of three hops the middle one is never the own one."""
     found = right(placements, "placements")(net, slots, request, at)
     return (placement for placement in found if len(placement.hops) < 3 or placement.own != 1)
 
 
-def two_records(net, held, access, name, most=2):
+def two_records(net: nets.Net, held: Any, access: str, name: Any, most: Any = 2) -> Any:
     """Records are followed in two units at most."""
     names = nets.resolved(net, name)
     for stop in nets.stops(net, name) if most else []:
@@ -109,7 +115,7 @@ def two_records(net, held, access, name, most=2):
     return names
 
 
-def ever_used(book):
+def ever_used(book: books.Book) -> Any:
     """Slots stay in use when their buffer is taken back."""
     slots = SLOTS(book)
     ever = book.__dict__.setdefault("ever", {})
@@ -117,7 +123,7 @@ def ever_used(book):
     return placements.Slots(slots.held, {**ever, **slots.uses}, slots.owned)
 
 
-def given_beside(net, slots, before, added, rights):
+def given_beside(net: nets.Net, slots: placements.Slots, before: Any, added: Any, rights: Any) -> Any:
     """The first name that records give, whatever else they show."""
     for name in (name for access, name in before if access in rights):
         found = right(placements, "given_by")(net, slots, {key: before[key] for key in before if key[1] == name}, added,
@@ -127,34 +133,35 @@ def given_beside(net, slots, before, added, rights):
     return None
 
 
-def rights_everywhere(net, request, placement):
+def rights_everywhere(net: nets.Net, request: placements.Request, placement: placements.Placement) -> Any:
     """Records of all hops have the rights of the request."""
     records = right(placements, "placed_records")(net, request, placement)
     return {slot: record._replace(rights=request.rights) for slot, record in records.items()}
 
 
-def never_shared(net, slots, hop, slot):
+def never_shared(net: nets.Net, slots: placements.Slots, hop: placements.Hop, slot: Any) -> Any:
     """A slot that another grant uses serves nothing."""
     return slots.is_free((hop.unit, slot))
 
 
-def shared_with_owners(net, slots, hop, slot):
+def shared_with_owners(net: nets.Net, slots: placements.Slots, hop: placements.Hop, slot: Any) -> Any:
     """A slot that another grant owns is shared."""
     place = hop.unit, slot
     return slots.is_free(place) or slots.held.get(place) == placements.slot_record(net, hop, units.BOTH, slot)
 
 
-def any_record(net, slots, hop, slot):
+def any_record(net: nets.Net, slots: placements.Slots, hop: placements.Hop, slot: Any) -> Any:
     """A slot that holds another record is shared."""
     return not slots.has_owner((hop.unit, slot))
 
 
-def two_hops(net, slots, request, name, most=3, known=None):
+def two_hops(net: nets.Net, slots: placements.Slots, request: placements.Request, name: Any, most: Any = 3,
+             known: Any = None) -> Any:
     """No placement has three hops."""
     return right(placements, "ways")(net, slots, request, name, min(most, 2), known)
 
 
-def shared_too(book, id):
+def shared_too(book: books.Book, id: str) -> Any:
     """A revoke clears what other grants share, too."""
     gone = book.live(id)
     reply = right(books, "revoked")(book, id)
@@ -165,7 +172,7 @@ def shared_too(book, id):
     return reply
 
 
-def last_revoked(book, id):
+def last_revoked(book: books.Book, id: str) -> Any:
     """A revoke takes back the last grant, whatever its id."""
     if not book.live(id):
         return f"{id} refused: NoGrant"
@@ -173,41 +180,41 @@ def last_revoked(book, id):
     return f"{id} revoked"
 
 
-def any_vector(book, node):
+def any_vector(book: books.Book, node: Any) -> Any:
     """Vectors that live routes have are free."""
     return [addr for addr in range(book.net.edge) if nets.is_accepted(book.net, (node, addr))]
 
 
-def last_vector(book, node):
+def last_vector(book: books.Book, node: Any) -> Any:
     """The greatest vector that is free comes first."""
     return right(books, "free_vectors")(book, node)[::-1]
 
 
-def vectors_of_all(book, node):
+def vectors_of_all(book: books.Book, node: Any) -> Any:
     """A vector that a route to another core has is not free."""
     taken = {grant.request.base for grant in book.grants}
     return [addr for addr in right(books, "free_vectors")(book, node) if addr not in taken]
 
 
-def target_before_agent(book, id, agent, node, base, size):
+def target_before_agent(book: books.Book, id: str, agent: int, node: Any, base: int, size: int) -> Any:
     """`NoTarget` comes before `NoAgent`."""
     refusal = right(books, "grant_refusal")(book, id, agent, node, base, size)
     is_none = node is None or books.has_vectors(book.net, node)
     return "NoTarget" if refusal == "NoAgent" and is_none else refusal
 
 
-def agent_before_id(book, id, agent, node, base, size):
+def agent_before_id(book: books.Book, id: str, agent: int, node: Any, base: int, size: int) -> Any:
     """`IdUsed` comes after `NoAgent`."""
     refusal = right(books, "grant_refusal")(book, id, agent, node, base, size)
     return "NoAgent" if refusal == "IdUsed" and not books.is_agent(book.net, agent) else refusal
 
 
-def last_not_accepted(net, node, base, size):
+def last_not_accepted(net: nets.Net, node: Any, base: int, size: int) -> Any:
     """`NotAccepted` tells the base, whichever address is not accepted."""
     return base if right(books, "first_not_accepted")(net, node, base, size) is not None else None
 
 
-def second_scatter(net, slots, requests):
+def second_scatter(net: nets.Net, slots: placements.Slots, requests: Any) -> Any:
     """The second admissible scattered placement, where there is one."""
     found, before = right(gathers, "first")(net, slots, requests), placements.seen(net, slots.held)
     good = (each for each in gathers.scatters(net, slots, requests) if gathers.gives_all(
@@ -215,20 +222,20 @@ def second_scatter(net, slots, requests):
     return next((each for each in good if each != found), found)
 
 
-def scatters_by(key):
+def scatters_by(key: Any) -> Any:
     """Scattered placements in another order."""
     return lambda net, slots, requests: sorted(right(gathers, "scatters")(net, slots, requests), key=key)
 
 
-def first_start(net, slots, requests):
+def first_start(net: nets.Net, slots: placements.Slots, requests: Any) -> Any:
     """Scattered placements at the first unit and address at which there is one."""
     found = list(right(gathers, "scatters")(net, slots, requests))
     return [each for each in found if each[:2] == found[0][:2]]
 
 
-def some_compared(kept):
+def some_compared(kept: Any) -> Any:
     """What is compared is what some of the pieces add."""
-    def gives_all(net, before, held, requests, scatter):
+    def gives_all(net: nets.Net, before: Any, held: Any, requests: Any, scatter: Any) -> Any:
         grants = gathers.grants_of(requests, scatter)[kept]
         return all(placements.gives(net, {each: names for each, names in before.items() if each[1][0] != request.agent
                                           or placement.v <= each[1][1] < placement.v + request.size}, held, request,
@@ -237,14 +244,14 @@ def some_compared(kept):
     return gives_all
 
 
-def live_ids(book, agent, pieces):
+def live_ids(book: books.Book, agent: int, pieces: Any) -> Any:
     """An id of an earlier piece may come again."""
     parts = [(f"{place}{piece[0]}" if not book.live(piece[0]) else piece[0], *piece[1:])
              for place, piece in enumerate(pieces)]
     return right(gathers, "refusal")(book, agent, parts)
 
 
-def piece_by_piece(book, agent, pieces):
+def piece_by_piece(book: books.Book, agent: int, pieces: Any) -> Any:
     """All refusals are asked of a piece before the next one."""
     found = ((place, right(gathers, "refusal")(book, agent, [piece])) for place, piece in enumerate(pieces))
     place, refused = next(((place, each) for place, each in found if each), (0, None))
@@ -252,19 +259,19 @@ def piece_by_piece(book, agent, pieces):
     return re.sub(r" 0\b", f" {place}", refused, count=1) if refused else first
 
 
-def owed_for_reading(book, access, name):
+def owed_for_reading(book: books.Book, access: str, name: Any) -> Any:
     """What is owed for writing is what is owed for reading."""
     return OWED(book, units.READ, name)
 
 
-def owed_by_net(book, access, name):
+def owed_by_net(book: books.Book, access: str, name: Any) -> Any:
     """What the live grants give is not owed."""
     return nets.resolved(book.net, name)
 
 
-def joined_rows(book, agent, access):
+def joined_rows(book: books.Book, agent: int, access: str) -> Any:
     """Rows that are adjacent and have one name each are one."""
-    rows = []
+    rows: list[Any] = []
     for lo, hi, names in right(replies, "rows_of")(book, agent, access):
         last = rows[-1] if rows else None
         if last and last[1] == lo - 1 and len(names) == len(last[2]) == 1 and last[2] <= names | last[2]:
@@ -274,18 +281,18 @@ def joined_rows(book, agent, access):
     return rows
 
 
-def last_overlap(node):
+def last_overlap(node: Any) -> Any:
     """`Overlap` tells the last address at which a block begins that overlaps."""
     firsts = [lo for lo, _ in node.accepts] + [lo for lo, _, _ in node.entries]
     return max((addr for addr in firsts if rules.overlaps(node, addr)), default=None)
 
 
-def last_node(net):
+def last_node(net: nets.Net) -> Any:
     """Nodes are asked from the last to the first."""
     return right(rules, "node_fault")(nets.Net(net.nodes[::-1]))
 
 
-def greatest_unit(net):
+def greatest_unit(net: nets.Net) -> Any:
     """`Fork` tells the greatest unit that is reached."""
     return right(rules, "fork_fault")(net) and next(
         f"Fork {rules.shown(net, name)} {net.nodes[max(nets.stops(net, name))[0]].name}"
@@ -293,29 +300,29 @@ def greatest_unit(net):
         and nets.stops(net, name))
 
 
-def rows_of_three(net, count):
+def rows_of_three(net: nets.Net, count: Any) -> Any:
     """Three units in a row are too many."""
     return right(rules, "unit_rows")(net, min(count, 3))
 
 
-def swapped_rights(kind, record):
+def swapped_rights(kind: str, record: units.Record) -> Any:
     """The bits of reading and writing change their places."""
     swapped = frozenset({units.READ: units.WRITE, units.WRITE: units.READ}[access] for access in record.rights)
     return right(units, "words_of")(kind, record._replace(rights=swapped))
 
 
-def without_port(kind, record):
+def without_port(kind: str, record: units.Record) -> Any:
     """The words do not say the port."""
     return right(units, "words_of")(kind, record._replace(port=0))
 
 
-def whatever_access(net, held, access, stop):
+def whatever_access(net: nets.Net, held: Any, access: str, stop: Any) -> Any:
     """A record sends for both accesses, whatever its rights."""
     outputs = (right(units, "sent")(net, held, each, stop) for each in (access, *units.ACCESSES))
     return next((output for output in outputs if output is not None), None)
 
 
-def at_page(net, held, access, stop):
+def at_page(net: nets.Net, held: Any, access: str, stop: Any) -> Any:
     """A record sends to the beginning of its page."""
     output = right(units, "sent")(net, held, access, stop)
     page = net.nodes[stop[0]].unit.page
@@ -405,7 +412,7 @@ DEFINITIONS = [
 ]
 
 
-def changed(pattern, replacement):
+def changed(pattern: Any, replacement: Any) -> Any:
     """A text in which the first place of a form is changed."""
     return lambda output: re.sub(pattern, replacement, output, count=1)
 
@@ -429,7 +436,7 @@ TEXTS = [
 
 
 @contextlib.contextmanager
-def planted(place, name, wrong):
+def planted(place: Any, name: Any, wrong: Any) -> Any:
     """A wrong definition in the place of the right one, as long as it is asked for."""
     kept = getattr(place, name)
     setattr(place, name, wrong)
@@ -439,7 +446,7 @@ def planted(place, name, wrong):
         setattr(place, name, kept)
 
 
-def answer(case, with_rules):
+def answer(case: Any, with_rules: Any) -> Any:
     """What is answered to a case by the definitions that stand: its refusal, or the replies to its commands.
 
     The rules on nets are asked of a case with commands only where they are to be."""
@@ -447,7 +454,7 @@ def answer(case, with_rules):
     return replies.answer(case.net, case.commands) if fault is None else f"refused: {fault}\n".encode()
 
 
-def finds(cases, plant):
+def finds(cases: Any, plant: Any) -> Any:
     """Some case has another answer by a wrong definition, or with a change of its text."""
     if len(plant) == 2:
         return any(plant[1](case.due[1]) != case.due[1] for case in cases)
@@ -461,7 +468,7 @@ def finds(cases, plant):
         return any(answer(case, asks_rules) != case.due[1] for case in with_nets)
 
 
-def is_incomplete(calls, plant):
+def is_incomplete(calls: Any, plant: Any) -> Any:
     """With a wrong definition some call says that refusals are not complete."""
     _, place, name, wrong = plant
     with planted(place, name, wrong):

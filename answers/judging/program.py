@@ -7,6 +7,7 @@ import struct
 import subprocess
 import termios
 import time
+from typing import Any
 
 ROOT = pathlib.Path(__file__).resolve().parents[2]
 PROGRAM = os.environ.get("NETCONF") or str(ROOT / "crates/netconf/out/netconf")
@@ -14,7 +15,7 @@ SECONDS = 120
 NO_END = f"no end in {SECONDS} seconds", b""
 
 
-def outcome(words, text):
+def outcome(words: list[str], text: bytes) -> Any:
     """The status and the output of the program, where a read gives as much of the text as it asks for."""
     try:
         done = subprocess.run([PROGRAM, *words], input=text, stdout=subprocess.PIPE, timeout=SECONDS, check=False)
@@ -23,13 +24,13 @@ def outcome(words, text):
     return done.returncode, done.stdout
 
 
-def is_empty(pipe):
+def is_empty(pipe: Any) -> Any:
     """Nothing is left in a pipe."""
     count = fcntl.ioctl(pipe, termios.FIONREAD, struct.pack("i", 0))
     return struct.unpack("i", count)[0] == 0
 
 
-def feed(running, pipe, text, size, deadline):
+def feed(running: Any, pipe: Any, text: Any, size: Any, deadline: Any) -> Any:
     """Writes a text to a pipe, a piece when the one before it was read, as long as the program runs and there is
     time."""
     for at in range(0, len(text) + size, size):
@@ -40,7 +41,7 @@ def feed(running, pipe, text, size, deadline):
         os.write(pipe, text[at: at + size])
 
 
-def outcome_by_pieces(words, text, size):
+def outcome_by_pieces(words: Any, text: Any, size: Any) -> Any:
     """The same where each read gives at most so many bytes."""
     reader, writer = os.pipe()
     with subprocess.Popen([PROGRAM, *words], stdin=reader, stdout=subprocess.PIPE) as running:

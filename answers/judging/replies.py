@@ -1,19 +1,22 @@
 """The replies to commands, and the printed net, by docs/language.md."""
 
-from judging import books, gathers, rules, units
+from collections.abc import Callable
+from typing import Any
+
+from judging import books, gathers, nets, rules, units
 
 
-def said(access):
+def said(access: str | None) -> str:
     """What a reply says of an access."""
     return "" if access is None else f" for {access}"
 
 
-def names_text(net, names):
+def names_text(net: nets.Net, names: frozenset[nets.Name]) -> str:
     """Names in the order of the nodes and then of the addresses, or `nothing`."""
     return ", ".join(rules.shown(net, name) for name in sorted(names)) or "nothing"
 
 
-def resolve(book, node_name, addr, access):
+def resolve(book: books.Book, node_name: str, addr: int, access: str | None) -> str:
     """What an address of a node comes to under the records of the book."""
     start, number = f"{node_name}@{addr:#x}{said(access)}: ", book.net.number(node_name)
     if number is None:
@@ -22,7 +25,7 @@ def resolve(book, node_name, addr, access):
                                                              (number, addr)))
 
 
-def lookup(book, agent_name, addr, access):
+def lookup(book: books.Book, agent_name: str, addr: int, access: str | None) -> str:
     """What the book owes to an address of an agent."""
     start, number = f"{agent_name}@{addr:#x}{said(access)}: ", book.net.number(agent_name)
     if not books.is_agent(book.net, number):
@@ -30,9 +33,9 @@ def lookup(book, agent_name, addr, access):
     return start + names_text(book.net, book.owed(access or units.READ, (number, addr)))
 
 
-def rows_of(book, agent, access):
+def rows_of(book: books.Book, agent: int, access: str) -> list[tuple[int, int, frozenset[nets.Name]]]:
     """The rows of an agent, (first, last, names of the first): an address goes on with a row where each name does."""
-    rows = []
+    rows: list[Any] = []
     for addr in range(book.net.edge):
         names = book.owed(access, (agent, addr))
         if names and rows and rows[-1][1] == addr - 1 and names == {(node, at + addr - rows[-1][0])
@@ -43,7 +46,7 @@ def rows_of(book, agent, access):
     return rows
 
 
-def view(book, agent_name, access):
+def view(book: books.Book, agent_name: str, access: str) -> str:
     """All that an agent sees."""
     agent = book.net.number(agent_name)
     if not books.is_agent(book.net, agent):
@@ -53,15 +56,15 @@ def view(book, agent_name, access):
     return "\n".join([f"view {agent_name}{said(access)} rows {len(rows)}"] + lines)
 
 
-def dump(book):
+def dump(book: books.Book) -> str:
     """The bytes of the tables."""
     image = units.image_of(book.net, book.slots().held)
     return "\n".join([f"dump bytes {len(image)}"] + [image[at: at + 32].hex() for at in range(0, len(image), 32)])
 
 
-def reply(book, command):
+def reply(book: books.Book, command: tuple[Any, ...]) -> str:
     """The reply to a command, after which the book is as the command leaves it."""
-    turns = {
+    turns: dict[str, Callable[..., str]] = {
         "resolve": resolve,
         "lookup": lookup,
         "view": view,
@@ -74,18 +77,18 @@ def reply(book, command):
     return turns[command[0]](book, *command[1:])
 
 
-def answer(net, commands):
+def answer(net: Any, commands: Any) -> Any:
     """What `run` prints of commands over a legal net."""
     book = books.Book(net)
     return "".join(reply(book, command) + "\n" for command in commands).encode()
 
 
-def block_text(lo, hi):
+def block_text(lo: Any, hi: Any) -> Any:
     """A block as it is printed."""
     return f"{lo:#x}-{hi:#x}"
 
 
-def statement_text(net, node):
+def statement_text(net: Any, node: Any) -> Any:
     """The statement of a node as `check` prints it."""
     if node.unit:
         unit, ports = node.unit, ", ".join(net.nodes[port].name for port in node.unit.ports)
@@ -103,6 +106,6 @@ def statement_text(net, node):
     return " ".join(parts) + ";"
 
 
-def net_text(net):
+def net_text(net: Any) -> Any:
     """The net as `check` prints it."""
     return "".join(statement_text(net, node) + "\n" for node in net.nodes)

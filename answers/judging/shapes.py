@@ -1,35 +1,40 @@
 """Small nets, made by dice: each shape is a sort of machine. Few break a rule, and the judge tells that line too."""
 
+from typing import Any
+
 from judging import nets
+from judging.dice import Dice
 
 
 class Draft:
     """Nodes by their names, which come in an order of the dice."""
 
-    def __init__(self, dice):
-        self.dice, self.nodes = dice, []
+    def __init__(self, dice: Dice) -> None:
+        self.dice = dice
+        self.nodes: list[Any] = []
 
-    def node(self, name, role="plain", accepts=(), entries=(), over=None):
+    def node(self, name: str, role: str = "plain", accepts: list[nets.Name] | tuple[()] = (),
+             entries: tuple[()] | list[tuple[int, int, list[tuple[str, int]]]] = (), over: str | None = None) -> None:
         """A node; entries are (first, last, [(name, address)])."""
         self.nodes.append((name, role, list(accepts), list(entries), over, None))
 
-    def unit(self, name, kind, page, slots, reach, ports):
+    def unit(self, name: str, kind: str, page: int, slots: int, reach: int, ports: list[str]) -> None:
         """A unit."""
         self.nodes.append((name, "plain", [], [], None, (kind, page, slots, reach, ports)))
 
-    def net(self, mixed=True):
+    def net(self, mixed: bool = True) -> nets.Net:
         """The net of the nodes."""
         drafts = self.dice.mixed(self.nodes) if mixed else self.nodes
         number = {draft[0]: place for place, draft in enumerate(drafts)}
         made = []
         for name, role, accepts, entries, over, unit in drafts:
             numbered = [(lo, hi, [(number[to], addr) for to, addr in dests]) for lo, hi, dests in entries]
-            part = nets.Unit(*unit[:4], [number[port] for port in unit[4]]) if unit else None
+            part = nets.Unit(unit[0], unit[1], unit[2], unit[3], [number[port] for port in unit[4]]) if unit else None
             made.append(nets.Node(name, role, accepts, numbered, None if over is None else number[over], part))
         return nets.Net(made)
 
 
-def memory(draft, name, last):
+def memory(draft: Draft, name: str, last: int) -> None:
     """A memory with addresses up to the last, in one block, or in two that touch or have a hole between them."""
     dice = draft.dice
     if last and dice.once_in(5):
@@ -39,7 +44,8 @@ def memory(draft, name, last):
         draft.node(name, accepts=[(0, last)])
 
 
-def windows(dice, dests, most, ends=8):
+def windows(dice: Dice, dests: list[tuple[str, int]], most: int,
+            ends: int = 8) -> list[tuple[int, int, list[tuple[str, int]]]]:
     """One to so many map entries, apart and in any order: each to an address of one of the destinations, once in a
     while to two.
 
@@ -61,7 +67,7 @@ def windows(dice, dests, most, ends=8):
     return dice.mixed(entries)
 
 
-def bus(draft, name, dests, outputs, wild=3):
+def bus(draft: Draft, name: str, dests: list[tuple[str, int]], outputs: int, wild: int = 3) -> None:
     """A bus: mostly one that has all of the first destination, from an address on that is no multiple of a page once in
     a while.
 
@@ -79,7 +85,7 @@ def bus(draft, name, dests, outputs, wild=3):
     draft.node(name, entries=entries, over=dice.one_of(dests)[0] if dice.once_in(8) else None)
 
 
-def agents(draft, names, doors, direct, wild=4):
+def agents(draft: Draft, names: list[str], doors: list[tuple[str, int, int]], direct: str, wild: int = 4) -> None:
     """Agents before units, each with some of a unit's inputs: mostly its own, once in a while those of another too.
 
     A door is a unit, its slots and the exponent of its page. Once in so many times the windows of an agent are any."""
@@ -104,7 +110,7 @@ def agents(draft, names, doors, direct, wild=4):
         draft.node(name, "agent", entries=entries, over=direct if dice.once_in(12) else None)
 
 
-def one_unit(dice):
+def one_unit(dice: Dice) -> nets.Net:
     """Agents before one unit, whose ports lead to memories or to a bus that has them at other addresses."""
     draft = Draft(dice)
     last = dice.between(3, 11)
@@ -119,7 +125,7 @@ def one_unit(dice):
     return draft.net()
 
 
-def two_units(dice):
+def two_units(dice: Dice) -> nets.Net:
     """Two units in a row with a node between them, or none; another agent may come in at the inner one."""
     draft = Draft(dice)
     last = dice.between(3, 9)
@@ -139,7 +145,7 @@ def two_units(dice):
     return draft.net()
 
 
-def three_units(dice):
+def three_units(dice: Dice) -> nets.Net:
     """Three units in a row, with nodes between them; other agents may come in behind the first."""
     draft = Draft(dice)
     memory(draft, "ram", dice.between(1, 5))
@@ -159,7 +165,7 @@ def three_units(dice):
     return draft.net()
 
 
-def fan(dice):
+def fan(dice: Dice) -> nets.Net:
     """A unit with ports to two or three others; or two units of two agents before a shared one."""
     draft = Draft(dice)
     memory(draft, "ram", dice.between(3, 7))
@@ -190,7 +196,7 @@ def fan(dice):
     return draft.net()
 
 
-def lines(dice):
+def lines(dice: Dice) -> nets.Net:
     """Agents whose lines come to interrupt remappers, one or two in a row, and the vectors of two cores."""
     draft = Draft(dice)
     for core in ("core0", "core1"):
@@ -215,7 +221,7 @@ def lines(dice):
     return draft.net()
 
 
-def registers(dice):
+def registers(dice: Dice) -> nets.Net:
     """Small devices that a bus has at several places within pages, and units through which parts of a page are seen
     alone."""
     draft = Draft(dice)
@@ -238,7 +244,7 @@ def registers(dice):
     return draft.net()
 
 
-def bridges(dice):
+def bridges(dice: Dice) -> nets.Net:
     """Buses with several windows and several destinations, seen through one another, and perhaps a unit beside them."""
     draft = Draft(dice)
     memories = [("ram", dice.between(3, 11)), ("rom", dice.between(1, 7)), ("port", dice.between(0, 3))]
@@ -259,7 +265,7 @@ def bridges(dice):
     return draft.net()
 
 
-def ruin_unit(dice, unit, number):
+def ruin_unit(dice: Any, unit: Any, number: Any) -> Any:
     """Changes a part of a unit; a port may become the node of a number."""
     change = dice.roll(5)
     if change == 0:
@@ -274,7 +280,7 @@ def ruin_unit(dice, unit, number):
         unit.ports[0] = number
 
 
-def ruin_node(dice, net, node, number):
+def ruin_node(dice: Any, net: Any, node: Any, number: Any) -> Any:
     """Changes a part of a node, which may lead to the node of a number, to units, or to itself."""
     some_units = net.units()[:3]
     if some_units and dice.once_in(8):
@@ -297,7 +303,7 @@ def ruin_node(dice, net, node, number):
         node.accepts.append((dice.roll(6), dice.roll(8)))
 
 
-def ruined(dice):
+def ruined(dice: Any) -> Any:
     """A net of another shape in which something is changed, so that it may break a rule."""
     net = dice.one_of([one_unit, two_units, fan, registers, lines, bridges])(dice)
     for _ in range(dice.between(1, 2)):
@@ -312,7 +318,7 @@ def ruined(dice):
 SHAPES = (one_unit, two_units, three_units, fan, registers, lines, bridges, ruined)
 
 
-def ports_of_two(dice):
+def ports_of_two(dice: Dice) -> nets.Net:
     """Two memories, and a unit of 4 pages of two addresses with a port to each; two agents share its last page."""
     draft = Draft(dice)
     draft.node("ram", accepts=[(0, 7)])
@@ -323,7 +329,7 @@ def ports_of_two(dice):
     return draft.net(False)
 
 
-def row_of_two(dice):
+def row_of_two(dice: Dice) -> nets.Net:
     """Two units in a row; the node between them has the last two addresses of the memory too."""
     draft = Draft(dice)
     draft.node("ram", accepts=[(0, 5)])
@@ -335,7 +341,7 @@ def row_of_two(dice):
     return draft.net(False)
 
 
-def row_of_three(dice):
+def row_of_three(dice: Dice) -> nets.Net:
     """Three units in a row, and agents that have the last page of the second and of the third."""
     draft = Draft(dice)
     draft.node("ram", accepts=[(0, 3)])
@@ -350,7 +356,7 @@ def row_of_three(dice):
     return draft.net(False)
 
 
-def two_remappers(dice):
+def two_remappers(dice: Dice) -> nets.Net:
     """Two remappers of interrupts, one before the other, and the vectors of two cores."""
     draft = Draft(dice)
     draft.node("core0", "vectors", accepts=[(1, 3)])
@@ -363,7 +369,7 @@ def two_remappers(dice):
     return draft.net(False)
 
 
-def neighbours(dice):
+def neighbours(dice: Dice) -> nets.Net:
     """Blocks that overlap and touch, two ways to one name, neighbours that go on and that break: an agent sees each
     node."""
     draft = Draft(dice)

@@ -17,16 +17,16 @@ class Record(typing.NamedTuple):
 
     port: int
     page: int
-    rights: frozenset
+    rights: frozenset[str]
 
 
-def slot_of(net, name):
+def slot_of(net: nets.Net, name: nets.Name) -> nets.Name:
     """The slot of a name in a unit."""
     number, addr = name
     return number, addr >> net.nodes[number].unit.page
 
 
-def sent(net, held, access, stop):
+def sent(net: nets.Net, held: dict[nets.Name, Record], access: str, stop: nets.Name) -> nets.Name | None:
     """Where the record of its slot sends a name in a unit for an access, or None."""
     record = held.get(slot_of(net, stop))
     if record is None or access not in record.rights:
@@ -35,7 +35,7 @@ def sent(net, held, access, stop):
     return unit.ports[record.port], (record.page << unit.page) + (stop[1] & ((1 << unit.page) - 1))
 
 
-def resolved_under(net, held, access, name):
+def resolved_under(net: nets.Net, held: dict[nets.Name, Record], access: str, name: nets.Name) -> frozenset[nets.Name]:
     """What a name resolves to under records: what it resolves to in the net, and what its stops come to by their
     records."""
     names = nets.resolved(net, name)
@@ -46,19 +46,19 @@ def resolved_under(net, held, access, name):
     return names
 
 
-def joined(held, added):
+def joined(held: dict[nets.Name, Record], added: dict[nets.Name, Record]) -> dict[nets.Name, Record]:
     """Records, and in slots that hold none those that are added."""
     return {**added, **held}
 
 
-def words_of(kind, record):
+def words_of(kind: str, record: Record) -> list[int]:
     """The words that spell a record of a kind."""
     shut = (READ not in record.rights) << 4 | (WRITE not in record.rights) << 5
     gate = 1 | record.port << 1 | shut
     return [record.page, gate] if kind == "vectors" else [record.page << (12 if kind == "radix" else 8) | gate]
 
 
-def image_of(net, held):
+def image_of(net: nets.Net, held: dict[nets.Name, Record]) -> bytes:
     """The bytes of the image of tables that hold these records and no others."""
     parts = [b"DNIM", (2).to_bytes(2, "little"), len(net.units()).to_bytes(2, "little")]
     for number in net.units():

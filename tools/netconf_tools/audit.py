@@ -1,6 +1,6 @@
 """What `netconf audit` says of a description and an image that somebody else made, and where to look in both.
 
-What each agent sees, which records are shut out and what agents share comes from the program. Why a record is shut out
+What each agent sees, which records are malformed and what agents share comes from the program. Why a record is shut out
 is read off its words, and by which records agents share comes of a second audit, of the same image with all words 0."""
 
 import itertools
@@ -172,7 +172,7 @@ def why_shut(unit: Node, words: list[int], version: int) -> str:
         return f"its output {output:#x} is not below 2^{reach}"
     if version == 1 and gate >> 4 & 3:
         return "an image of version 1 has no records for one access alone"
-    return "its words are no record"
+    return "its words are not a record"
 
 
 def words_of_slots(image: bytes, nodes: dict[str, Node], slots: Iterable[Slot]) -> tuple[list[list[int]], int]:

@@ -214,7 +214,7 @@ class Causes:
         elif way.before is None and all(shows_more(address, buffer.size, way, port) for address in whole):
             where = f", at {whole[0]:#x} of {port.name}," if whole[0] != buffer.first else "," * isinstance(part, Piece)
             name = f"piece {part.id}, " if isinstance(part, Piece) else ""
-            what = f"{name}{buffer.first:#x}-{buffer.last:#x}{where} is no whole number of pages"
+            what = f"{name}{buffer.first:#x}-{buffer.last:#x}{where} is not a whole number of pages"
             yield part.at, f"{what}: a page of {unit.name} has {1 << unit.page:#x}"
         elif way.before is None:
             yield from self.no_room(buffer, agent, way, count)

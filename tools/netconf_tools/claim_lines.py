@@ -9,8 +9,9 @@ from dataclasses import replace
 from typing import NamedTuple
 
 from netconf_tools.expand import Description
+from netconf_tools.grammar import comments_with
 from netconf_tools.limits import MAX_MODULES
-from netconf_tools.source import COMMENT, OUTSIDE, Expansion, Scope, Statement, Text, statements_of, value
+from netconf_tools.source import OUTSIDE, Expansion, Scope, Statement, Text, statements_of, value
 from netconf_tools.text import Trouble
 
 MOST_CLAIMS = 1 << 18
@@ -68,11 +69,10 @@ def marks_of(description: Description, read: Text) -> list[Mark]:
     are none of its text any more."""
     marks: list[Mark] = []
     text = description.source.text
-    for hit in COMMENT.finditer(text) if "//!" in text else ():
-        if hit.group().startswith("//!"):
-            place = description.place(hit.start())
-            line = description.line_text(place.file, place.line) or ""
-            marks.append(Mark(read, hit.start(), claim_in_comment(place.file, place.line, line, place.column + 2)))
+    for hit in comments_with("//!", text):
+        place = description.place(hit.start())
+        line = description.line_text(place.file, place.line) or ""
+        marks.append(Mark(read, hit.start(), claim_in_comment(place.file, place.line, line, place.column + 2)))
     return marks
 
 

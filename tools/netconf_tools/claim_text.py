@@ -8,7 +8,7 @@
     disjoint AGENTS AGENTS [NODES [ADDRESSES]] [for ACCESS]
     same AGENTS AGENTS [for ACCESS]
     AGENTS NODE[@ADDRESS] at ADDRESS [for ACCESS]
-    at AGENTS ADDRESS NODE ADDRESS SIZE [for ACCESS]
+    at AGENTS ADDRESS NODE ADDRESS [size] SIZE [for ACCESS]
     left_out PATH
     group NAME = NAMES {, NAMES}
     let WORD = EXPRESSION
@@ -63,7 +63,7 @@ def fits(pattern: str, text: str) -> bool:
 
 
 class Misread(Exception):
-    """A text that is no claim: at which column of the line, counted from 1, and how many letters are meant."""
+    """A text that is not a claim: at which column of the line, counted from 1, and how many letters are meant."""
 
     def __init__(self, column: int, message: str, width: int = 1) -> None:
         super().__init__(message)
@@ -236,7 +236,7 @@ class Reader:
         hit = NUMBER.fullmatch(digits)
         if hit is None:
             hint = ": hexadecimal digits stand after a lower-case 0x" if digits.startswith("0X") else ""
-            raise Misread(self.at + 1, f"{digits[:40]!r} is no number{hint}", len(digits))
+            raise Misread(self.at + 1, f"{digits[:40]!r} is not a number{hint}", len(digits))
         value = int(hit["digits"], 16 if digits.startswith("0x") else 10)
         self.at += len(digits)
         return self.bounded(value * SUFFIXES[hit["suffix"]], self.at - len(digits))
@@ -263,7 +263,7 @@ class Reader:
         start = self.at
         value = self.expression(expected)
         if value > LAST_ADDRESS:
-            raise Misread(start + 1, f"{value:#x} is no address: the last one is {LAST_ADDRESS:#x}")
+            raise Misread(start + 1, f"{value:#x} is not an address: the last one is {LAST_ADDRESS:#x}")
         return value
 
     def span(self) -> Span:
@@ -388,6 +388,8 @@ class Reader:
         self.skip()
         start = self.at
         base = self.address("an address of the node")
+        if self.numbers is None or "size" not in self.numbers:
+            self.has("size")
         size = self.size(max(base, address))
         return Claim("at", agents, None, node, Span(base, base + size - 1, start + 1), address, self.access())
 

@@ -118,7 +118,8 @@ class Names:
         names = list(listed)
         near = self.near(name.text, names)
         text = shown(f".{name.text}" if name.is_own else name.text)
-        message = f"{text} fits no name" if name.is_pattern else f"{text} is no {what}"
+        article = "an" if what == "agent" else "a"
+        message = f"{text} fits no name" if name.is_pattern else f"{text} is not {article} {what}"
         message += f" (is {shown(near[0])} meant?)" if near else ""
         if what != "agent":
             return message
@@ -144,7 +145,7 @@ class Names:
                 raise Misread(name.column, self.unknown(name, what, self.board.agents), len(name.text))
             if not wanted and not (is_one and what == "node"):
                 sort = "unit" if what == "unit" else "node that accepts"
-                message = f"{shown(name.text)} {'is' if is_one else 'has'} no {sort}"
+                message = f"{shown(name.text)} {'is not a' if is_one else 'has no'} {sort}"
                 raise Misread(name.column, message, len(name.text))
             self.known[key] = wanted or found
         return self.known[key]
@@ -332,7 +333,7 @@ class Judge:
 class Claims:
     """The claims of lines, read over a board.
 
-    `errors` reports each line that is no claim, or whose names stand for nothing; the claims of the others can be
+    `errors` reports each line that is not a claim, or whose names stand for nothing; the claims of the others can be
     judged."""
 
     def __init__(self, board: Board, lines: Iterable[Line]) -> None:

@@ -114,7 +114,7 @@ def dumped(data: bytes, heading: re.Match[bytes], what: str, unit: int) -> bytes
         try:
             found += bytes.fromhex(part[:2 * (size - len(found)) + rows * len(heading["end"])].decode("ascii"))
         except ValueError as error:
-            raise Trouble(f"the {what} of line {line} has a line that is no hexadecimal") from error
+            raise Trouble(f"the {what} of line {line} has a line that is not hexadecimal") from error
         at += rows * width
         if not part:
             break
@@ -127,7 +127,7 @@ def tables_of(image: bytes) -> tuple[int, list[Table]]:
     """The version of an image, and the tables of its units. The net is not known here, so that heads are taken as they
     are."""
     if len(image) < 8 or image[:4] != MARK:
-        raise Trouble("this is no image: it does not begin with DNIM and eight bytes of head")
+        raise Trouble("this is not an image: it does not begin with DNIM and eight bytes of head")
     version, count = int.from_bytes(image[4:6], "little"), int.from_bytes(image[6:8], "little")
     if version not in (1, 2):
         raise Trouble(f"the image has the version {version}; 1 and 2 are known")
@@ -137,7 +137,7 @@ def tables_of(image: bytes) -> tuple[int, list[Table]]:
                                     for first, last in ((0, 2), (2, 3), (3, 4), (4, 8)))
         end = at + 8 + 8 * words * slots
         if len(image) < at + 8 or not 1 <= words <= MAX_RECORD_WORDS or zero:
-            raise Trouble(f"byte {at} is no head of a unit (unit {unit} of {count})")
+            raise Trouble(f"byte {at} is not the head of a unit (unit {unit} of {count})")
         if len(image) < end:
             raise Trouble(f"the image ends at byte {len(image)}, within the words of node {node}")
         tables.append(Table(node, words, slots, view[at + 8:end]))

@@ -9,6 +9,7 @@ What comes out has none of these, and is a description as docs/language.md has i
 as it is, byte for byte. For each place of what comes out the file, line and column are known."""
 
 import bisect
+import heapq
 import os
 import re
 from collections.abc import Iterable, Iterator, Mapping
@@ -19,9 +20,10 @@ from netconf_tools.expansion import Faulty, Scope, Sum
 from netconf_tools.faults import Fault
 from netconf_tools.findings import Finding, Note, lines_of
 from netconf_tools.grammar import (
-    COMMENT,
     RESERVED,
     SCALED_NUMBER,
+    SCALES,
+    WHOLE_NUMBER,
     BadToken,
     Expression,
     LoopPlaces,
@@ -32,8 +34,11 @@ from netconf_tools.grammar import (
     Token,
     TooDeep,
     Unexpected,
+    block_words,
+    comments_with,
+    compiled,
     number_of,
-    statements_in,
+    token_at,
 )
 from netconf_tools.hints import meant, quoted
 from netconf_tools.limits import LAST_NUMBER
@@ -44,6 +49,14 @@ LINE = re.compile(r"//![ \t]*(?P<word>let|include)\b(?P<rest>[^\n]*)", re.A)
 
 LET = re.compile(r"[ \t]*(?P<name>[A-Za-z_]\w*)[ \t]*=(?P<value>.*)", re.A)
 INCLUDE = re.compile(r'[ \t]*"(?P<file>[^"]+)"[ \t\r]*(?://.*)?')
+SCALED = re.compile(r"\b[0-9]\w*[KMGT]\b", re.A)
+LIST = r"\b(?:accept|map)\b[ \t\r\n]*\[(?P<rest>[^;]*)"
+PLAIN_SIZE = (
+    r"[\[,][ \t\r\n]*(?P<base>[0-9]\w*)[ \t\r\n]+(?P<word>size)[ \t\r\n]+(?P<size>[0-9]\w*)"
+    r"(?=[ \t\r\n]*(?:[],]|to\b))"
+)
+"""The patterns of the lists of a node, and of a block in one that is two numbers with `size` between them."""
+
 WORDS = re.compile(r"[A-Za-z_]\w*|[0-9]\w*", re.A)
 SET = re.compile(r"(?P<name>[A-Za-z_]\w*)=(?P<value>.+)", re.A | re.S)
 
@@ -126,7 +139,8 @@ class Description:
     ) -> None:
         self.names, self.sources, self.constants = names, sources, constants
         self._joined, self._replaced = joined, replaced
-        self.source = Source((replaced or joined).text())
+        text = (replaced or joined).text()
+        self.source = sources[0] if len(sources) == 1 and text == sources[0].text else Source(text)
         self.is_plain = replaced is None and len(sources) == 1
 
     @property
@@ -215,7 +229,7 @@ class Joiner:
         if name != "-":
             self.seen.add(os.path.realpath(name))
         at = 0
-        for comment in COMMENT.finditer(source.text) if "//!" in source.text else ():
+        for comment in comments_with("//!", source.text):
             hit = LINE.fullmatch(comment.group())
             if hit and hit["word"] == "include" and self.joined.size <= MOST_BYTES:
                 self.joined.put(source.text[at:comment.start()] + "\n", number, at)
@@ -272,7 +286,7 @@ class Constants:
                 "let",
                 token.at,
                 len(token.text),
-                f"{quoted(token.text)} is no constant here{meant(token.text, self.numbers)}",
+                f"{quoted(token.text)} is not a constant here{meant(token.text, self.numbers)}",
             )
         self.used.add(token.text)
         return self.numbers[token.text]
@@ -326,7 +340,8 @@ class Constants:
             ) from wrong
         except BadToken as bad:
             raise self.fail(
-                "let", at + bad.token.at, len(bad.token.text), f"{quoted(bad.token.text)} is no token of an expression"
+                "let", at + bad.token.at, len(bad.token.text),
+                f"{quoted(bad.token.text)} is not a token of an expression"
             ) from bad
         except TooDeep as deep:
             raise self.fail("let", at + deep.token.at, 1, "too many parentheses are open") from deep
@@ -360,7 +375,7 @@ class Replacer:
         text = self.source.text
         return [
             (hit.end(), hit["rest"].rstrip("\r"), hit.start("rest"))
-            for comment in (COMMENT.finditer(text) if "//!" in text else ())
+            for comment in comments_with("//!", text)
             for hit in [LINE.match(text, comment.start(), comment.end())]
             if hit and hit["word"] == "let"
         ]
@@ -374,9 +389,10 @@ class Replacer:
         return sorted(self.edits)
 
     def _replace_all(self, wanted: list[int]) -> None:
-        """Goes over the statements, and replaces in those that have a word at one of some places."""
+        """Goes over the statements that open or close a block or have a word at one of some places, and replaces in
+        the latter."""
         waiting = 0
-        for statement in self._statements():
+        for statement in self._statements(wanted):
             while waiting < len(self.lets) and self.lets[waiting][0] <= statement.at:
                 self.constants.define(*self.lets[waiting][1:])
                 waiting += 1
@@ -393,16 +409,15 @@ class Replacer:
             begin = self.source.text.rindex("//!", 0, at)
             yield Edit(begin, begin + 3, "// ")
 
-    def _statements(self) -> Iterator[Placed]:
-        """The statements of the text, and what stands after the last one."""
-        end = 0
-        for statement in statements_in(self.source):
-            yield statement
-            end = statement.end
-        rest = self.source.plain[end:]
-        if rest.strip():
-            at = end + len(rest) - len(rest.lstrip())
-            yield Placed(at, "", len(self.source.plain))
+    def _statements(self, wanted: list[int]) -> Iterator[Placed]:
+        """The statements that open or close a block, and those that have a word at one of some places, in order."""
+        plain, end = self.source.plain, 0
+        blocks = (hit.start("word") for hit in block_words(self.source, 0, len(plain))) if wanted else ()
+        for at in heapq.merge(wanted, blocks):
+            if at >= end:
+                start = token_at(self.source, max(plain.rfind(";", end, at) + 1, end)).at
+                end = plain.find(";", start) + 1 or len(plain)
+                yield Placed(start, words[0] if (words := WORDS.match(plain, start)) else "", end)
 
     def _wanted(self) -> list[int]:
         """The places of words that may be constants or `size`; numbers with suffixes are replaced at once."""
@@ -411,19 +426,33 @@ class Replacer:
             | set(self.constants.sets)
             | {"size"}
         )
-        found = []
-        for hit in WORDS.finditer(self.source.plain):
-            word = hit.group()
-            if word in names:
-                found.append(hit.start())
-            elif (
-                word[0].isdigit()
-                and word[-1] in "KMGT"
-                and SCALED_NUMBER.fullmatch(word)
-                and number_of(word) <= LAST_NUMBER
-            ):
-                self.edits.append(Edit(hit.start(), hit.end(), f"{number_of(word):#x}"))
-        return found
+        text = self.source.text
+        if any(scale in text for scale in SCALES):
+            for hit in SCALED.finditer(self.source.plain):
+                if SCALED_NUMBER.fullmatch(hit.group()) and number_of(hit.group()) <= LAST_NUMBER:
+                    self.edits.append(Edit(hit.start(), hit.end(), f"{number_of(hit.group()):#x}"))
+        names = {name for name in names if name in text}
+        if not names:
+            return []
+        words = re.compile(rf"\b(?:{'|'.join(sorted(names))})\b", re.A)
+        known = set(self._plain_sizes()) if "size" in names else ()
+        return [hit.start() for hit in words.finditer(self.source.plain) if hit.start() not in known]
+
+    def _plain_sizes(self) -> Iterator[int]:
+        """Replaces the sizes in lists whose block is two numbers, and gives the places of their words: to read the
+        statements of these token by token takes a hundred times as long."""
+        for list_hit in compiled(LIST).finditer(self.source.plain):
+            for hit in compiled(PLAIN_SIZE).finditer(self.source.plain, list_hit.start("rest") - 1, list_hit.end()):
+                base, size = hit["base"], hit["size"]
+                if not (SCALED_NUMBER.fullmatch(base) or WHOLE_NUMBER.fullmatch(base)):
+                    continue
+                if not (SCALED_NUMBER.fullmatch(size) or WHOLE_NUMBER.fullmatch(size)):
+                    continue
+                last = number_of(base) + number_of(size) - 1
+                if number_of(size) and last <= LAST_NUMBER:
+                    at = hit.start("word")
+                    self.edits.append(Edit(at - (self.source.text[at - 1] in " \t"), hit.end("size"), f"-{last:#x}"))
+                    yield at
 
     def follow(self, statement: Placed) -> None:
         """Opens or closes the block of a statement."""

@@ -3,14 +3,17 @@
 The order of the rules is that of docs/language.md, "In which order a text is expanded"."""
 
 import functools
-from collections.abc import Iterable
+import re
+from collections.abc import Callable, Iterable, Iterator, Mapping
 from dataclasses import dataclass, field
-from typing import Protocol
+from typing import Any, Protocol
 
 from netconf_tools.faults import Fault
 from netconf_tools.grammar import (
-    BlockPlaces,
+    MOST_TOKENS,
+    STATEMENT,
     BadToken,
+    BlockPlaces,
     CommandPlaces,
     Expression,
     LoopPlaces,
@@ -26,9 +29,13 @@ from netconf_tools.grammar import (
     TooLong,
     Unexpected,
     UsePlaces,
+    block_words,
+    compiled,
     is_command,
     number_of,
+    statement_start,
     statements_in,
+    token_at,
 )
 from netconf_tools.hints import meant, quoted
 from netconf_tools.limits import LAST_NUMBER, MAX_AGENTS, MAX_MODULES, MAX_NODES, MAX_PARTS, MAX_STEPS, MAX_UNITS
@@ -39,8 +46,24 @@ KINDS = ("pages", "remap", "vectors", "radix")
 MOST_SHAPE = (("page", 255), ("slots", (1 << 32) - 1), ("reach", 255))
 """The words of a unit's shape, and the largest value of each before the shape itself is judged."""
 
-MOST_WORK = 4_000_000
-"""How many tokens of expressions are evaluated at most: a text of 4 MiB can want a thousand times as many."""
+MOST_WORK = 400_000
+"""How many tokens are read and evaluated at most: a text of 4 MiB can want two thousand million."""
+
+ROLES = ("agent", "vectors", "unit")
+"""The words before the name of a node."""
+
+BLANK, WORD = r"[ \t\r\n]*", r"[A-Za-z_]\w*"
+NAMED = rf"{WORD}(?:{BLANK}\.{BLANK}{WORD})*"
+HEAD = rf"(?:(?:{'|'.join(ROLES)})\b{BLANK})?(?P<name>{NAMED}){BLANK}\b(?:is|kind)\b"
+"""The pattern of the statement of a node up to its parts, if its name has no index."""
+
+PARTS = re.compile(r"\b(?:accept|map|over)\b", re.A)
+PLAIN_COMMAND = (
+    rf"(?:(?:resolve|lookup|view|absorb|radix)\b{BLANK}{NAMED}|(?:grant|route)\b{BLANK}{WORD}{BLANK}{NAMED}"
+    rf"(?:{BLANK}{NAMED})?|revoke\b{BLANK}{WORD}|dump|split)(?:{BLANK}\b[0-9]\w*){{0,2}}"
+    rf"(?:{BLANK}\bfor{BLANK}\b(?:read|write))?{BLANK};"
+)
+"""The pattern of a command whose addresses are numbers, and whose names have no index."""
 
 
 class Faulty(Exception):
@@ -55,12 +78,46 @@ class Unfollowed(Exception):
     """The text is not one that this reader follows: it is wrong by its grammar, or needs more than `MOST_WORK`."""
 
 
-@dataclass
 class Body:
-    """A statement before it is read, with the statements of its block."""
+    """The statements of a block, from a place of the text on; they are found as they are asked for, and kept."""
 
-    placed: Placed
-    inner: list["Body"] = field(default_factory=list)
+    def __init__(self, source: Source, at: int) -> None:
+        self.source, self.at = source, at
+        self.found: list[tuple[Placed, Body | None]] = []
+        self.is_whole = False
+
+    def __iter__(self) -> Iterator[tuple[Placed, "Body | None"]]:
+        """Each statement, and the body of one that opens a block."""
+        index = 0
+        while index < len(self.found) or self._find():
+            yield self.found[index]
+            index += 1
+
+    def _find(self) -> bool:
+        """Finds the next statement, unless the block ends before it."""
+        hit = None if self.is_whole else STATEMENT.match(self.source.plain, self.at)
+        if hit is None or hit["word"] in ("end", "begin"):
+            self.is_whole = True
+            return False
+        self.at = hit.end()
+        inner = None
+        if hit["word"] in ("module", "for"):
+            inner = Body(self.source, self.at)
+            self.at = end_of_block(self.source, self.at)
+        self.found.append((Placed(hit.start("whole"), hit["word"] or "", hit.end()), inner))
+        return True
+
+
+def end_of_block(source: Source, at: int) -> int:
+    """The place after the block whose first statement begins at a place."""
+    depth = 1
+    for hit in block_words(source, at, len(source.plain)):
+        if hit["word"] == "begin":
+            break
+        depth += -1 if hit["word"] == "end" else 1
+        if not depth:
+            return source.plain.find(";", hit.end()) + 1
+    raise Unfollowed
 
 
 @dataclass
@@ -90,19 +147,10 @@ class PlacedEntry(PlacedBlock):
 
 
 @dataclass
-class PlacedNode:
-    """A node: its full name, the word before it (or empty), its places, its parts, and the uses of modules round it.
+class Parts:
+    """The parts of a node. `references` has each node that it names, with its place and width. `shape` has the kind,
+    page, slots and reach of a unit."""
 
-    `at` is the place of its name and `line_at` that of its statement. `references` has each node that it names, with
-    the place and the prefix that its module gives to names. `uses` has for each module the place of the use, its
-    word and the full name of the use, the outermost first. `shape` has the kind, page, slots and reach of a unit."""
-
-    name: str
-    role: str
-    at: int
-    width: int
-    line_at: int
-    uses: tuple[tuple[int, str, str], ...]
     accepts: list[PlacedBlock] = field(default_factory=list)
     entries: list[PlacedEntry] = field(default_factory=list)
     over: str | None = None
@@ -113,13 +161,82 @@ class PlacedNode:
 
 
 @dataclass
-class Module:
-    """A module: its parameters, the statements of its body, its number, and the place of its word."""
+class PlacedNode:
+    """A node: its full name, the word before it (or empty), and its places. Its parts are read when they are asked
+    for.
 
-    parameters: list[tuple[Token, Token]]
-    body: list[Body]
+    `at` is the place of its name and `line_at` that of its statement. `scope` is the one in which it is declared, and
+    `fill` reads its parts."""
+
+    name: str
+    role: str
+    at: int
+    width: int
+    line_at: int
+    scope: "Scope"
+    fill: Callable[["PlacedNode"], Parts]
+
+    @functools.cached_property
+    def parts(self) -> Parts:
+        """The parts of the node."""
+        return self.fill(self)
+
+    @property
+    def uses(self) -> tuple[tuple[int, str, str], ...]:
+        """For each module round the node the place of the use, its word and the full name of the use, the outermost
+        first."""
+        return self.scope.uses
+
+    @property
+    def accepts(self) -> list[PlacedBlock]:
+        """The blocks that it accepts."""
+        return self.parts.accepts
+
+    @property
+    def entries(self) -> list[PlacedEntry]:
+        """The entries of its map."""
+        return self.parts.entries
+
+    @property
+    def over(self) -> str | None:
+        """The node that it is over."""
+        return self.parts.over
+
+    @property
+    def over_at(self) -> int:
+        """The place at which that node is named."""
+        return self.parts.over_at
+
+    @property
+    def shape(self) -> list[int | str]:
+        """The kind, page, slots and reach of a unit."""
+        return self.parts.shape
+
+    @property
+    def ports(self) -> list[str]:
+        """The ports of a unit."""
+        return self.parts.ports
+
+    @property
+    def references(self) -> list[tuple[str, int, int]]:
+        """Each node that it names, with the place of the name and its width."""
+        return self.parts.references
+
+
+@dataclass
+class Module:
+    """A module: its head, which is read when it is asked for, the statements of its body, its number, and the place
+    of its word."""
+
+    head: Callable[[], ModulePlaces]
+    body: Body
     number: int
     at: int
+
+    @functools.cached_property
+    def parameters(self) -> list[tuple[Token, Token]]:
+        """The parameters, each a sort and a word."""
+        return self.head().parameters
 
     def form(self) -> str:
         """The parameters as they are declared."""
@@ -132,72 +249,108 @@ class Scope:
     and the uses round it."""
 
     prefix: str
-    numbers: dict[str, int]
-    nodes: dict[str, str]
+    numbers: Mapping[str, int]
+    nodes: Mapping[str, str]
     modules: int
     uses: tuple[tuple[int, str, str], ...]
 
 
-def bodies_in(source: Source) -> tuple[list[Body], list[Placed]]:
-    """The statements before `begin`, those of blocks in their blocks, and the commands after it."""
-    whole: list[Body] = []
-    stack = [whole]
-    statements = statements_in(source)
-    for statement in statements:
-        if statement.word == "begin":
-            break
-        if statement.word == "end":
-            stack.pop()
-            if not stack:
-                raise Unfollowed
-            continue
-        body = Body(statement)
-        stack[-1].append(body)
-        if statement.word in ("module", "for"):
-            stack.append(body.inner)
-    return whole, [statement for statement in statements if is_command(source, statement)]
+class UseScope(Scope):
+    """The scope of the body of a module at a use, which is read when more of it is asked for than its modules."""
+
+    def __init__(self, modules: int, read: Callable[[], Scope]) -> None:
+        self.modules = modules
+        self._read = read
+
+    def want(self) -> None:
+        """Reads the scope, unless it was read before."""
+        if "prefix" not in vars(self):
+            vars(self).update(vars(self._read()))
+
+    def __getattr__(self, name: str) -> Any:
+        """What was not read before."""
+        self.want()
+        return vars(self)[name]
 
 
 class Expansion:
-    """Expands the declarations of a text, and keeps its nodes by their full names, in order."""
+    """Expands the declarations of a text, and keeps its nodes by their full names, in order.
 
-    def __init__(self, source: Source) -> None:
+    The fault of a text stands in the statements of one line, which the program prints. If it is known, the statements
+    of all other lines are read only as far as those need it."""
+
+    def __init__(self, source: Source, line: int | None = None) -> None:
+        """`line` is the line of the statement with the fault, 0 if it stands in none, or None if nothing is known."""
         self.source = source
+        self.first, self.last = (0, len(source.text)) if line is None else source.span(line) if line else (1, 0)
         self.nodes: dict[str, PlacedNode] = {}
         self.modules: dict[str, Module] = {}
+        self.roles: dict[str, int] = {}
         self.steps = self.parts = self.work = 0
-        self.bodies, self.commands = bodies_in(source)
+        self.body = Body(source, 0)
         self.read = functools.lru_cache(maxsize=None)(self._read)
+        self.head_of = functools.lru_cache(maxsize=None)(self._head_of)
+        self.parts_in = functools.lru_cache(maxsize=None)(self._parts_in)
         self.statement_at = 0
+
+    def is_judged(self, at: int) -> bool:
+        """Whether the statement at a place may have the fault."""
+        return self.first <= at <= self.last
 
     def _read(self, at: int) -> Statement:
         """The statement that begins at a place."""
+        reader = Reader(self.source, at)
         try:
-            return Reader(self.source, at).statement()
+            return reader.statement()
         except (Unexpected, TooDeep, TooLong, BadToken) as wrong:
             raise Unfollowed from wrong
+        finally:
+            self.spend(MOST_TOKENS - reader.left)
+
+    def spend(self, work: int) -> None:
+        """Counts tokens that are read or evaluated."""
+        self.work += work
+        if self.work > MOST_WORK:
+            raise Unfollowed
+
+    def _head_of(self, at: int) -> tuple[str | Name, int, int]:
+        """The name in the statement of a node, as a text if it has no index; its place, and the place after it."""
+        hit = compiled(HEAD).match(self.source.plain, at)
+        if hit:
+            return "".join(hit["name"].split()), hit.start("name"), hit.end("name")
+        reader = Reader(self.source, at)
+        try:
+            if reader.token.text in ROLES:
+                reader.take()
+            name = reader.name()
+        except (Unexpected, TooDeep, TooLong, BadToken) as wrong:
+            raise Unfollowed from wrong
+        return name, name.at, name.end
+
+    def _parts_in(self, at: int, end: int) -> int:
+        """How many blocks, entries and nodes that it is over the statement of a node has."""
+        return self.source.plain.count(",", at, end) + len(PARTS.findall(self.source.plain, at, end))
 
     def run(self) -> None:
         """Expands the whole text, and raises `Faulty` at its first fault."""
-        self.expand(self.bodies, Scope("", {}, {}, MAX_MODULES, ()))
-        for command in self.commands:
-            self.run_command(command)
+        self.expand(self.body, Scope("", {}, {}, MAX_MODULES, ()))
+        self.run_commands()
         self.look_up()
 
-    def expand(self, bodies: Iterable[Body], scope: Scope) -> None:
+    def expand(self, body: Body, scope: Scope) -> None:
         """Expands the statements of a body."""
-        for body in bodies:
-            self.step(body.placed.at)
-            self.statement_at = body.placed.at
-            found = self.read(body.placed.at)
-            if isinstance(found, ModulePlaces):
-                self.add_module(found, body)
-            elif isinstance(found, UsePlaces):
-                self.use(found, scope)
-            elif isinstance(found, LoopPlaces):
-                self.loop(found, body, scope)
-            elif isinstance(found, NodePlaces):
-                self.add_node(found, body.placed.word, scope)
+        for placed, inner in body:
+            self.step(placed.at)
+            self.statement_at = placed.at
+            if inner is not None:
+                if placed.word == "module":
+                    self.add_module(placed, inner)
+                else:
+                    self.loop(placed, inner, scope)
+            elif placed.word == "use":
+                self.use(placed, scope)
+            else:
+                self.add_node(placed, scope)
 
     def fail(self, rule: str, at: int, width: int, message: str, notes: Iterable[tuple[int, str]] = ()) -> Faulty:
         """A fault in the statement that is expanded."""
@@ -216,9 +369,28 @@ class Expansion:
             )
         self.steps += 1
 
-    def add_module(self, module: ModulePlaces, body: Body) -> None:
+    def module_at(self, at: int) -> ModulePlaces:
+        """The head of the module that is declared at a place."""
+        found = self.read(at)
+        assert isinstance(found, ModulePlaces)
+        return found
+
+    def use_at(self, at: int) -> UsePlaces:
+        """The use at a place."""
+        found = self.read(at)
+        assert isinstance(found, UsePlaces)
+        return found
+
+    def add_module(self, placed: Placed, body: Body) -> None:
         """Keeps a module."""
-        word = module.word
+        word = token_at(self.source, placed.at + len(placed.word))
+        if self.is_judged(placed.at):
+            self.judge_module(word, self.module_at(placed.at).parameters)
+        head = functools.partial(self.module_at, placed.at)
+        self.modules.setdefault(word.text, Module(head, body, len(self.modules), word.at))
+
+    def judge_module(self, word: Token, parameters: list[tuple[Token, Token]]) -> None:
+        """Wants a module and its parameters to be new, and not too many."""
         if len(self.modules) == MAX_MODULES:
             raise self.fail(
                 "TooMany",
@@ -235,7 +407,7 @@ class Expansion:
                 [(self.modules[word.text].at, f"{quoted(word.text)} is declared here first")],
             )
         known: dict[str, int] = {}
-        for _, parameter in module.parameters:
+        for _, parameter in parameters:
             if parameter.text in known:
                 raise self.fail(
                     "Duplicate",
@@ -245,12 +417,26 @@ class Expansion:
                     [(known[parameter.text], f"{quoted(parameter.text)} is declared here first")],
                 )
             known[parameter.text] = parameter.at
-        self.modules[word.text] = Module(module.parameters, body.inner, len(self.modules), word.at)
 
-    def use(self, use: UsePlaces, scope: Scope) -> None:
+    def use(self, placed: Placed, scope: Scope) -> None:
         """Expands the body of a module under the name of a use."""
-        line_at, module = self.statement_at, self.module_of(use, scope)
-        self.want_arguments(use, module)
+        at = placed.at
+        if self.is_judged(at):
+            use = self.use_at(at)
+            module = self.module_of(use, scope)
+            self.want_arguments(use, module)
+            self.expand(module.body, self.scope_of(use, module, at, scope))
+            return
+        known = self.modules.get(token_at(self.source, at + len(placed.word)).text)
+        if known is None:
+            raise Unfollowed
+        module = known
+        if isinstance(scope, UseScope):
+            scope.want()
+        self.expand(module.body, UseScope(module.number, lambda: self.scope_of(self.use_at(at), module, at, scope)))
+
+    def scope_of(self, use: UsePlaces, module: Module, at: int, scope: Scope) -> Scope:
+        """The scope of the body of a module at a use, whose statement begins at a place."""
         numbers: dict[str, int] = {}
         nodes: dict[str, str] = {}
         for (_, parameter), argument in zip(module.parameters, use.arguments):
@@ -259,8 +445,7 @@ class Expansion:
             else:
                 numbers[parameter.text] = self.value(argument, scope)
         full = scope.prefix + self.spelled(use.name, scope)
-        uses = scope.uses + ((line_at, use.word.text, full),)
-        self.expand(module.body, Scope(full + ".", numbers, nodes, module.number, uses))
+        return Scope(full + ".", numbers, nodes, module.number, scope.uses + ((at, use.word.text, full),))
 
     def module_of(self, use: UsePlaces, scope: Scope) -> Module:
         """The module that a use names, which was declared before the body in which the use stands."""
@@ -278,12 +463,11 @@ class Expansion:
             )
         later = next(
             (
-                body
-                for body in self.bodies
-                if body.placed.at > word.at
-                and body.placed.word == "module"
-                and isinstance(found := self.read(body.placed.at), ModulePlaces)
-                and found.word.text == word.text
+                placed
+                for placed, _ in self.body
+                if placed.at > word.at
+                and placed.word == "module"
+                and token_at(self.source, placed.at + len(placed.word)).text == word.text
             ),
             None,
         )
@@ -294,7 +478,7 @@ class Expansion:
             word.at,
             len(word.text),
             f"the module {quoted(word.text)} {what}" + ("" if later else meant(word.text, seen)),
-            [(later.placed.at, f"{quoted(word.text)} is declared here")] if later else (),
+            [(later.at, f"{quoted(word.text)} is declared here")] if later else (),
         )
 
     def want_arguments(self, use: UsePlaces, module: Module) -> None:
@@ -310,73 +494,77 @@ class Expansion:
                 message = f"{quoted(parameter.text)} is {'a node' if sort.text == 'node' else 'a number'}: {hint}"
                 raise self.fail("Arguments", argument.at, argument.end - argument.at, message, notes)
 
-    def loop(self, loop: LoopPlaces, body: Body, scope: Scope) -> None:
+    def loop(self, placed: Placed, body: Body, scope: Scope) -> None:
         """Expands the body of a loop once for each value of its variable."""
-        at = self.statement_at
+        loop = self.read(placed.at)
+        assert isinstance(loop, LoopPlaces)
         first, last = self.value(loop.first, scope), self.value(loop.last, scope)
         for number in range(first, last + 1):
-            self.step(at)
+            self.step(placed.at)
             self.expand(
-                body.inner,
+                body,
                 Scope(scope.prefix, {**scope.numbers, loop.word.text: number}, scope.nodes, scope.modules, scope.uses),
             )
 
-    def add_node(self, places: NodePlaces, word: str, scope: Scope) -> None:
+    def add_node(self, placed: Placed, scope: Scope) -> None:
         """Keeps a node, unless its name was there before or it passes a limit."""
-        at = places.name.at
-        width = places.name.end - at
-        node = PlacedNode(
-            scope.prefix + self.spelled(places.name, scope),
-            word if word in ("agent", "vectors", "unit") else "",
-            at,
-            width,
-            self.statement_at,
-            scope.uses,
-        )
-        self.fill(node, places, scope)
-        if node.name in self.nodes:
-            first = self.nodes[node.name]
+        name, at, end = self.head_of(placed.at)
+        full = scope.prefix + (name if isinstance(name, str) else self.spelled(name, scope))
+        role = placed.word if placed.word in ROLES else ""
+        node = PlacedNode(full, role, at, end - at, placed.at, scope, self.fill)
+        is_judged = self.is_judged(placed.at)
+        if is_judged:
+            self.want_new(node)
+        self.nodes.setdefault(full, node)
+        self.roles[role] = self.roles.get(role, 0) + 1
+        self.parts += self.parts_in(placed.at, placed.end) if role != "unit" else 0
+        if is_judged:
+            self.want_room(node)
+
+    def want_new(self, node: PlacedNode) -> None:
+        """Wants the parts of a node to have values, and its name to be new."""
+        first = self.nodes.get(node.name) if node.parts else None
+        if first:
             notes = [(first.at, f"{node.name} is declared here first"), *uses_of(node), *uses_of(first)]
-            raise self.fail("Duplicate", at, width, f"{quoted(node.name)} is already declared", notes)
-        self.nodes[node.name] = node
-        self.parts += len(node.accepts) + len(node.entries) + (node.over is not None)
+            raise self.fail("Duplicate", node.at, node.width, f"{quoted(node.name)} is already declared", notes)
+
+    def want_room(self, node: PlacedNode) -> None:
+        """Wants the nodes up to a node to be no more than the limits allow."""
         for what, count, most in (
             ("node", len(self.nodes), MAX_NODES),
-            ("agent", self.count("agent"), MAX_AGENTS),
-            ("unit", self.count("unit"), MAX_UNITS),
+            ("agent", self.roles.get("agent", 0), MAX_AGENTS),
+            ("unit", self.roles.get("unit", 0), MAX_UNITS),
             ("part", self.parts, MAX_PARTS),
         ):
             if count > most:
-                raise self.fail(
-                    "TooMany", at, width, f"there are more than {most:,} {what}s from {quoted(node.name)} on"
-                )
+                message = f"there are more than {most:,} {what}s from {quoted(node.name)} on"
+                raise self.fail("TooMany", node.at, node.width, message)
 
-    def count(self, role: str) -> int:
-        """How many nodes of a role there are."""
-        return sum(node.role == role for node in self.nodes.values())
-
-    def fill(self, node: PlacedNode, places: NodePlaces, scope: Scope) -> None:
+    def fill(self, node: PlacedNode) -> Parts:
         """Evaluates the parts of a node in their order."""
+        places, scope, parts = self.read(node.line_at), node.scope, Parts()
+        assert isinstance(places, NodePlaces)
         if places.kind is not None:
-            self.fill_unit(node, places, places.kind, scope)
+            self.fill_unit(parts, places, places.kind, scope)
         for block in places.accepts:
-            node.accepts.append(PlacedBlock(*self.bounds(block, scope), block.first.at))
+            parts.accepts.append(PlacedBlock(*self.bounds(block, scope), block.first.at))
         for entry in places.entries:
             placed = PlacedEntry(*self.bounds(entry.block, scope), entry.block.first.at)
             for name, at in entry.destinations:
-                target = self.refer(node, name, scope)
+                target = self.refer(parts, name, scope)
                 placed.destinations.append((target, placed.lo if at is None else self.value(at, scope)))
-            node.entries.append(placed)
+            parts.entries.append(placed)
         if places.over is not None:
-            node.over, node.over_at = self.refer(node, places.over, scope), places.over.at
+            parts.over, parts.over_at = self.refer(parts, places.over, scope), places.over.at
+        return parts
 
-    def fill_unit(self, node: PlacedNode, places: NodePlaces, kind: Token, scope: Scope) -> None:
+    def fill_unit(self, parts: Parts, places: NodePlaces, kind: Token, scope: Scope) -> None:
         """Evaluates the kind, the shape and the ports of a unit."""
         if kind.text not in KINDS:
             kinds = ", ".join(KINDS)
             message = f"the kind {quoted(kind.text)} does not exist, the kinds are {kinds}{meant(kind.text, KINDS)}"
             raise self.fail("Unknown", kind.at, len(kind.text), message)
-        node.shape.append(kind.text)
+        parts.shape.append(kind.text)
         for expression, (word, most) in zip(places.shape, MOST_SHAPE):
             value = self.value(expression, scope)
             if value > most:
@@ -386,18 +574,18 @@ class Expansion:
                     expression.end - expression.at,
                     f"`{word}` is {value:,} here, and at most {most:,}",
                 )
-            node.shape.append(value)
-        node.ports = [self.refer(node, port, scope) for port in places.ports]
+            parts.shape.append(value)
+        parts.ports = [self.refer(parts, port, scope) for port in places.ports]
 
     def bounds(self, block: BlockPlaces, scope: Scope) -> tuple[int, int]:
         """The first and the last address of a block."""
         first = self.value(block.first, scope)
         return first, first if block.last is None else self.value(block.last, scope)
 
-    def refer(self, node: PlacedNode, name: Name, scope: Scope) -> str:
+    def refer(self, parts: Parts, name: Name, scope: Scope) -> str:
         """The full name of a node to which another one refers; it is looked up when all nodes are known."""
         full = self.referred(name, scope)
-        node.references.append((full, name.at, name.end - name.at))
+        parts.references.append((full, name.at, name.end - name.at))
         return full
 
     def referred(self, name: Name, scope: Scope) -> str:
@@ -416,12 +604,8 @@ class Expansion:
     def value(self, expression: Expression, scope: Scope) -> int:
         """The value of an expression, at most `LAST_NUMBER`."""
         tokens = expression.tokens
-        self.work += len(tokens)
-        if self.work > MOST_WORK:
-            raise Unfollowed
-        if len(tokens) == 1:
-            return self.atom(tokens[0], scope)
-        return Sum(self, tokens, scope).whole()
+        self.spend(len(tokens))
+        return self.atom(tokens[0], scope) if len(tokens) == 1 else Sum(self, tokens, scope).whole()
 
     def atom(self, token: Token, scope: Scope) -> int:
         """The value of a number or of a variable."""
@@ -437,14 +621,26 @@ class Expansion:
             return f"{quoted(word)} is a node, and an expression has numbers and variables alone"
         known = f", the variables here are {', '.join(list(scope.numbers)[:8])}" if scope.numbers else ""
         what = (
-            "is no variable of a loop and no number parameter"
+            "is neither a loop variable nor a number parameter"
             if scope is not OUTSIDE
-            else "is no number, and a command sees no variables"
+            else "is not a number, and a command sees no variables"
         )
         return f"{quoted(word)} {what}{known}{meant(word, scope.numbers)}"
 
+    def run_commands(self) -> None:
+        """Evaluates the expressions of the commands and the indices of their names."""
+        start = statement_start(self.source, self.first) if self.first <= self.last else len(self.source.plain)
+        for command in statements_in(self.source, start):
+            if command.at > self.last:
+                return
+            if self.is_judged(command.at) and is_command(self.source, command):
+                self.run_command(command)
+
     def run_command(self, command: Placed) -> None:
-        """Evaluates the expressions of a command and the indices of its names."""
+        """Evaluates the expressions of a command and the indices of its names, if it has more than numbers and
+        names."""
+        if compiled(PLAIN_COMMAND).match(self.source.plain, command.at):
+            return
         self.statement_at = command.at
         found = self.read(command.at)
         for member in found.members if isinstance(found, CommandPlaces) else ():
@@ -457,7 +653,7 @@ class Expansion:
         """Looks up each node to which a node refers."""
         for node in self.nodes.values():
             self.statement_at = node.line_at
-            for full, at, width in node.references:
+            for full, at, width in node.references if self.is_judged(node.line_at) else ():
                 if full not in self.nodes:
                     raise self.fail("Unknown", at, width, self.no_node(full, node), uses_of(node))
 
@@ -557,10 +753,10 @@ class Sum:
         )
 
 
-def expansion_fault(source: Source) -> Fault | None:
-    """The first fault of expanding a text, or None."""
+def expansion_fault(source: Source, line: int | None = None) -> Fault | None:
+    """The first fault of expanding a text, or of what is expanded of a line of it; or None."""
     try:
-        Expansion(source).run()
+        Expansion(source, line).run()
     except Faulty as found:
         return found.fault
     return None

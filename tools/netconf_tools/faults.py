@@ -6,14 +6,13 @@ from typing import NamedTuple
 from netconf_tools.grammar import (
     ANY_WORD,
     COMMANDS,
-    COMMON,
     DECLARATIONS,
     MOST_BLOCKS,
     MOST_PARENTHESES,
     NAME,
     NUMBER,
     RESERVED,
-    TOKEN,
+    SUSPECT,
     BadToken,
     Placed,
     Reader,
@@ -22,10 +21,14 @@ from netconf_tools.grammar import (
     TooDeep,
     TooLong,
     Unexpected,
+    block_words,
+    common_statement,
+    compiled,
     is_bad,
     is_command,
     statement_start,
     statements_in,
+    token_at,
 )
 from netconf_tools.hints import meant, nearest, quoted, token_message
 from netconf_tools.limits import MAX_DESTINATIONS
@@ -47,6 +50,10 @@ class Fault(NamedTuple):
         """The line that the program prints."""
         return source.line(self.at if self.line_at is None else self.line_at)
 
+
+MOST_COMMON = 4096
+"""How many characters a statement has at most, and a part of a text at least, whose statements are compared with the
+form of most of them: to compile that form takes as long as to read some hundred statements."""
 
 OPERATORS = ("-", "*", "+", ".", "[")
 """What continues an expression or a name: a message lists these last."""
@@ -73,11 +80,10 @@ USAGES = {
 
 def token_fault(source: Source, first: int = 0, end: int | None = None) -> Fault | None:
     """The first place from `first` up to `end` that is no token."""
-    for hit in TOKEN.finditer(source.plain, first, len(source.plain) if end is None else end):
-        if hit.lastgroup in ("number", "bad"):
-            token = Token(hit.lastgroup, hit[hit.lastgroup], hit.start(hit.lastgroup))
-            if is_bad(token):
-                return Fault("Token", token.at, len(token.text), token_message(source, token))
+    for hit in compiled(SUSPECT).finditer(source.plain, first, len(source.plain) if end is None else end):
+        token = token_at(source, hit.start())
+        if is_bad(token):
+            return Fault("Token", token.at, len(token.text), token_message(source, token))
     return None
 
 
@@ -85,13 +91,15 @@ def wrong_statements(source: Source, first: int, end: int) -> Iterator[Fault]:
     """The faults of the statements that begin in a part of the text, by the grammar alone: for each at most one."""
     at = first
     while True:
-        common = COMMON.match(source.plain, at)
+        common = None
+        if end - first > MOST_COMMON and source.plain.find(";", at, at + MOST_COMMON) >= 0:
+            common = common_statement().match(source.plain, at)
         if common:
             if common.start("whole") >= end:
                 return
             at = common.end()
             continue
-        reader = Reader(source, at)
+        reader = Reader(source, at, is_brief=True)
         if reader.first.at >= end or reader.first.kind == "end":
             return
         try:
@@ -157,6 +165,12 @@ def meant_text(wrong: Unexpected, first: Token) -> str:
     token = wrong.token
     if wrong.full and token.text == wrong.full:
         return f"; at most {MAX_DESTINATIONS} stand in this list"
+    if wrong.before and wrong.before.text == "size" and token.kind == "number" and first.text in COMMANDS:
+        return "; in a command the size follows the base, with no word between them"
+    if token.text == "size" and "and" in wrong.expected:
+        return "; the size stands with the block, before `to`"
+    if token.text == "at" and first.text in COMMANDS:
+        return "; in a command no word stands before an address"
     if is_named_by_reserved(wrong, first):
         return f"; {quoted(first.text)} is a reserved word and names nothing"
     if token.kind == "word" and token.text in RESERVED and NAME in wrong.expected:
@@ -215,6 +229,18 @@ class Blocks:
             elif statement.word == "begin":
                 self.begin = statement
         return fault
+
+    def pass_over(self, end: int) -> None:
+        """Takes the statements up to a place, none of which is on the wrong side."""
+        for hit in block_words(self.source, 0, end):
+            if hit["word"] == "end":
+                self.open.pop()
+                continue
+            statement = Placed(hit.start("word"), hit["word"], hit.end())
+            if hit["word"] == "begin":
+                self.begin = statement
+                return
+            self.open.append(statement)
 
     def _fault(self, statement: Placed) -> Fault | None:
         """Why a statement may not stand here."""
@@ -282,9 +308,11 @@ def fault_on(source: Source, rule: str, line: int) -> Fault | None:
 
 def misplaced(source: Source, first: int, end: int) -> Iterator[Fault]:
     """The first statement that begins in a part of the text and stands on the wrong side of a block, or the fault at
-    the end."""
+    the end, if no statement before that part does."""
+    start = statement_start(source, first)
     blocks = Blocks(source)
-    for statement in statements_in(source):
+    blocks.pass_over(start)
+    for statement in statements_in(source, start):
         if statement.at > end:
             return
         fault = blocks.put(statement)

@@ -6,6 +6,8 @@ text, in bytes."""
 
 import bisect
 import functools
+import itertools
+import operator
 import re
 from collections.abc import Callable, Iterator
 from dataclasses import dataclass, field
@@ -32,11 +34,18 @@ MOST_BLOCKS, MOST_PARENTHESES = 16, 32
 """How many blocks and how many parentheses are open at once at most."""
 
 COMMENT = re.compile("//[^\n]*")
+COMMENTS = re.compile("(//[^\n]*)")
 TOKEN = re.compile(
     r"[ \t\r\n]*(?:(?P<word>[A-Za-z_]\w*)|(?P<number>[0-9]\w*)|(?P<sign>\.\.|[][;,()+*.-])|(?P<bad>[^ \t\r\n])"
     r"|(?P<end>\Z))",
     re.A,
 )
+SUSPECT = (
+    r"[^\w \t\r\n.\[\];,()+*-]|(?<!\w)(?:[0-9]{20}|0x[0-9a-fA-F]{17}|(?!0x[0-9a-fA-F]+\b|[0-9]+\b)[0-9])\w*"
+)
+"""The pattern of what may be no token: a character that begins none, a number that may be too large, and what begins as
+a number and is none."""
+
 WHOLE_NUMBER = re.compile(r"0x[0-9a-fA-F]+|[0-9]+", re.A)
 SCALED_NUMBER = re.compile(r"(?P<number>0x[0-9a-fA-F]+|[0-9]+)(?P<scale>[KMGT])", re.A)
 """A number with a suffix, which is no number of the language: `netconf-run` replaces it by one."""
@@ -46,10 +55,27 @@ SCALES = {"K": 1 << 10, "M": 1 << 20, "G": 1 << 30, "T": 1 << 40}
 
 STATEMENT = re.compile(r"[ \t\r\n]*(?P<whole>(?P<word>[A-Za-z_]\w*)?[^;]*;)", re.A)
 
+BLOCK_WORD = re.compile(r";[ \t\r\n]*(?P<word>for|module|end|begin)\b", re.A)
+FIRST_BLOCK_WORD = re.compile(r"[ \t\r\n]*(?P<word>for|module|end|begin)\b", re.A)
+"""A statement that opens or closes a block or the commands: after a semicolon, and at the beginning of a text."""
+
+BLANK, PLAIN_NUMBER = r"[ \t\r\n]*", r"(?:0x[0-9a-fA-F]{1,16}|[0-9]{1,19})\b"
+BLOCK = rf"{PLAIN_NUMBER}{BLANK}(?:-{BLANK}{PLAIN_NUMBER}{BLANK})?"
+PLAIN_BLOCKS = rf"(?:{BLOCK},{BLANK}){{1,200}}"
+PLAIN_ENTRIES = (
+    rf"(?:{BLOCK}to\b{BLANK}(?!(?:{'|'.join(sorted(RESERVED))})\b)[A-Za-z_]\w*{BLANK}"
+    rf"(?:\bat\b{BLANK}{PLAIN_NUMBER}{BLANK})?,{BLANK}){{1,200}}"
+)
+"""The patterns of blocks of numbers, and of entries with such a block and one destination, each with its comma."""
+
+MOST_COUNTED = 16
+"""For how many questions about lines the ends of lines are counted, before the places of all are found."""
+
 MOST_TOKENS = 100_000
 """How many tokens of a statement are read at most to find a fault in it: a statement of 4 MiB can have two million."""
 
 
+@functools.cache
 def common_statement() -> re.Pattern[str]:
     """The form of most statements: names without indices, and expressions without parentheses. What it matches is
     right by the grammar, and is passed over at once; what it does not match is read token by token."""
@@ -70,9 +96,13 @@ def common_statement() -> re.Pattern[str]:
     return re.compile(rf"{blank}(?P<whole>(?:{node}|(?:{asked}|{granted}){access}|{others}){blank};)", re.A)
 
 
-COMMON = common_statement()
-
 Item = TypeVar("Item")
+
+
+@functools.cache
+def compiled(pattern: str) -> re.Pattern[str]:
+    """A pattern of ASCII that few texts need: to compile it takes longer than a small text does."""
+    return re.compile(pattern, re.A)
 
 
 class Token(NamedTuple):
@@ -112,34 +142,92 @@ class BadToken(Exception):
         self.token = token
 
 
+@functools.lru_cache(maxsize=2)
+def without_comments(text: str) -> str:
+    """A text with blanks in place of its comments, so that each place in it is one of the text."""
+    if "//" not in text:
+        return text
+    parts = COMMENTS.split(text)
+    parts[1::2] = map(" ".__mul__, map(len, parts[1::2]))
+    return "".join(parts)
+
+
+def comments_with(mark: str, text: str) -> Iterator[re.Match[str]]:
+    """The comments of a text that begin with a mark, such as `//!`."""
+    at = text.find(mark)
+    while at >= 0:
+        comment = COMMENT.match(text, text.find("//", text.rfind("\n", 0, at) + 1))
+        assert comment is not None
+        if comment.start() == at:
+            yield comment
+        at = text.find(mark, comment.end())
+
+
 class Source:
     """A text with its comments blanked, so that each place in it is one in the text, and with its lines."""
 
     def __init__(self, text: str) -> None:
         self.text = text
-        self.plain = COMMENT.sub(lambda hit: " " * len(hit.group()), text) if "//" in text else text
+        self._questions = 0
+        self._known = 0, 1
+        """A place, and the line in which it is."""
+
+    @functools.cached_property
+    def plain(self) -> str:
+        """The text with blanks in place of its comments."""
+        return without_comments(self.text)
 
     @functools.cached_property
     def _starts(self) -> list[int]:
         """The places at which lines begin."""
-        return [0] + [hit.end() for hit in re.finditer("\n", self.text)]
+        sizes = map(operator.add, map(len, self.text.split("\n")), itertools.repeat(1))
+        return list(itertools.accumulate(sizes, initial=0))[:-1]
 
     def line(self, at: int) -> int:
         """The line of a place, from 1."""
-        return bisect.bisect_right(self._starts, at)
+        if not self._is_counted():
+            return bisect.bisect_right(self._starts, at)
+        known, line = self._known if self._known[0] <= at else (0, 1)
+        self._known = at, line + self.text.count("\n", known, at)
+        return self._known[1]
+
+    def _is_counted(self) -> bool:
+        """Whether the ends of lines are counted for a question, as for the first ones: to find all takes longer."""
+        self._questions += 1
+        return self._questions <= MOST_COUNTED and "_starts" not in vars(self)
 
     def column(self, at: int) -> int:
         """The column of a place, in bytes from 1."""
-        return at - self._starts[self.line(at) - 1] + 1
+        return at - self.text.rfind("\n", 0, at)
 
-    @property
+    @functools.cached_property
     def last_line(self) -> int:
         """The line of the end of the text."""
-        return len(self._starts)
+        return self.text.count("\n") + 1
 
     def span(self, line: int) -> tuple[int, int]:
         """The places at which a line begins and at which its line end stands, or the text ends."""
-        return self._starts[line - 1], self._starts[line] - 1 if line < len(self._starts) else len(self.text)
+        if self._is_counted():
+            first = self._begin(line)
+            self._known = first, line
+        else:
+            first = self._starts[line - 1]
+        end = self.text.find("\n", first)
+        return first, end if end >= 0 else len(self.text)
+
+    def _begin(self, line: int) -> int:
+        """The place at which a line begins, by counting the ends of lines in halves of the text."""
+        low, high, left = 0, len(self.text), line - 1
+        while high - low > 1024:
+            middle = (low + high) // 2
+            count = self.text.count("\n", low, middle)
+            if count >= left:
+                high = middle
+            else:
+                low, left = middle, left - count
+        for _ in range(left):
+            low = self.text.index("\n", low) + 1
+        return low
 
     def line_text(self, line: int) -> str:
         """A line without its end."""
@@ -282,9 +370,14 @@ Statement = NodePlaces | ModulePlaces | UsePlaces | LoopPlaces | CommandPlaces |
 class Reader:
     """Reads one statement. What may stand at the next token is collected until a token is taken."""
 
-    def __init__(self, source: Source, at: int, is_extended: bool = False, most: int = MOST_TOKENS) -> None:
+    def __init__(
+        self, source: Source, at: int, is_extended: bool = False, most: int = MOST_TOKENS, is_brief: bool = False
+    ) -> None:
+        """`is_extended` allows suffixes and sizes, and `is_brief` passes over blocks and entries of numbers and names,
+        which are right."""
         self.source = source
         self.is_extended = is_extended
+        self.is_brief = is_brief
         self.left = most
         """How many tokens may still be taken."""
         self.variables: list[Token] = []
@@ -362,6 +455,11 @@ class Reader:
             self.full = separator
         return items
 
+    def pass_over(self, pattern: str) -> None:
+        """Passes over what a pattern matches from the next token on, if nothing of it is wanted."""
+        while self.is_brief and (hit := compiled(pattern).match(self.source.plain, self.token.at)):
+            self.token = token_at(self.source, hit.end())
+
     def statement(self) -> Statement:
         """Reads a statement with its semicolon."""
         self.expected.update(dict.fromkeys((NAME, *DECLARATIONS, *COMMANDS)))
@@ -407,10 +505,12 @@ class Reader:
         self.want("is")
         if self.has("accept"):
             self.want("[")
+            self.pass_over(PLAIN_BLOCKS)
             node.accepts = self.list_of(self.block)
             self.want("]")
         if self.has("map"):
             self.want("[")
+            self.pass_over(PLAIN_ENTRIES)
             node.entries = self.list_of(self.entry)
             self.want("]")
         if self.has("over"):
@@ -574,10 +674,21 @@ class Placed(NamedTuple):
     end: int
 
 
-def statements_in(source: Source) -> Iterator[Placed]:
-    """The statements that are ended by a semicolon, in order; what is between two semicolons may be wrong."""
-    for hit in STATEMENT.finditer(source.plain):
+def statements_in(source: Source, first: int = 0) -> Iterator[Placed]:
+    """The statements from a place on that are ended by a semicolon, in order; what is between two semicolons may be
+    wrong."""
+    for hit in STATEMENT.finditer(source.plain, first):
         yield Placed(hit.start("whole"), hit["word"] or "", hit.end())
+
+
+def block_words(source: Source, first: int, end: int) -> Iterator[re.Match[str]]:
+    """The words in a part of the text that open or close a block or the commands, each with the semicolon before it;
+    the part begins after a semicolon or at the beginning of the text."""
+    if first == 0:
+        hit = FIRST_BLOCK_WORD.match(source.plain, 0, end)
+        if hit:
+            yield hit
+    yield from BLOCK_WORD.finditer(source.plain, max(first - 1, 0), end)
 
 
 def is_command(source: Source, statement: Placed) -> bool:

@@ -5,11 +5,12 @@ The program answers them; the notes on a refusal are read off the description, a
 
 import functools
 import re
-from collections.abc import Callable, Container, Iterator, Sequence
+from collections.abc import Callable, Container, Iterable, Iterator, Mapping, Sequence
 from typing import NamedTuple
 
 from netconf_tools.causes import Causes, tables_in
 from netconf_tools.dump import image_in
+from netconf_tools.expansion import Expansion, Faulty, Unfollowed
 from netconf_tools.grammar import CommandPlaces, Expression, Name, NodePlaces, Reader, Source, TooLong
 from netconf_tools.hints import meant, quoted
 from netconf_tools.layout import WORDS, Layout, layout_from
@@ -42,14 +43,17 @@ MOST_ROWS = 1 << 19
 """How many rows the views of agents and ports may have together in which causes are looked for, by the parts of the
 net."""
 
+MOST_HINTS = 100
+"""Of how many names that do not exist the nearest one is looked for."""
+
 UNPLACED_REPLY = "refused: NoPlacement"
 
 SHOWN = 8
 """How many ids a note shows at most."""
 
 UNPLACED = {
-    "grant": "nothing gives the agent exactly this, and nobody anything else",
-    "route": "nothing gives the agent exactly this, and nobody anything else",
+    "grant": "no placement gives the agent exactly this, and nobody anything else",
+    "route": "no placement gives the agent exactly this, and nobody anything else",
     "gather": "no unit gives the agent exactly the pieces, one after the other, and nobody anything else",
 }
 """What `NoPlacement` means, by the command."""
@@ -148,15 +152,36 @@ class Net:
     come."""
 
     def __init__(self, text: str) -> None:
-        self.nodes = nodes_of(text)
         self.source = Source(text)
         self._units: dict[str, list[Node]] = {}
+        self._hints = 0
+
+    @functools.cached_property
+    def nodes(self) -> dict[str, Node]:
+        """The nodes by their names."""
+        return nodes_of(self.source.text)
+
+    @functools.cached_property
+    def names(self) -> Mapping[str, object]:
+        """The names of the nodes, which are known without all that the nodes hold."""
+        try:
+            expansion = Expansion(self.source, 0)
+            expansion.run()
+        except (Faulty, Unfollowed, RecursionError):
+            return self.nodes
+        return expansion.nodes
 
     def units_from(self, agent: str) -> list[Node]:
         """The units to which an agent can come, also behind one another."""
         if agent not in self._units:
             self._units[agent] = [node for node in reached(self.nodes, [agent]).values() if node.role == "unit"]
         return self._units[agent]
+
+    def meant(self, name: str, names: Iterable[str]) -> str:
+        """The end of a message that names the one of some names that is most like a name, or nothing; of many names
+        that do not exist it is looked for of the first ones."""
+        self._hints += 1
+        return meant(name, names) if self._hints <= MOST_HINTS else ""
 
     def command(self, at: int) -> CommandPlaces:
         """The command that begins at a place; of one that is too long to be read its word alone."""
@@ -246,14 +271,13 @@ class Follower:
         return Refused(at, width, command, fault, what, notes or list(notes_of(part, rule, self.net, self.live)))
 
 
-def refused_in(data: bytes, most: int) -> Iterator[Refused | int]:
-    """Each command of a description that is refused, with its fault and the notes on it.
+def refused_in(follower: Follower, most: int) -> Iterator[Refused | int]:
+    """Each command of a description that is refused, with its fault and the notes on it. The follower has those
+    commands of the description that are asked.
 
     After the first `most` commands that are refused comes how many more there are."""
-    text = data.decode("latin-1")
-    commands, found = CommandRows(text, ASKED), 0
-    follower = Follower(text, commands)
-    replies = replied(text, list(map(question, commands.rows)))
+    commands, found = follower.commands, 0
+    replies = replied(follower.text, list(map(question, commands.rows)))
     follower.explained = [index for index, reply in enumerate(replies) if reply == UNPLACED_REPLY][:MOST_EXPLAINED]
     for index, reply in enumerate(replies):
         fault = fault_in(commands.rows[index], reply, functools.partial(commands.command, index))
@@ -300,11 +324,11 @@ def what_of(part: Command | Piece, fault: str, net: Net, live: Live) -> str:
         is_live = part.id in live
         return f"the id {quoted(part.id)} is in use" if is_live else f"an earlier piece has the id {quoted(part.id)}"
     if rule == "NoGrant":
-        return f"no grant and no route with the id {quoted(part.id)} is live{meant(part.id, live)}"
+        return f"no grant and no route with the id {quoted(part.id)} is live{net.meant(part.id, live)}"
     if rule == "NoAgent":
-        return named(net, part.names[0], "is no agent")
+        return named(net, part.names[0], "is not an agent")
     if rule == "NoUnit":
-        return named(net, part.names[0], "is no unit")
+        return named(net, part.names[0], "is not a unit")
     if rule == "NoTarget":
         is_route = part.word == "route"
         what = "has no interrupt vectors: use `grant`" if is_route else "has interrupt vectors: use `route`"
@@ -320,7 +344,9 @@ def what_of(part: Command | Piece, fault: str, net: Net, live: Live) -> str:
 
 def named(net: Net, name: str, what: str) -> str:
     """That a node does not exist, or what it is."""
-    return f"{quoted(name)} {what}" if name in net.nodes else f"there is no node {quoted(name)}{meant(name, net.nodes)}"
+    if name in net.names:
+        return f"{quoted(name)} {what}"
+    return f"there is no node {quoted(name)}{net.meant(name, net.names)}"
 
 
 def notes_of(part: Command | Piece, rule: str, net: Net, live: Live) -> Iterator[Note]:
@@ -383,7 +409,7 @@ def notes_on_pages(command: Command | Piece, net: Net) -> Iterator[Note]:
     if (base | size) % page:
         span = f"{base:#x}-{base + size - 1:#x}"
         what = span if command.word == "grant" else f"{command.id}, {span},"
-        yield command.at, f"{what} is no whole number of pages: the smallest on the way has {page:#x}"
+        yield command.at, f"{what} is not a whole number of pages: the smallest on the way has {page:#x}"
 
 
 def notes_on_vectors(command: Command | Piece, nodes: dict[str, Node], live: Live) -> Iterator[Note]:

@@ -1,8 +1,9 @@
 """What a message about a token adds: what is wrong with a number or a character, and which word was meant."""
 
-import difflib
+import functools
+import heapq
+import itertools
 import re
-import unicodedata
 from collections.abc import Iterable
 
 from netconf_tools.grammar import SCALED_NUMBER, WHOLE_NUMBER, Source, Token, number_of
@@ -10,6 +11,10 @@ from netconf_tools.limits import LAST_NUMBER
 
 LONGEST = 64
 """How many letters a word has at most for which a near one is looked for."""
+
+MOST_COMPARED = 16
+"""With how many words a word is compared letter by letter: of more than these with those that have most pairs of
+letters in common with it."""
 
 SHOWN = 40
 """How many letters of a token a message shows."""
@@ -61,8 +66,19 @@ def nearest(word: str, words: Iterable[str]) -> str:
     if len(word) > LONGEST:
         return ""
     near = [other for other in words if other != word and abs(len(other) - len(word)) <= max(2, len(word) // 3)]
+    if len(near) > MOST_COMPARED:
+        own = pairs_of(word)
+        near = heapq.nlargest(MOST_COMPARED, near, key=lambda other: len(own & pairs_of(other)))
+    # Only here, since most texts have no word that is not known.
+    import difflib
     found = difflib.get_close_matches(word, near, 1, 0.6)
     return found[0] if found else ""
+
+
+@functools.lru_cache(maxsize=1 << 14)
+def pairs_of(word: str) -> frozenset[str]:
+    """The pairs of letters that stand side by side in a word, with a blank before and after it."""
+    return frozenset(map("".join, itertools.pairwise(f" {word} ")))
 
 
 def meant(word: str, words: Iterable[str]) -> str:
@@ -74,7 +90,7 @@ def meant(word: str, words: Iterable[str]) -> str:
 def token_message(source: Source, token: Token) -> str:
     """Why a place is no token, and what to write instead."""
     if token.kind == "number":
-        return f"{quoted(token.text)} is no number: {number_hint(token.text)}"
+        return f"{quoted(token.text)} is not a number: {number_hint(token.text)}"
     if token.at == 0:
         for mark, what in MARKS:
             if source.text.startswith(mark):
@@ -95,7 +111,7 @@ def number_hint(spelling: str) -> str:
     if re.fullmatch("0X[0-9a-fA-F]+", spelling):
         return f"the x is a small letter, write 0x{spelling[2:]}"
     return suffix_hint(spelling) or (
-        f"{quoted(re.sub('[0-9a-fA-F]', '', digits)[0])} is no hexadecimal digit"
+        f"{quoted(re.sub('[0-9a-fA-F]', '', digits)[0])} is not a hexadecimal digit"
         if spelling.startswith("0x")
         else "a number is decimal, or hexadecimal after 0x, and a name begins with a letter or _"
     )
@@ -141,7 +157,8 @@ def foreign_message(data: bytes) -> str:
     """Why a character outside of ASCII is no token; it is the first of some bytes of UTF-8, or else a byte."""
     character = next((data[:size].decode() for size in (1, 2, 3, 4) if is_text(data[:size])), "")
     if not character:
-        return f"the byte {data[0]:#04x} begins no token, and is no UTF-8"
+        return f"the byte {data[0]:#04x} begins no token, and is not UTF-8"
+    import unicodedata
     name = unicodedata.name(character, "no name")
     if character in DASHES:
         what = "write -"

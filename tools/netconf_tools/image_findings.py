@@ -1,4 +1,4 @@
-"""The findings on an image of tables: why it is refused, which records are shut out, and what agents share by
+"""The findings on an image of tables: why it is refused, which records are malformed, and what agents share by
 records."""
 
 from collections.abc import Iterator
@@ -82,9 +82,10 @@ def shut_slots(description: Description, image: bytes, report: Report) -> Iterat
     for (unit, slot), words in zip(slots, found):
         node, shown = nodes[unit], " ".join(f"{word:#x}" for word in words)
         yield warning(
-            description, node, "shut", f"{unit} slot {slot}: shut out: {shown}: {why_shut(node, words, version)}"
+            description, node, "shut",
+            f"{unit} slot {slot}: malformed record: {shown}: {why_shut(node, words, version)}"
         )
-    yield from more(description, len(report.shut), "slots are shut out")
+    yield from more(description, len(report.shut), "slots have malformed records")
 
 
 def shared_rows(description: Description, image: bytes, report: Report) -> Iterator[Finding]:

@@ -4,6 +4,7 @@ https://microsoft.github.io/language-server-protocol. Diagnostics are those of n
 holds. A place in the protocol counts from 0 and in units of UTF-16; before each token of a description stand letters
 of ASCII alone, so that columns are the same in bytes."""
 
+import contextlib
 import json
 import os
 import queue
@@ -27,6 +28,10 @@ MOST_HEADER, MOST_BODY = 4096, 1 << 26
 SEVERITIES = {"error": 1, "warning": 2, "note": 3}
 NOT_FOUND, BROKEN = -32601, -32603
 """The codes of a method that the server does not have, and of a failure in it."""
+
+MALFORMED = (KeyError, IndexError, TypeError, ValueError, AttributeError)
+"""What a message raises whose parts have other types than the protocol gives them. Of such a question the error is the
+answer, and such a message that has no answer is passed over."""
 
 CAPABILITIES = {
     "textDocumentSync": {"openClose": True, "change": 1, "save": True},
@@ -55,7 +60,7 @@ def read_message(stream: IO[bytes]) -> Message | None:
         return None
     try:
         message = json.loads(stream.read(size))
-    except ValueError:
+    except (ValueError, RecursionError):
         return None
     return message if isinstance(message, dict) else None
 
@@ -108,7 +113,8 @@ class Server:
             "textDocument/didSave",
             "textDocument/didClose",
         ):
-            self.change(str(method), params)
+            with contextlib.suppress(*MALFORMED):
+                self.change(str(method), params)
         return True
 
     def answer(self, number: object, method: str, params: Message) -> None:
@@ -125,7 +131,7 @@ class Server:
             return
         try:
             result = calls[method](params)
-        except (Trouble, KeyError, TypeError, ValueError, AttributeError) as error:
+        except (Trouble, *MALFORMED) as error:
             self.write({"id": number, "error": {"code": BROKEN, "message": str(error)[:400]}})
             return
         self.write({"id": number, "result": result})

@@ -14,7 +14,7 @@ from netconf_tools.text import Refusal, name_of
 
 RULES = {
     "Length": "a description has at most 4,194,304 bytes",
-    "Token": "there is no token here",
+    "Token": "this is not a token",
     "Statement": "no statement goes on like this",
     "Block": "a block is not closed or not open, or a statement stands on the wrong side of `begin`",
     "Nesting": "at most 16 blocks and 32 parentheses are open at once",
@@ -29,7 +29,7 @@ RULES = {
     "VectorSpace": "a vectors node has no map and no `over`, and accepts at most 4,096 different addresses",
     "UnitShape": "no unit has this shape, or no unit of its kind",
     "Wide": "there are more live walks than this limit: too many entries with several destinations follow one another",
-    "Loop": "an address comes back to itself",
+    "Loop": "an address leads back to itself",
     "Deep": "an address can be followed for 65 steps",
     "Fork": "an address with several destinations reaches a unit",
     "Chain": "at most three units stand in a row, and their slots multiply to at most 1,048,576",
@@ -64,9 +64,9 @@ def fault_of(description: Description, refusal: Refusal) -> Fault | None:
         if refusal.rule in GRAMMAR:
             fault = fault_on(source, refusal.rule, refusal.line)
         elif refusal.rule in EXPANDED:
-            fault = expansion_fault(source)
+            fault = expansion_fault(source, refusal.line)
         else:
-            return None if refusal.rule in ("Length", "Wide") else node_fault(Expansion(source), refusal)
+            return None if refusal.rule in ("Length", "Wide") else node_fault(Expansion(source, 0), refusal)
     except (Unfollowed, RecursionError):
         return None
     return fault if fault and (fault.rule, fault.line(source)) == (refusal.rule, refusal.line) else None

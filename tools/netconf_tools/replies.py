@@ -10,7 +10,7 @@ from netconf_tools.faults import Fault
 from netconf_tools.findings import Finding, Severity
 from netconf_tools.grammar import COMMANDS
 from netconf_tools.grants import ASKED, MOST_EXPLAINED, UNPLACED_REPLY, Follower, Refused
-from netconf_tools.hints import meant, quoted
+from netconf_tools.hints import quoted
 from netconf_tools.source import CommandRows, nodes_of
 
 COUNT = re.compile(
@@ -29,6 +29,12 @@ QUESTIONS = ("resolve", "lookup", "view", "absorb")
 
 NODE = re.compile(r"^(?:(agent|vectors|unit) )?(\S+) (?:is|kind)\b", re.M)
 """A node in a printed net: the word before its name, or nothing, and its name."""
+
+PLAIN_NAME = re.compile(
+    r"\s*(?P<name>[A-Za-z_]\w*(?:\s*\[\s*(?:0|[1-9][0-9]{0,18})\s*\])?"
+    r"(?:\s*\.\s*[A-Za-z_]\w*(?:\s*\[\s*(?:0|[1-9][0-9]{0,18})\s*\])?)*)(?!\s*[\[.]|\w)", re.A
+)
+"""A name in a command whose indices are numbers."""
 
 Output = bytes | mmap.mmap
 
@@ -86,15 +92,15 @@ class Reporter:
         return self.description.finding(Fault(fault.split(" ")[0], at, width, ""), message)
 
     def missing(self, index: int, severity: Severity = "warning") -> Finding:
-        """The finding on a question whose node does not exist, or is no agent where one is asked."""
-        command, nodes = self.commands.command(index), self.follower.net.nodes
-        places, name = self.follower.net.command(command.at), command.names[0]
+        """The finding on a question whose node does not exist, or is not an agent where one is asked."""
+        command, net = self.commands.command(index), self.follower.net
+        places, name = net.command(command.at), command.names[0]
         part = places.members[0] if places.members else None
         at, width = (part.at, part.end - part.at) if part else (command.at, len(command.word))
-        if name in nodes:
-            rule, what = "NoAgent", f"{quoted(name)} is no agent"
+        if name in net.names:
+            rule, what = "NoAgent", f"{quoted(name)} is not an agent"
         else:
-            rule, what = "NoNode", f"there is no node {quoted(name)}{meant(name, nodes)}"
+            rule, what = "NoNode", f"there is no node {quoted(name)}{net.meant(name, net.names)}"
         finding = self.description.finding(Fault(rule, at, width, ""), f"{command.word} {name}: {what}")
         return replace(finding, severity=severity)
 
@@ -115,12 +121,18 @@ def missing_names(commands: CommandRows, net: str | None, text: str) -> list[int
     else:
         found = NODE.findall(net)
         names, agents = {name for _, name in found}, {name for role, name in found if role == "agent"}
-    missing = []
-    for index, (source, word, _) in enumerate(commands.rows):
-        known = agents if word in ("lookup", "view") else names
-        if source[len(word):-1].split(None, 1)[0] not in known and commands.command(index).names[0] not in known:
-            missing.append(index)
-    return missing
+    known = {word: agents if word in ("lookup", "view") else names for word in QUESTIONS}
+    return [
+        index
+        for index, (source, word, _) in enumerate(commands.rows)
+        if (name_in(source, len(word)) or commands.command(index).names[0]) not in known[word]
+    ]
+
+
+def name_in(source: str, at: int) -> str:
+    """The full name that stands at a place of a command, or nothing if one of its indices is no plain number."""
+    hit = PLAIN_NAME.match(source, at)
+    return "".join(hit["name"].split()) if hit else ""
 
 
 def findings_in(description: Description, output: Output, most: int) -> Iterator[Finding]:
@@ -173,7 +185,7 @@ def why(fault: str) -> str:
     """What the refusal of `view`, `split` or `absorb` says, in a few words."""
     rule, *words = fault.split(" ")
     if rule == "NoAgent":
-        return ": the node does not exist, or is no agent"
+        return ": the node does not exist, or is not an agent"
     if rule == "TooMany":
         return ": the new net would have more nodes, parts or destinations of an entry than this limit"
     what = REASONS.get(words[0] if words else "")

@@ -16,6 +16,7 @@ from collections.abc import Callable, Iterable, Iterator, Sequence
 from dataclasses import dataclass, field
 from typing import Any, NamedTuple, TypeVar
 
+from netconf_tools.grammar import comments_with, without_comments
 from netconf_tools.limits import LAST_ADDRESS
 
 TOP = LAST_ADDRESS
@@ -30,7 +31,9 @@ NAMED = re.compile(r"(?P<name>[A-Za-z_][\w.\[\]]*) is (?P<note>.+)", re.A)
 """A note that names its node by the full name."""
 
 BLANKS = re.compile(r"[ \t\r]*")
-BEGIN = re.compile(r"\bbegin\b", re.A)
+BEGIN = re.compile(r"begin\b", re.A)
+"""The word `begin`, or the end of a longer word: a pattern that begins with letters is found ten times as fast."""
+
 STATEMENT = re.compile(r"[ \t\r\n]*(?P<whole>(?P<word>[A-Za-z_]\w*)?[^;]*;)", re.A)
 TOKENS = re.compile(r"[A-Za-z_]\w*|[0-9]\w*|\.\.|[][;,()+*.\n-]", re.A)
 """The tokens without the blanks between them; the end of a line is one, so that lines can be counted."""
@@ -143,9 +146,9 @@ NotePlace = tuple[int, int, str]
 """A comment `//@`: its line, its place, and what it says."""
 
 
-def blanked(hit: re.Match[str]) -> str:
-    """As many blanks as a comment has characters."""
-    return " " * (hit.end() - hit.start())
+def is_in_word(text: str, at: int) -> bool:
+    """Whether the character before a place belongs to a word."""
+    return at > 0 and (text[at - 1].isascii() and text[at - 1].isalnum() or text[at - 1] == "_")
 
 
 class Text:
@@ -153,8 +156,8 @@ class Text:
     `end`, and its commands begin at `commands`."""
 
     def __init__(self, text: str) -> None:
-        self.plain = COMMENT.sub(blanked, text) if "//" in text else text
-        begin = BEGIN.search(self.plain)
+        self.plain = without_comments(text)
+        begin = next((hit for hit in BEGIN.finditer(self.plain) if not is_in_word(self.plain, hit.start())), None)
         self.end = begin.start() if begin else len(self.plain)
         after = self.plain.find(";", begin.end()) + 1 if begin else 0
         self.commands = after or len(self.plain)
@@ -236,7 +239,7 @@ def notes_in(text: str) -> list[NotePlace]:
     """The comments `//@` of a text."""
     found: list[NotePlace] = []
     line, seen = 1, 0
-    for hit in COMMENT.finditer(text) if "//@" in text else ():
+    for hit in comments_with("//@", text):
         note = NOTE.fullmatch(hit.group())
         if note:
             line, seen = line + text.count("\n", seen, hit.start()), hit.start()
@@ -577,7 +580,7 @@ def number_of(token: str, scope: Scope) -> int:
     if token[0].isdigit():
         return int(token, 16) if token[:2] == "0x" else int(token)
     if token not in scope.numbers:
-        raise Unreadable(f"{token} is no variable here")
+        raise Unreadable(f"{token} is not a variable here")
     return scope.numbers[token]
 
 

@@ -180,11 +180,11 @@ class Board:
         return free if free <= last else None
 
     def want_agent(self, name: str) -> None:
-        """Refuses a name that is no agent's."""
+        """Refuses a name that is not an agent's."""
         if name not in self.agents:
             listed = ", ".join(map(shown, self.agents[:SHOWN]))
             listed += f" and {len(self.agents) - SHOWN} more" if len(self.agents) > SHOWN else ""
-            raise Trouble(f"{self.name}: {shown(name)} is no agent; the agents are: {listed or 'none'}")
+            raise Trouble(f"{self.name}: {shown(name)} is not an agent; the agents are: {listed or 'none'}")
 
     def views(self, agents: Iterable[str]) -> dict[tuple[str, str], Sequence[str]]:
         """The views of agents: for each and each access the lines of its rows."""

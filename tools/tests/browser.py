@@ -17,6 +17,9 @@ ARGUMENTS = ("--headless", "--no-sandbox", "--disable-gpu", "--host-resolver-rul
 SECONDS = 30
 """How long a call waits for what it is told to wait for."""
 
+MOST_SECONDS = 240
+"""How long a page may take to open, or a script to end, on a machine that does much else."""
+
 
 class Browser:
     """A session of Chromium, which ends with its `with` block."""
@@ -27,7 +30,9 @@ class Browser:
                                         text=True)
         self._base = f"http://127.0.0.1:{self._port()}/session"
         arguments = [*ARGUMENTS, f"--user-data-dir={folder}", f"--window-size={width},{height}"]
-        wanted = {"goog:chromeOptions": {"args": arguments}, "goog:loggingPrefs": {"browser": "ALL"}}
+        limits = {"script": 1000 * MOST_SECONDS, "pageLoad": 1000 * MOST_SECONDS}
+        wanted = {"goog:chromeOptions": {"args": arguments}, "goog:loggingPrefs": {"browser": "ALL"},
+                  "timeouts": limits}
         made = self._call("POST", "", {"capabilities": {"alwaysMatch": wanted}})
         self._base += f"/{made['sessionId']}"
 
@@ -56,7 +61,7 @@ class Browser:
         """What the driver answers to a call."""
         data = None if body is None else json.dumps(body).encode()
         request = urllib.request.Request(self._base + path, data, {"Content-Type": "application/json"}, method=method)
-        with urllib.request.urlopen(request, timeout=2 * SECONDS) as answer:
+        with urllib.request.urlopen(request, timeout=2 * MOST_SECONDS) as answer:
             return json.load(answer)["value"]
 
     def open(self, address: str) -> None:
@@ -67,12 +72,13 @@ class Browser:
         """What a script of the page returns: the body of a function, whose `arguments` are these."""
         return self._call("POST", "/execute/sync", {"script": text, "args": list(arguments)})
 
-    def wait(self, text: str, *arguments: Any, until: Callable[[Any], bool] = bool) -> Any:
-        """What a script returns once that passes a test, which it has to do within 30 seconds."""
-        end = time.monotonic() + SECONDS
+    def wait(self, text: str, *arguments: Any, until: Callable[[Any], bool] = bool, seconds: float = SECONDS) -> Any:
+        """What a script returns once that passes a test, which it has to do within some seconds, 30 where none are
+        said."""
+        end = time.monotonic() + seconds
         while not until(value := self.script(text, *arguments)):
             if time.monotonic() > end:
-                raise TimeoutError(f"{text} returns {value!r} after {SECONDS} s")
+                raise TimeoutError(f"{text} returns {value!r} after {seconds} s")
             time.sleep(0.05)
         return value
 
@@ -80,6 +86,16 @@ class Browser:
         """Types text where the page has its focus; a key without a sign is one of WebDriver's, as "\\ue004" for Tab."""
         actions = [{"type": action, "value": key} for key in text for action in ("keyDown", "keyUp")]
         self._call("POST", "/actions", {"actions": [{"type": "key", "id": "keyboard", "actions": actions}]})
+
+    def press(self, *keys: str) -> None:
+        """Presses keys together, and lets them go: "\\ue009" is Control, "\\ue007" Enter."""
+        actions = [{"type": "keyDown", "value": key} for key in keys]
+        actions += [{"type": "keyUp", "value": key} for key in reversed(keys)]
+        self._call("POST", "/actions", {"actions": [{"type": "key", "id": "keyboard", "actions": actions}]})
+
+    def cdp(self, command: str, words: dict[str, Any]) -> Any:
+        """What Chromium answers to a command of its own protocol."""
+        return self._call("POST", "/goog/cdp/execute", {"cmd": command, "params": words})
 
     def errors(self) -> list[str]:
         """The errors that the console has shown since the last call."""

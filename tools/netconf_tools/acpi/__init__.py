@@ -8,6 +8,7 @@ The modules, in the order in which a machine goes through them:
 - ``vtd``: DMAR, the IOMMUs of Intel
 - ``amd``: IVRS, the IOMMUs of AMD
 - ``iort``: IORT, the SMMUs of Arm
+- ``rimt``: RIMT, the IOMMUs of RISC-V
 - ``translation``: what the three have in common: which requesters of PCI an IOMMU translates, and reserved memory
 - ``pci``: the functions of a machine, by ``lspci -vmmn`` or the running Linux
 - ``iomem``: the memory of a machine, by ``/proc/iomem``

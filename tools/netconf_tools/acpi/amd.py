@@ -79,10 +79,10 @@ def _other_devices(data: bytes, at: int) -> Iterator[str]:
     for kind, entry in _entries(data, at):
         if kind == SPECIAL:
             what = {1: "the I/O APIC", 2: "the timer HPET"}.get(entry[7], "a device")
-            yield f"IVRS: {what} {entry[4]}, which sends as {function_text(number(entry, 5, 2))}: it is no agent"
+            yield f"IVRS: {what} {entry[4]}, which sends as {function_text(number(entry, 5, 2))}: it is not an agent"
         elif kind == NAMED:
             name = entry[4:12].rstrip(b"\0").decode("ascii", "replace")
-            yield f"IVRS: the device {name}, which sends as {function_text(number(entry, 1, 2))}: it is no agent"
+            yield f"IVRS: the device {name}, which sends as {function_text(number(entry, 1, 2))}: it is not an agent"
 
 
 def _add_range(unit: Translator, first: int, last: int, source: int | None) -> None:

@@ -32,7 +32,7 @@ def read_iomem(path: str) -> Iomem:
             continue
         span = int(hit["first"], 16), int(hit["last"], 16)
         if span[0] > span[1] or span[1] > TOP:
-            raise Fault(f"{path}: {line.strip()[:80]!r} is no span of addresses up to {TOP:#x}")
+            raise Fault(f"{path}: {line.strip()[:80]!r} is not a span of addresses up to {TOP:#x}")
         highest = max(highest, span[1])
         if not hit["blanks"]:
             in_memory = hit["name"] in MEMORY

@@ -71,9 +71,10 @@ def _mappings(node: bytes) -> Iterator[Mapped]:
 def _unit(node: bytes, count: int) -> Translator:
     """The SMMU that a node is."""
     if node[0] == SMMU_V3:
-        return Translator(f"smmu_{count}", number(node, 16, 8), SMMU_V3_BYTES, BITS, translates_messages=True)
-    bits = BITS if number(node, 32, 4) in (1, 3, 5) else OLD_BITS
-    return Translator(f"smmu_{count}", number(node, 16, 8), number(node, 24, 8), bits, translates_messages=True)
+        size, bits = SMMU_V3_BYTES, BITS
+    else:
+        size, bits = number(node, 24, 8), BITS if number(node, 32, 4) in (1, 3, 5) else OLD_BITS
+    return Translator(f"smmu_{count}", number(node, 16, 8), size, bits, translates_messages=True, has_streams=True)
 
 
 def _add_requesters(found: Translators, units: dict[int, Translator], node: bytes) -> None:
@@ -93,7 +94,8 @@ def _note_component(found: Translators, units: dict[int, Translator], node: byte
     name = node[29:].split(b"\0")[0].decode("latin-1")
     streams = [f"stream {mapping.output:#x} of {units[mapping.target].name}" for mapping in _mappings(node)
                if mapping.target in units]
-    found.notes.append(f"the device {name} of ACPI accesses memory and is no agent: {', '.join(streams) or 'no SMMU'}")
+    found.notes.append(f"the device {name} of ACPI accesses memory and is not an agent: "
+                       f"{', '.join(streams) or 'no SMMU'}")
 
 
 def _add_reserved(found: Translators, node: bytes) -> None:

@@ -3,7 +3,7 @@ from collections.abc import Callable, Sequence
 from dataclasses import dataclass, field
 from typing import TypeVar
 
-from netconf_tools.acpi import amd, iort, vtd
+from netconf_tools.acpi import amd, iort, rimt, vtd
 from netconf_tools.acpi.iomem import Iomem
 from netconf_tools.acpi.pci import Function
 from netconf_tools.acpi.platform_tables import (PAGE, Controllers, Registers, configuration_of, controllers_of,
@@ -94,7 +94,8 @@ class AcpiMachine:
     def _translators(self, sources: Sources) -> Translators:
         """The IOMMUs of all tables."""
         whole = Translators()
-        readers = (("DMAR", vtd.translators_of), ("IVRS", amd.translators_of), ("IORT", iort.translators_of))
+        readers = (("DMAR", vtd.translators_of), ("IVRS", amd.translators_of), ("IORT", iort.translators_of),
+                   ("RIMT", rimt.translators_of))
         for signature, reader in readers:
             found = self._read(signature, sources, reader, Translators())
             count = sum(len(unit.mappings) for unit in found.units)
@@ -209,7 +210,7 @@ class AcpiMachine:
             if unit and function.group is not None:
                 key = unit.name, 1, function.group
             parts = [function_text(function.requester)]
-            parts += [f"stream {stream:#x}"] * bool(unit and unit.translates_messages) + [f"device {function.name}"]
+            parts += [f"stream {stream:#x}"] * bool(unit and unit.has_streams) + [f"device {function.name}"]
             if key in found:
                 found[key].others.append(", ".join(parts))
             else:
@@ -308,8 +309,8 @@ def _of_mapping(unit: Translator, mapping: Mapping) -> Master:
     """The master of a mapping: one function, or one of several."""
     last = mapping.stream + mapping.last - mapping.first
     if mapping.first == mapping.last:
-        streams = [f"stream {mapping.stream:#x}"] * unit.translates_messages
+        streams = [f"stream {mapping.stream:#x}"] * unit.has_streams
         return Master(function_name(mapping.first), [function_text(mapping.first), *streams], unit)
-    streams = [f"streams {text(mapping.stream, last)}"] * unit.translates_messages
+    streams = [f"streams {text(mapping.stream, last)}"] * unit.has_streams
     span = f"a function from {function_text(mapping.first)} to {function_text(mapping.last)}"
     return Master(f"{function_name(mapping.first)}_and_on", [span, *streams], unit)

@@ -35,7 +35,7 @@ def requester_of(slot: str) -> int:
     """The requester of a slot, as ``00:02.0`` or ``0000:00:02.0``."""
     hit = SLOT.fullmatch(slot)
     if not hit:
-        raise Fault(f"{slot!r} is no slot of PCI, such as 00:02.0")
+        raise Fault(f"{slot!r} is not a slot of PCI, such as 00:02.0")
     low = int(hit["bus"], 16) << 8 | int(hit["device"], 16) << 3 | int(hit["function"])
     return int(hit["segment"] or "0", 16) << SEGMENT | low
 

@@ -8,11 +8,11 @@ from netconf_tools.devicetree.fault import Fault
 from netconf_tools.devicetree.tree import read_bytes
 
 HEADER_BYTES = 36
-"""How many bytes stand before what a table has of its own (ACPI specification 6.5, table 5.4)."""
+"""How many bytes stand before what a table has of its own (ACPI specification 6.5: the header of a table)."""
 MAX_FILES = 256
 MAX_TABLE_BYTES = 1 << 20
 """How many bytes are read of a table; the largest of those that are read has some 64 KiB on a server."""
-READ = ("APIC", "SRAT", "MCFG", "DMAR", "IVRS", "IORT")
+READ = ("APIC", "SRAT", "MCFG", "DMAR", "IVRS", "IORT", "RIMT")
 """The tables that are read, by their signatures."""
 DUMPED = re.compile(r"^(?P<signature>[A-Z0-9_]{4}) @ 0x[0-9A-Fa-f]+\s*$")
 LINE = re.compile(r"^\s*(?P<at>[0-9A-Fa-f]{4,8}):(?P<bytes>(?: [0-9A-Fa-f]{2}){1,16})(?:\s.*)?$")

@@ -33,7 +33,8 @@ class Translator:
     """An IOMMU: its name, its registers, how many bits an address has that it puts out, and what it translates.
 
     ``rest`` are segments of which it translates all functions that no other one does. ``shared`` has requesters, from a
-    first to a last, whose accesses come with the number of another one: the IOMMU cannot tell the two apart."""
+    first to a last, whose accesses come with the number of another one: the IOMMU cannot tell the two apart.
+    ``has_streams`` says that the IOMMU knows its requesters by other numbers than their own."""
 
     name: str
     first: int
@@ -43,6 +44,7 @@ class Translator:
     rest: list[int] = field(default_factory=list)
     shared: list[tuple[int, int, int]] = field(default_factory=list)
     translates_messages: bool = False
+    has_streams: bool = False
 
     def stream_of(self, requester: int) -> int | None:
         """The number by which the IOMMU knows a requester, or None where it does not translate it by name."""

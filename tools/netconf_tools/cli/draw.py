@@ -2,14 +2,16 @@
 
 import argparse
 import os
+import re
 import subprocess
 import sys
 
 from netconf_tools.audit import FAULTS, audited, by_records, image_of, shut_lines
+from netconf_tools.drawing.changes import changes_picture
 from netconf_tools.drawing.comparison import comparison
 from netconf_tools.drawing.graph import dot_of, size_note
 from netconf_tools.drawing.map import Granted, size_note_of_maps, svg_of
-from netconf_tools.drawing.picture import MONO, SANS, anchor_of
+from netconf_tools.drawing.picture import DARK, MONO, SANS, anchor_of
 from netconf_tools.drawing.sharing import LISTED, Wanted, sharing
 from netconf_tools.ending import ended, tell
 from netconf_tools.expand import read_plain
@@ -66,7 +68,7 @@ def agents_of(nodes: dict[str, Node], wanted: list[str], name: str) -> list[str]
         if agent not in agents:
             listed = ", ".join(shortened(other, 60) for other in agents[:AGENTS])
             more = f" and {len(agents) - AGENTS} more" if len(agents) > AGENTS else ""
-            raise Trouble(f"{name}: {shortened(agent, 60)} is no agent; the agents are: {listed or 'none'}{more}")
+            raise Trouble(f"{name}: {shortened(agent, 60)} is not an agent; the agents are: {listed or 'none'}{more}")
     return wanted or agents
 
 
@@ -79,7 +81,8 @@ def svg_of_dot(dot: str) -> str:
     if done.returncode != 0:
         raise Trouble(f"dot: {shortened(done.stderr.strip(), 300)}")
     # Graphviz measures by one font; where that is missing, others of its widths stand in for it.
-    mono = done.stdout.replace('font-family="DejaVu Sans Mono"', f'font-family="{MONO}"')
+    dark = re.sub(r"(<svg\b[^>]*>\n)", lambda hit: hit[1] + DARK, done.stdout, count=1)
+    mono = dark.replace('font-family="DejaVu Sans Mono"', f'font-family="{MONO}"')
     return mono.replace('font-family="DejaVu Sans"', f'font-family="{SANS}"')
 
 
@@ -123,6 +126,9 @@ def draw(options: argparse.Namespace) -> tuple[str, str]:
     source = read_plain(options.file)
     if options.audit:
         return draw_audit(options, source)
+    if options.diff is not None:
+        boards = Board(options.diff), Board(options.file, source)
+        return changes_picture((title_of(options.diff), title_of(options.file)), boards, options.agent)
     nodes = net_of(options.file, source)
     agents = agents_of(nodes, [*options.agent, *(options.compare or [])], options.file)
     if options.compare:
@@ -159,6 +165,9 @@ def words() -> argparse.ArgumentParser:
     parser.add_argument("--compare", metavar=("A", "B"), nargs=2,
                         help="draw two agents on one scale of addresses, with lines "
                         "between rows that come to the same names, as SVG")
+    parser.add_argument("--diff", metavar="OLD",
+                        help="draw what agents see in FILE and did not in OLD, an older description, and the other way "
+                        "round, to scale, as SVG")
     parser.add_argument("--maps", metavar="PAGE",
                         help="have the box of each agent in the graph lead to its map in PAGE, a "
                         "picture that --views made")

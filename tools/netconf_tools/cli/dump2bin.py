@@ -19,7 +19,7 @@ from netconf_tools.version import add_version
 def number_of(word: str) -> int:
     """The number of a dump."""
     if not word.isdecimal() or len(word) > 18 or int(word) < 1:
-        raise argparse.ArgumentTypeError(f"{word[:40]!r} is no number of a dump: they are counted from 1")
+        raise argparse.ArgumentTypeError(f"{word[:40]!r} is not the number of a dump: they are counted from 1")
     return int(word)
 
 

@@ -41,7 +41,7 @@ TOOL = "netconf-export"
 def number(word: str) -> int:
     """Returns a number in decimal or, with 0x before it, in hexadecimal, below 2^64."""
     if not re.fullmatch(r"0x[0-9a-fA-F]{1,16}|[0-9]{1,19}", word, re.A):
-        raise argparse.ArgumentTypeError(f"{word!r} is no number, in decimal or with 0x before it")
+        raise argparse.ArgumentTypeError(f"{word!r} is not a number, in decimal or with 0x before it")
     return int(word, 0)
 
 
@@ -49,7 +49,7 @@ def address(word: str) -> int:
     """Returns the address of a page."""
     value = number(word)
     if value % PAGE or value >> 52:
-        raise argparse.ArgumentTypeError(f"{word} is no multiple of {PAGE:#x} below 2^52")
+        raise argparse.ArgumentTypeError(f"{word} is not a multiple of {PAGE:#x} below 2^52")
     return value
 
 

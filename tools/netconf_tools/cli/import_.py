@@ -50,7 +50,7 @@ class Words(argparse.ArgumentParser):
 def number(word: str) -> int:
     """A number of the command line, decimal or hexadecimal."""
     if not re.fullmatch(r"0x[0-9a-fA-F]{1,16}|[0-9]{1,20}", word):
-        raise argparse.ArgumentTypeError(f"{word!r} is no number, such as 4096 or 0x1000")
+        raise argparse.ArgumentTypeError(f"{word!r} is not a number, such as 4096 or 0x1000")
     return int(word, 0 if word.startswith("0x") else 10)
 
 
@@ -58,7 +58,7 @@ def span(word: str) -> Span:
     """The first and the last address of a span of the command line."""
     first, hyphen, last = word.partition("-")
     if not hyphen or number(first) > number(last) or number(last) > TOP:
-        raise argparse.ArgumentTypeError(f"{word!r} is no span of addresses up to {TOP:#x}, such as 0x0-0xfff")
+        raise argparse.ArgumentTypeError(f"{word!r} is not a span of addresses up to {TOP:#x}, such as 0x0-0xfff")
     return number(first), number(last)
 
 
@@ -66,7 +66,7 @@ def function(word: str) -> tuple[str, int]:
     """The bridge of a PCI function, if one is named, and the requester that the function is."""
     hit = FUNCTION.fullmatch(word)
     if not hit:
-        raise argparse.ArgumentTypeError(f"{word!r} is no PCI function, such as 0:3.0 or /pcie@40000000,0:3.0")
+        raise argparse.ArgumentTypeError(f"{word!r} is not a PCI function, such as 0:3.0 or /pcie@40000000,0:3.0")
     requester = int(hit["bus"], 16) << 8 | int(hit["device"], 16) << 3 | int(hit["function"])
     return hit["bridge"] or "", requester
 
@@ -257,7 +257,8 @@ def lines_on(platform: Platform) -> list[str]:
     shown = [note for note in platform.left_out if not note.reason.startswith("outside of")]
     lines += [f"{note.path}: no agent for its own accesses: {note.reason}" for note in shown]
     outside = len(platform.left_out) - len(shown)
-    return lines + [f"/: masters outside of the part that --only takes, which are no agents: {outside}"] * bool(outside)
+    others = f"/: masters outside of the part that --only takes, which are not agents: {outside}"
+    return lines + [others] * bool(outside)
 
 
 def say(lines: Iterable[str]) -> None:

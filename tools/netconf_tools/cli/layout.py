@@ -15,7 +15,7 @@ from netconf_tools.version import add_version
 def prefix_of(word: str) -> str:
     """The prefix of the names in a header: a word of C."""
     if not re.fullmatch(r"[A-Za-z]\w*", word, re.A):
-        raise argparse.ArgumentTypeError(f"{word!r} is no name in C that begins with a letter")
+        raise argparse.ArgumentTypeError(f"{word!r} is not a name in C that begins with a letter")
     return word
 
 

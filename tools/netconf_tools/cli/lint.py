@@ -11,7 +11,6 @@ from netconf_tools.ending import ended, tell
 from netconf_tools.expand import Description, Refused, read_described, sets_of
 from netconf_tools.findings import Finding, Source, lines_of
 from netconf_tools.grants import ASKED, refused_in
-from netconf_tools.image_findings import audit_findings
 from netconf_tools.messages import explained
 from netconf_tools.replies import QUESTIONS, Reporter, missing_names
 from netconf_tools.reports.forms import add_forms, findings_text
@@ -39,8 +38,11 @@ def findings_of(name: str, sets: Mapping[str, int], image: str | None = None) ->
     refusal, net = checked(description.text)
     if refusal:
         return [explained(description, refusal)], description.line_text
-    found = audit_findings(description, image) if image is not None else warnings_of(description, net)
-    return list(found), description.line_text
+    if image is None:
+        return list(warnings_of(description, net)), description.line_text
+    # Only here, since most calls look at no image.
+    from netconf_tools.image_findings import audit_findings
+    return list(audit_findings(description, image)), description.line_text
 
 
 def warnings_of(description: Description, net: str | None) -> Iterator[Finding]:
@@ -74,7 +76,7 @@ def refused_commands(description: Description) -> tuple[list[tuple[int, Finding]
     """The findings on the commands that are refused, each with its place, of very many the first; and how many there
     are."""
     reporter, found, count = Reporter(description, ASKED), [], 0
-    for refused in refused_in(description.text, MOST_SHOWN):
+    for refused in refused_in(reporter.follower, MOST_SHOWN):
         if isinstance(refused, int):
             count += refused
         else:
@@ -123,7 +125,7 @@ def words() -> argparse.ArgumentParser:
         prog=TOOL,
         description="Checks descriptions, and prints FILE:LINE:COLUMN: error: before each refusal, and "
         "FILE:LINE:COLUMN: warning: before each command that is refused and each question that names no node. With "
-        "--audit, checks a description and an image of its tables, and reports which records are shut out and what "
+        "--audit, checks a description and an image of its tables, and reports which records are malformed and what "
         "agents share by records.",
         epilog="Status: 0 no file is refused, 1 a file is refused or --strict and one has a warning, 2 a file cannot "
         "be read, the output cannot be written or netconf is missing.",

@@ -66,7 +66,7 @@ def warn(board: Board) -> None:
              f"({board.left_out[0].path[:80]}{', ..' if count > 1 else ''})")
     if isinstance(board, ImageBoard) and (count := len(board.shut)):
         slots = "1 slot has a record that is" if count == 1 else f"{count} slots have records that are"
-        tell(TOOL, f"{board.image_name}: {slots} shut out, and nothing passes there (netconf-lint --audit shows why)")
+        tell(TOOL, f"{board.image_name}: {slots} malformed, and nothing passes there (netconf-lint --audit shows why)")
 
 
 def written(options: argparse.Namespace, answer: dict[str, Any], lines: Iterable[str]) -> None:
@@ -331,7 +331,7 @@ def add_options(command: argparse.ArgumentParser, call: Callable[[argparse.Names
         forms.add_argument("--junit", action="store_true", help="write the verdicts as XML in the form of JUnit")
     if call in (test, report):
         command.add_argument("--strict", action="store_true", help="fail too where a master is left out, a command is "
-                             "refused, a slot is shut out, or a claim is not tested")
+                             "refused, a record is malformed, or a claim is not tested")
 
 
 def words() -> argparse.ArgumentParser:

@@ -155,7 +155,7 @@ class Interrupts:
             elif kinds & PASSED:
                 controller = _parent_of(self.tree, controller)
             else:
-                return f"of {controller.path}, which is no GIC"
+                return f"of {controller.path}, which is not a GIC"
         return "that go by too many controllers"
 
     def _mapped(self, nexus: TreeNode, address: list[int], line: list[int]) -> Line:
@@ -176,7 +176,7 @@ class Interrupts:
         sort, number = (line + [0, 0])[:2]
         vector = number + (FIRST_EXTENDED if sort == EXTENDED else FIRST_SHARED)
         if len(line) < 3 or sort not in (SHARED, PRIVATE, EXTENDED):
-            return f"of {gic.path} that are no lines of a GIC"
+            return f"of {gic.path} that are not lines of a GIC"
         if sort == PRIVATE:
             return "that each core has of its own"
         if vector > (LAST_EXTENDED if sort == EXTENDED else LAST_SHARED):

@@ -5,7 +5,7 @@ is a sign of it (``MASTER_PROPERTIES``), or where it has one of the generic name
 a bus whose windows have sizes: on others (I2C, SPI, USB) the controller accesses memory for it. It is an agent of its
 own: behind a unit, where an IOMMU translates for it; else over the bus whose ``dma-ranges`` are its window
 (``window``); else, as in Linux, over the root, 1:1. A PCI host bridge is one for the functions behind it. Each master
-that is no agent is left out with a reason. """
+that is not an agent is left out with a reason. """
 from collections.abc import Iterator
 
 from netconf_tools.devicetree import cells, units
@@ -305,7 +305,7 @@ class Ways:
             named = [child.name for child in self._without_sign(bus)]
             if named:
                 self.reader.note(bus, f"{len(named)} on it have a window by dma-ranges and no sign of a master, and "
-                                      "are no agents (--master makes one): " + ", ".join(named))
+                                      "are not agents (--master makes one): " + ", ".join(named))
 
     def _without_sign(self, bus: TreeNode) -> Iterator[TreeNode]:
         """The devices on a bus that have a window for accesses of their own, and no sign that they use it."""

@@ -148,7 +148,7 @@ def translation_of(tree: Tree, node: TreeNode, bus: TreeNode, slots: int) -> Tra
     iommus = {target for target, _numbers in named} | {entry.target for entry in entries}
     if len(iommus) > 1 or entries:
         shown = ", ".join(_named_text(*one) for one in named)
-        return Translation([], [f"shown as if its IOMMUs passed its accesses on, since the tree does not tell which "
+        return Translation([], [f"shown as if its IOMMUs passed its accesses on, since the tree does not show which "
                                 f"access goes by which: {shown}"], True)
     iommu = named[0][0]
     why = _why_unknown(iommu, bus, slots)

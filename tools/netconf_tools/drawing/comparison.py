@@ -157,27 +157,37 @@ def accesses_at(rows: list[Seen], part: Piece) -> tuple[str, ...]:
     return next(allowed for node, at, allowed in row.names if (node, at) == (part.node, first))
 
 
-class Comparison:
-    """A picture of two columns: what is drawn, the board, the scale, and the kinds of nodes that are met."""
+def gutters_of(columns: list[list[Seen]]) -> list[float]:
+    """The room beside each of two columns, for the addresses of its rows."""
+    return [LETTER * max([len(f"{row.lo:#x}-{row.hi:#x}") for row in rows] + [8]) + 12 for rows in columns]
 
-    def __init__(self, board: Board, agents: tuple[str, str]) -> None:
-        self.board, self.agents = board, agents
-        self.columns = [seen_by(board, agent) for agent in agents]
-        met = list(itertools.islice(meetings(*self.columns), RIBBONS + 1))
-        self.met, self.is_all = met[:RIBBONS], len(met) <= RIBBONS
-        self.scale = Scale(self.columns, self.met)
-        self.picture = Picture()
+
+class Columns:
+    """Two columns of rows on one scale: the picture, the board of each column, the rows, and the kinds of nodes that
+    are met."""
+
+    def __init__(self, picture: Picture, boards: tuple[Board, Board], rows: list[list[Seen]],
+                 met: list[Meeting]) -> None:
+        """`met` has places whose ends are marks of the scale."""
+        self.picture, self.boards, self.rows = picture, boards, rows
+        self.scale = Scale(rows, met)
         self.kinds: dict[str, None] = {}
 
-    def colour(self, name: str) -> str:
+    def draw(self, left: float, right: float, y: float) -> None:
+        """Both columns, at these places and below a height."""
+        for board, rows, x, anchor in zip(self.boards, self.rows, (left, right), ("end", "start")):
+            self.draw_breaks(rows, x, y)
+            self.draw_column(board, rows, x, y, anchor)
+
+    def colour(self, board: Board, name: str) -> str:
         """The colour of a node, which the legend then has."""
-        node = self.board.statement(name)
+        node = board.statement(name)
         if node is None:
             return KINDS["none"][1]
         self.kinds[kind_of(node)] = None
         return colour_of(node)
 
-    def draw_column(self, rows: list[Seen], x: float, y: float, anchor: str) -> None:
+    def draw_column(self, board: Board, rows: list[Seen], x: float, y: float, anchor: str) -> None:
         """The rows of one agent; their addresses stand outside."""
         for row in rows:
             top, bottom = y + self.scale.y(row.lo), y + self.scale.y(row.hi + 1)
@@ -185,7 +195,7 @@ class Comparison:
             self.picture.group(shortened(f"{span} {', '.join(row.texts())} ({size_text(row.hi - row.lo + 1)})", TITLE))
             for number, (node, _at, _allowed) in enumerate(row.names):
                 width = BOX / len(row.names)
-                self.picture.box(x + number * width, top, width, bottom - top, self.colour(node), "none")
+                self.picture.box(x + number * width, top, width, bottom - top, self.colour(board, node), "none")
             self.picture.box(x, top, BOX, bottom - top, "none")
             texts = row.texts()
             base = (top + bottom) / 2 - LINE * len(texts) / 2 + 11
@@ -198,9 +208,19 @@ class Comparison:
     def draw_breaks(self, rows: list[Seen], x: float, y: float) -> None:
         """Breaks where neither sees anything, between the first row of a column and its last."""
         for low, end in zip(self.scale.cuts, self.scale.cuts[1:]):
-            if rows and rows[0].lo < low < rows[-1].hi and not self.scale.is_seen(self.columns, low):
+            if rows and rows[0].lo < low < rows[-1].hi and not self.scale.is_seen(self.rows, low):
                 self.picture.teeth(x, y + self.scale.y(low) + 5, BOX)
                 self.picture.teeth(x, y + self.scale.y(end) - 5, BOX)
+
+
+class Comparison(Columns):
+    """A picture of two agents of a board, and what both see."""
+
+    def __init__(self, board: Board, agents: tuple[str, str]) -> None:
+        rows = [seen_by(board, agent) for agent in agents]
+        met = list(itertools.islice(meetings(*rows), RIBBONS + 1))
+        self.met, self.is_all = met[:RIBBONS], len(met) <= RIBBONS
+        super().__init__(Picture(), (board, board), rows, self.met)
 
     def draw_ribbon(self, meeting: Meeting, left: float, right: float, y: float) -> None:
         """What both see: its part of both boxes shaded, and a ribbon between; `left` and `right` are the inner ends of
@@ -245,8 +265,8 @@ def comparison(name: str, board: Board, one: str, other: str) -> tuple[str, str]
     """The picture of two agents of the description of a name, and what is to be said where it has too many rows to be
     looked at, or nothing."""
     made = Comparison(board, (one, other))
-    picture, columns = made.picture, made.columns
-    gutters = [LETTER * max([len(f"{row.lo:#x}-{row.hi:#x}") for row in rows] + [8]) + 12 for rows in columns]
+    picture, columns = made.picture, made.rows
+    gutters = gutters_of(columns)
     left = MARGIN + gutters[0]
     right = left + BOX + MIDDLE
     top = picture.heading(f"What {shortened(one, 30)} and {shortened(other, 30)} see in {name}",
@@ -256,9 +276,7 @@ def comparison(name: str, board: Board, one: str, other: str) -> tuple[str, str]
         picture.text(x, y + 14, shortened(agent, 34), "start", 13, SANS, "#000000", "bold")
         picture.text(x, y + 31, f"{len(rows)} row" + "s" * (len(rows) != 1), "start", 11, SANS, GREY)
     y += 42
-    for rows, x, anchor in ((columns[0], left, "end"), (columns[1], right, "start")):
-        made.draw_breaks(rows, x, y)
-        made.draw_column(rows, x, y, anchor)
+    made.draw(left, right, y)
     labels = made.labels(left + BOX, right, y)
     for meeting in made.met:
         made.draw_ribbon(meeting, left + BOX, right, y)

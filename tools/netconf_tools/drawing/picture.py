@@ -21,6 +21,10 @@ MARGIN = 24
 """The room round a picture."""
 TITLE = 2000
 """The longest text that is shown when the pointer rests on a row."""
+DARK = "<style>@media (prefers-color-scheme: dark) { svg:root { filter: invert(0.92) hue-rotate(180deg); } }</style>\n"
+"""What makes a picture light on dark where the reader's desktop is dark: each colour keeps its hue, and turns its
+lightness round."""
+
 GREY = "#555555"
 """The colour of what explains."""
 
@@ -102,7 +106,7 @@ class Picture:
     def svg(self, width: float, height: float) -> str:
         """The picture as a text."""
         head = (f'<svg xmlns="http://www.w3.org/2000/svg" width="{width:.0f}" height="{height:.0f}" '
-                f'viewBox="0 0 {width:.0f} {height:.0f}">\n<rect width="100%" height="100%" fill="#ffffff"/>\n')
+                f'viewBox="0 0 {width:.0f} {height:.0f}">\n{DARK}<rect width="100%" height="100%" fill="#ffffff"/>\n')
         body = self.shapes() + "\n".join(self.elements)
         return f'<?xml version="1.0" encoding="UTF-8"?>\n{head}{body}\n</svg>\n'
 

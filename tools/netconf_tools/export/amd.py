@@ -1,7 +1,7 @@
 """Host tables of AMD's IOMMU, with a device table.
 
 The manual is AMD I/O Virtualization Technology (IOMMU) Specification, publication 48882, revision 3.07 or later:
-2.2.2.1 device table entry, 2.2.3 host page tables, 2.4 commands, 3.4 registers."""
+the sections on the device table entry, on I/O page tables for host translations, on commands and on registers."""
 
 from array import array
 from typing import Iterable, Iterator
@@ -112,7 +112,7 @@ class AmdHead(Head):
 class Amd(Format):
     """Host tables: an entry says the level of what it leads to, and allows reading by bit 61 and writing by bit 62."""
     name = "amd"
-    manual = "AMD I/O Virtualization Technology Specification (48882), 2.2.3 (host page tables)"
+    manual = "AMD I/O Virtualization Technology Specification (48882), page tables for host translations"
     note = "pci"
     widths = (39, 48, 57)
     usual = 48

@@ -32,7 +32,7 @@ def streams_in(text: str, name: str) -> list[Found]:
         elif row and now is not None:
             add(now, row, f"{name}:{number}")
         elif line.strip() and not line.startswith("IOVA_PFN") or row:
-            raise Trouble(f"{name}:{number}: this is no line of domain_translation_struct: {line[:60]!r}")
+            raise Trouble(f"{name}:{number}: this is not a line of domain_translation_struct: {line[:60]!r}")
     if not found:
         raise Trouble(f"{name}: there is no line `Device ..` of domain_translation_struct")
     return [Found(number, merged(sorted(now.spans)), now.faults) for number, now in sorted(found.items())]

@@ -1,8 +1,8 @@
 """First-stage tables of RISC-V's IOMMU, with a device directory.
 
-The manual is RISC-V IOMMU Architecture Specification, version 1.0: 2.1 device directory table, 2.1.3 device context, 4
-queues, 5 registers. The tables are those of The RISC-V Instruction Set Manual, volume II, 12.3 to 12.6 (Sv39, Sv48,
-Sv57)."""
+The manual is RISC-V IOMMU Architecture Specification, version 1.0: 2.1 (device directory table and device context), 3.1
+(commands), and the chapter on registers. The tables are Sv39, Sv48 and Sv57 of The RISC-V Instruction Set Manual,
+volume II."""
 
 from array import array
 from typing import Iterable, Iterator

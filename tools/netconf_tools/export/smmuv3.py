@@ -1,8 +1,9 @@
 """What both stages of an SMMUv3 have in common: the stream table, the entries of a table, and the commands.
 
-The manual is Arm System Memory Management Unit Architecture Specification, SMMU architecture version 3, IHI 0070: 5.1
-level 1 stream table descriptor, 5.2 stream table entry, 5.4 context descriptor, 4 commands, 6.3 registers. The tables
-themselves are those of the Arm Architecture Reference Manual, DDI 0487, chapter D8, with a granule of 4 KiB."""
+The manual is Arm System Memory Management Unit Architecture Specification, SMMU architecture version 3, IHI 0070: 5.2
+stream table entry, 5.4 context descriptor, and the sections on the level 1 stream table descriptor, commands and
+registers. The tables themselves are those of the Arm Architecture Reference Manual, DDI 0487, chapter D8, with a
+granule of 4 KiB."""
 
 from abc import abstractmethod
 from array import array

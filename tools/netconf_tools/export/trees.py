@@ -19,7 +19,7 @@ def _whys(form: Format, options: Options, span: Span) -> list[str]:
     if span.may_write and not span.may_read and not form.writes_alone:
         whys.append(f"{form.name} has no writing without reading: grant it for both, or take a format that has it")
     if span.first & mask or span.last + 1 & mask or span.host & mask:
-        whys.append(f"it is no whole pages of {PAGE:#x}: {span.text()}")
+        whys.append(f"it is not a whole number of pages of {PAGE:#x}: {span.text()}")
     if span.last >= form.limit(options.bits):
         wider = [bits for bits in form.widths if span.last < form.limit(bits)]
         more = f": --bits {wider[0]} translates it" if wider else ""

@@ -1,7 +1,8 @@
 """Second-level tables of Intel's VT-d, with a root table and contexts in the legacy mode.
 
-The manual is Intel Virtualization Technology for Directed I/O, Architecture Specification, revision 3.3 or later: 9.1
-root entry, 9.3 context entry, 9.8 second-stage paging entries, 6.5.2 queue of invalidations, 11.4 registers."""
+The manual is Intel Virtualization Technology for Directed I/O, Architecture Specification, revision 3.3 or later: 9.3
+context entry, the sections beside it on the root entry and on second-stage paging entries, 6.5.2 queue of
+invalidations, 11.4 registers."""
 
 from array import array
 from typing import Iterable, Iterator
@@ -107,7 +108,7 @@ class VtdHead(Head):
 class Vtd(Format):
     """Second-level tables: an entry allows reading by bit 0 and writing by bit 1, and bit 7 is a block."""
     name = "vtd"
-    manual = "Intel VT-d Architecture Specification, 9.8 (second-stage tables), legacy mode"
+    manual = "Intel VT-d Architecture Specification, second-stage paging entries, legacy mode"
     note = "pci"
     widths = (39, 48, 57)
     usual = 48

@@ -102,6 +102,34 @@ def node(kind: int, data: bytes, *mappings: bytes) -> bytes:
         + b"".join(mappings)
 
 
+def rimt(*nodes: bytes) -> bytes:
+    """A RIMT: how many nodes there are, where they begin (48), a word, and the nodes."""
+    return table(b"RIMT", struct.pack("<III", len(nodes), 48, 0) + b"".join(nodes))
+
+
+def rimt_node(kind: int, data: bytes) -> bytes:
+    """A node of a RIMT: the type, the revision, the length, a word, a number, and its data."""
+    return struct.pack("<BBHHH", kind, 1, 8 + len(data), 0, 0) + data
+
+
+def riscv_iommu(address: int, flags: int = 0, function: int = 0) -> bytes:
+    """An IOMMU of RISC-V: type 0, an identifier of eight letters, the address, flags (1: a function of PCI), a domain,
+    the segment, the function, and no wires."""
+    return rimt_node(0, struct.pack("<8sQIIHHHH", b"RSCV0004", address, flags, 0, 0, function, 0, 40))
+
+
+def riscv_root(segment: int, *mappings: bytes) -> bytes:
+    """A root complex of a RIMT: type 1, flags, a word, the segment, where the mappings begin (20), and how many there
+    are."""
+    return rimt_node(1, struct.pack("<IHHHH", 0, 0, segment, 20, len(mappings)) + b"".join(mappings))
+
+
+def riscv_device(name: bytes, *mappings: bytes) -> bytes:
+    """A platform device of a RIMT: type 2, where the mappings begin, how many there are, and the name in ACPI."""
+    return rimt_node(2, struct.pack("<HH", 13 + len(name), len(mappings)) + name + b"\0" + b"".join(mappings))
+
+
 def mapping(first: int, count: int, output: int, target: int, flags: int = 0) -> bytes:
-    """A mapping of an IORT: the first number, how many less one, the first number there, the node there, flags."""
+    """A mapping of an IORT or a RIMT: the first number, how many less one, the first number there, the node there,
+    flags."""
     return struct.pack("<IIIII", first, count - 1, output, target, flags)

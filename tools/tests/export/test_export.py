@@ -111,7 +111,8 @@ class TestExport(Case):
                                                                                  "[0x0-0xfffff to iommu")
         lines = self.refused("grant small card dram 0x9100 0x100;\n", "vtd", board=board)
         self.assertEqual(lines,
-                         [":11: small: card 0x0-0xff: it is no whole pages of 0x1000: 0x0-0xff at 0x40009100 for read "
+                         [":11: small: card 0x0-0xff: it is not a whole number of pages of 0x1000: 0x0-0xff at "
+                          "0x40009100 for read "
                           "and write"])
 
     def test_wide(self) -> None:

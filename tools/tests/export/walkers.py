@@ -16,8 +16,8 @@ def bits(word: int, high: int, low: int) -> int:
 
 
 def vtd(read: Read, registers: dict[str, int], source: int, address: int, is_write: bool) -> int | None:
-    """Intel VT-d Architecture Specification, revision 3.3: 3.4.2 (from the source to the tables, legacy mode), 9.1 and
-    9.3 (root and context entry), 3.7 and 9.8 (second-stage tables)."""
+    """Intel VT-d Architecture Specification, revision 3.3: the sections on the way from a source to its tables in the
+    legacy mode, on root entries, 9.3 (context entry), and on second-stage translation and its paging entries."""
     root_register = registers["RTADDR_REG"]
     assert bits(root_register, 11, 10) == 0, "TTM: legacy mode"
     root = read(bits(root_register, 63, 12) * 4096 + 16 * bits(source, 15, 8))
@@ -47,8 +47,8 @@ def vtd(read: Read, registers: dict[str, int], source: int, address: int, is_wri
 
 
 def stream_table_entry(read: Read, registers: dict[str, int], stream: int) -> int | None:
-    """Returns the address of a stream table entry. Arm IHI 0070: 3.3.1 (stream table lookup), 5.1 (level 1 descriptor),
-    6.3.24 and 6.3.25 (SMMU_STRTAB_BASE and SMMU_STRTAB_BASE_CFG)."""
+    """Returns the address of a stream table entry. Arm IHI 0070: the sections on the lookup in
+    the stream table, on its level 1 descriptor, and on SMMU_STRTAB_BASE and SMMU_STRTAB_BASE_CFG."""
     config, base = registers["SMMU_STRTAB_BASE_CFG"], bits(registers["SMMU_STRTAB_BASE"], 51, 6) << 6
     form, split, log2size = bits(config, 17, 16), bits(config, 10, 6), bits(config, 5, 0)
     if stream >> log2size:
@@ -69,8 +69,8 @@ def stream_table_entry(read: Read, registers: dict[str, int], stream: int) -> in
 
 
 def smmuv3_s1(read: Read, registers: dict[str, int], stream: int, address: int, is_write: bool) -> int | None:
-    """Arm IHI 0070: 5.2 (stream table entry, Config 0b101), 5.4 (context descriptor). DDI 0487, D8.3 (descriptors of
-    stage 1, granule of 4 KiB), D8.4 (access permissions of an access without privilege)."""
+    """Arm IHI 0070: 5.2 (stream table entry, Config 0b101), 5.4 (context descriptor). DDI 0487, chapter D8: the
+    sections on descriptors of stage 1 with a granule of 4 KiB, and on permissions of an access without privilege."""
     place = stream_table_entry(read, registers, stream)
     if place is None or not bits(read(place), 0, 0):            # V
         return None
@@ -91,8 +91,8 @@ def smmuv3_s1(read: Read, registers: dict[str, int], stream: int, address: int, 
 
 
 def smmuv3_s2(read: Read, registers: dict[str, int], stream: int, address: int, is_write: bool) -> int | None:
-    """Arm IHI 0070: 5.2 (stream table entry, Config 0b110; S2T0SZ, S2SL0, S2TG, S2AA64, S2TTB). DDI 0487, D8.3
-    (descriptors of stage 2, granule of 4 KiB), D8.2.9 (concatenated tables)."""
+    """Arm IHI 0070: 5.2 (stream table entry, Config 0b110; S2T0SZ, S2SL0, S2TG, S2AA64, S2TTB). DDI 0487, issue
+    I.a: chapter D8, the section on descriptors of stage 2 with a granule of 4 KiB, and D8.2.2 (concatenated tables)."""
     place = stream_table_entry(read, registers, stream)
     if place is None or not bits(read(place), 0, 0):            # V
         return None
@@ -148,8 +148,8 @@ def permitted_stage2(descriptor: int) -> tuple[bool, bool]:
 
 def riscv(read: Read, registers: dict[str, int], device: int, address: int, is_write: bool,
           context_bytes: int = 64) -> int | None:
-    """RISC-V IOMMU Architecture Specification 1.0: 2.1 (device directory), 2.3.1 (location of the device context), 3.3
-    (the process of translation). Privileged Architecture, 4.4 to 4.6 (Sv39, Sv48, Sv57)."""
+    """RISC-V IOMMU Architecture Specification 1.0: 2.1 (device directory), 2.3 (the process to translate an address,
+    and in it that to locate the device context). Privileged Architecture: Sv39, Sv48, Sv57."""
     pointer = registers["ddtp"]
     levels = {2: 1, 3: 2, 4: 3}[bits(pointer, 3, 0)]
     widths = [6 if context_bytes == 64 else 7, 9, 9 if context_bytes == 64 else 8]
@@ -197,8 +197,8 @@ def riscv(read: Read, registers: dict[str, int], device: int, address: int, is_w
 
 
 def amd(read: Read, registers: dict[str, int], device: int, address: int, is_write: bool) -> int | None:
-    """AMD I/O Virtualization Technology Specification, 48882, revision 3.07: 2.2.2.1 (device table entry), 2.2.3 (host
-    page tables), 3.4.1 (Device Table Base Address)."""
+    """AMD I/O Virtualization Technology Specification, 48882, revision 3.07: the sections on the device table entry, on
+    page tables for host translations, and on the register Device Table Base Address."""
     base = registers["Device Table Base Address"]
     if device * 32 >= (bits(base, 8, 0) + 1) * 4096:
         return None

@@ -155,7 +155,7 @@ class TestLayout(Case):
         self.assertEqual([line for line in wanted if line not in lines.splitlines()], [], "names in the header")
         source.write_text("dram is accept [0x0-0xff]; //@ caf\u00e9 \u00e0\nagent a is over dram;", "utf-8")
         self.assertTrue("caf\u00e9 \u00e0\n" not in outcome(TOOLS / "netconf-layout", source)[1],
-                        "a node that is no agent has no note here")
+                        "a node that is not an agent has no note here")
         source.write_text("dram is accept [0x0-0xff];\nagent a is over dram; //@ caf\u00e9 \u00e0", "utf-8")
         self.assertTrue("a      1     caf\u00e9 \u00e0\n" in outcome(TOOLS / "netconf-layout", source)[1],
                         "a note in UTF-8")
@@ -167,7 +167,7 @@ class TestLayout(Case):
         self.assertEqual(outcome(TOOLS / "netconf-layout", missing)[2],
                          f"netconf-layout: {missing}: No such file or directory\n", "a file is named once")
         for words, status, message in (
-                (("--prefix", "1x", source), 2, "'1x' is no name in C that begins with a letter"),
+                (("--prefix", "1x", source), 2, "'1x' is not a name in C that begins with a letter"),
                 ((EXAMPLES / "looping_bridge.net",), 2, "refused: Loop bus@0x80000000 -> bridge@0x0 -> bus@0x80000000"),
                 ((self.folder / "none.net",), 2, "No such file or directory")):
             seen, output, errors = outcome(TOOLS / "netconf-layout", *words)

@@ -215,8 +215,8 @@ class TestTree(Case):
                     "there is no tree 3 of iommu: the last is 2": (["--tree", "iommu", "--dump", "3"], output),
                     "the tree of line 1 says 4096 bytes and has 4064": (["--tree", "iommu", "--dump", "1"],
                                                                         "".join(output.splitlines(True)[:128])),
-                    "the tree of line 1 has a line that is no hexadecimal": (["--tree", "iommu", "--dump", "1"],
-                                                                             output.replace("0" * 64, "x" * 64, 1)),
+                    "the tree of line 1 has a line that is not hexadecimal": (["--tree", "iommu", "--dump", "1"],
+                                                                              output.replace("0" * 64, "x" * 64, 1)),
                     "the tree of line 1 says a number of pages of 5,000 digits": (["--tree", "u"],
                                                                                   f"radix u pages {'9' * 5000}\n00\n")}
         for message, (options, text) in troubles.items():

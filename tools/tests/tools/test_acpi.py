@@ -169,8 +169,8 @@ class TestTables(Case):
         block = build.ivhd(0x40, 2, 0xfeb80000, build.entry(2, 0xa0), special, named)
         _status, output, _errors = run("--acpi", self.write({"SRAT": PC["SRAT"], "IVRS": build.ivrs(block)}))
         self.assertEqual(re.findall(r"^// left out: IVRS: (.*)$", output, re.M), [
-            "the I/O APIC 33, which sends as pci 0:14.0: it is no agent",
-            "the device AMDI0020, which sends as pci 0:14.5: it is no agent"])
+            "the I/O APIC 33, which sends as pci 0:14.0: it is not an agent",
+            "the device AMDI0020, which sends as pci 0:14.5: it is not an agent"])
 
     def test_arm(self) -> None:
         """SMMUs of Arm: which requesters become which streams, and the doorbell of an ITS that the SMMU translates."""
@@ -192,6 +192,56 @@ class TestTables(Case):
         self.assertEqual(re.findall(r"^agent (\S+) .*//@ (.*)$", output, re.M), [
             ("pci_1_2_1", "pci 1:2.1, stream 0x1111, device ?:?"),
             ("pci_0_1_0", "pci 0:1.0, device ?:?, 1:1 behind no IOMMU")])
+
+    def test_riscv(self) -> None:
+        """IOMMUs of RISC-V: which requesters become which devices, of several mappings the first, an IOMMU that is
+        itself a function, a mapping to none, and a device of ACPI."""
+        one, two = build.riscv_iommu(0x3010000), build.riscv_iommu(0, 1, 0x8)
+        second = 48 + len(one)
+        root = build.riscv_root(0, build.mapping(0x100, 0x100, 0x1100, 48), build.mapping(0x180, 0x100, 0x80, second),
+                                build.mapping(0x400, 0x10, 0, 7))
+        device = build.riscv_device(b"\\_SB.DMA0", build.mapping(0, 1, 0x40000, 48))
+        folder = self.write({"RIMT": build.rimt(one, two, root, device),
+                             "SRAT": build.srat((0x80000000, 0x10000000, 1)), "MCFG": PC["MCFG"]})
+        _status, output, _errors = run("--acpi", folder)
+        self.assertEqual(re.findall(r"^agent (\S+) .*//@ (.*)$", output, re.M), [
+            ("pci_1_0_0_and_on", "a function from pci 1:0.0 to pci 1:1f.7, streams 0x1100-0x11ff"),
+            ("pci_2_0_0_and_on", "a function from pci 2:0.0 to pci 2:f.7, streams 0x100-0x17f"),
+            ("pci_0_untranslated", "functions of segment 0 that no IOMMU names, 1:1 behind no IOMMU")])
+        self.assertIn("unit pci_1_0_0_and_on.iommu kind pages page 12 slots 65536 reach 56 to system; //@ riscv_0, ",
+                      output)
+        self.assertIn("    0x3010000-0x3010fff to riscv_0 at 0x0", output)
+        self.assertEqual(re.findall(r"^// left out: (.*(?:RIMT|riscv).*)$", output, re.M), [
+            "riscv_1 is the function pci 0:1.0: where its registers are stands in no table",
+            "RIMT: no IOMMU stands at byte 7, to which requesters 0x400-0x40f of segment 0 go",
+            "the device \\_SB.DMA0 of ACPI accesses memory and is not an agent: stream 0x40000 of riscv_0"])
+        self.statements("--acpi", folder)
+        (self.folder / "pci").write_text("Slot:\t01:02.1\nClass:\t0200\n\nSlot:\t04:01.0\nClass:\t0200\n")
+        _status, output, _errors = run("--acpi", folder, "--pci", str(self.folder / "pci"))
+        self.assertEqual(re.findall(r"^agent (\S+) .*//@ (.*)$", output, re.M), [
+            ("pci_1_2_1", "pci 1:2.1, stream 0x1111, device ?:?"),
+            ("pci_4_1_0", "pci 4:1.0, device ?:?, 1:1 behind no IOMMU")])
+
+    def test_riscv_broken(self) -> None:
+        """RIMTs that are broken are passed over with the cause, and the rest of the machine is read."""
+        unit = build.riscv_iommu(0x3010000)
+        cases = [
+            (build.rimt(unit, b"\x01\x01\x00\x00"), "a node at byte 88 has length 0, and 4 bytes are left"),
+            (build.rimt(unit[:-8]), "a node at byte 48 has length 40, and 32 bytes are left"),
+            (build.rimt(build.rimt_node(0, bytes(8))), "it ends before byte 28"),
+            (build.rimt(unit, build.rimt_node(1, bytes(10) + b"\x02\x00")), "2 mappings from byte 0 of a node of 20"),
+            (build.rimt(build.rimt_node(2, b"\xff\xff\x01\x00")), "1 mappings from byte 65535 of a node of 12"),
+            (build.table(b"RIMT", bytes([1, 0, 0, 0, 200] + [0] * 7)), "it ends before byte 204"),
+            (build.table(b"RIMT", bytes([0, 0, 1, 0, 48] + [0] * 7)), "65536 nodes, and at most 4096 are read"),
+            (build.table(b"RIMT", b""), "it ends before byte 40")]
+        for number, (table, cause) in enumerate(cases):
+            folder = self.folder / f"broken_{number}"
+            folder.mkdir()
+            for name, data in (("RIMT", table), ("SRAT", PC["SRAT"]), ("APIC", PC["APIC"])):
+                (folder / name).write_bytes(data)
+            status, output, errors = run("--acpi", str(folder))
+            self.assertEqual((status, output.count("\nagent ")), (0, 1), errors)
+            self.assertTrue(any(line.endswith(f"the table RIMT is passed over: {cause}") for line in errors), errors)
 
     def test_dump(self) -> None:
         """The text that acpidump prints has the same tables as a folder."""
@@ -231,7 +281,9 @@ class TestTables(Case):
         chance = random.Random(58)
         smmu = build.node(4, (0x2b400000).to_bytes(8, "little") + bytes(44))
         tables = {**PC, "IVRS": build.ivrs(build.ivhd(0x11, 2, 0xfeb80000, build.entry(3, 0x8), build.entry(4, 0xf))),
-                  "IORT": build.iort(smmu, build.node(2, bytes(20), build.mapping(0x100, 0x100, 0x1100, 48)))}
+                  "IORT": build.iort(smmu, build.node(2, bytes(20), build.mapping(0x100, 0x100, 0x1100, 48))),
+                  "RIMT": build.rimt(build.riscv_iommu(0x3010000), build.riscv_root(0, build.mapping(0, 16, 0, 48)),
+                                     build.riscv_device(b"A", build.mapping(0, 1, 7, 48)))}
         folder = Path(self.write(tables))
         begin = time.process_time()
         for turn in range(500):

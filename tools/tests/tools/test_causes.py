@@ -89,7 +89,7 @@ TEXTS = {
     ),
     "no whole pages": Worked(
         MEMORY + CARD + SMMU + "begin; grant a card dram 0x4100 0x100;",
-        ["0x4100-0x41ff, at 0x80004100 of bus, is no whole number of pages: a page of smmu has 0x1000"],
+        ["0x4100-0x41ff, at 0x80004100 of bus, is not a whole number of pages: a page of smmu has 0x1000"],
         "0x4100 0x100",
         "0x4000 0x1000",
     ),
@@ -153,7 +153,7 @@ TEXTS = {
     ),
     "a piece of no whole pages": Worked(
         MEMORY + CARD + SMMU + "begin; gather card a dram 0x0 0x1000 and b dram 0x10000 0x800;",
-        ["piece b, 0x10000-0x107ff, at 0x80010000 of bus, is no whole number of pages: a page of smmu has 0x1000"],
+        ["piece b, 0x10000-0x107ff, at 0x80010000 of bus, is not a whole number of pages: a page of smmu has 0x1000"],
         "0x10000 0x800",
         "0x10000 0x1000",
     ),

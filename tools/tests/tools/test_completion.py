@@ -27,7 +27,7 @@ CASES = [
     (["netconf", "run", "<", ""], ["boards", "four.net"]),
     (["netconf", "run", "<", "fo"], ["four.net"]),
     (["netconf", "run", "<", "four.net", ">", "o"], ["old.txt"]),
-    (["netconf-draw", "-"], ["--agent", "--audit", "--by-records", "--compare", "--help", "--maps", "--svg",
+    (["netconf-draw", "-"], ["--agent", "--audit", "--by-records", "--compare", "--diff", "--help", "--maps", "--svg",
                              "--version",
                              "--views", "--write"]),
     (["netconf-draw", "--vi"], ["--views"]),

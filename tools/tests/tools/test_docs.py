@@ -30,13 +30,27 @@ def anchors_of(path: pathlib.Path) -> set[str]:
 def lost_paths(line: str) -> Iterator[str]:
     """The paths of a line that do not stand in the crate which the line names last before them."""
     crate = None
-    for match in re.finditer(r"\b(dn_\w+|test_\w+)\b|((?:src|specs|proofs)/[\w/+]+(?:\.(?:rt|antt))?)", line):
+    crates = r"\b(dn_\w+|test_\w+|netconf(?:_c)?(?=/(?:src|specs|proofs)))\b"
+    for match in re.finditer(crates + r"|((?:src|specs|proofs)/[\w/+]+(?:\.(?:rt|antt))?)", line):
         if match[1] and (TOP / "crates" / match[1]).is_dir():
             crate = match[1]
         elif match[2] and crate:
             path = TOP / "crates" / crate / match[2]
             if not any(path.with_name(path.name + end).exists() for end in ("", ".rt", ".antt")):
                 yield f"{crate}: {match[2]}"
+
+
+def lost_places(line: str) -> Iterator[str]:
+    """The paths of a line that nothing has, those in crates/ left aside; and the names that it gives of a file, before
+    the path or in brackets after it, and that the file does not have."""
+    name, path = r"`(\w+)`", r"`?((?:tools|answers|include|bench)/[\w/.+-]*\w)`?"
+    for match in re.finditer(rf"(?:{name} (?:of )?)?{path}(?: \(((?:`\w+`(?:, |\)))+))?", line):
+        place = TOP / match[2]
+        if not place.exists():
+            yield match[2]
+        elif place.is_file():
+            given = re.findall(r"\w+", f"{match[1] or ''} {match[3] or ''}")
+            yield from (f"{match[2]}: {word}" for word in given if not re.search(rf"\b{word}\b", place.read_text()))
 
 
 class TestDocuments(Case):
@@ -63,6 +77,14 @@ class TestDocuments(Case):
                 for number, line in enumerate((TOP / f"docs/{page}.md").read_text().splitlines(), 1)
                 for path in lost_paths(line)]
         self.assertEqual(lost, [], "paths that the crate before them does not have")
+
+    def test_places(self) -> None:
+        """Each path of the map outside of crates/ is there, and the file has the names that the map gives of it."""
+        lines = (TOP / "docs/architecture.md").read_text().splitlines()
+        lost = [f"{number}: {place}" for number, line in enumerate(lines, 1) for place in lost_places(line)]
+        self.assertEqual(lost, [], "paths and names of docs/architecture.md that nothing has")
+        wrong = "`SHOWN` tools/netconf_tools/grants.py (`CHANGES`, `NONE`), `tools/none.py`"
+        self.assertEqual(list(lost_places(wrong)), ["tools/netconf_tools/grants.py: NONE", "tools/none.py"])
 
     def test_left_files(self) -> None:
         """git ignores what the commands of the pages write at the top of the tree."""

@@ -18,6 +18,7 @@ from netconf_tools.text import run as program_output
 from tests.case import EXAMPLES, TOOLS, Case, descriptions, outcome
 
 DRAW = TOOLS / "netconf-draw"
+QUERY = TOOLS / "netconf-query"
 SVG = "{http://www.w3.org/2000/svg}"
 
 
@@ -245,8 +246,38 @@ class TestDraw(Case):
             self.assertEqual((band[0][1], band[4][1]), (band[3][1], band[7][1]),
                              "an agent beside itself has level ribbons")
         self.assertEqual(outcome(DRAW, "--compare", "cpu", "gpu", "-", text=BUS),
-                         (2, "", "netconf-draw: -: gpu is no agent; the agents are: cpu, dma\n"),
+                         (2, "", "netconf-draw: -: gpu is not an agent; the agents are: cpu, dma\n"),
                          "a comparison with no agent")
+
+    def test_diff(self) -> None:
+        """What an agent gains and loses: a mark for each difference that netconf-query lists, at the height of its
+        addresses, and a ribbon to the new place."""
+        old, new = self.folder / "old.net", self.folder / "new.net"
+        old.write_text(GUESTS_NET)
+        new.write_text(GUESTS_NET.replace("0x8ff00000", "0x90000000"))
+        status, listed, _ = outcome(QUERY, "diff", old, new)
+        self.assertEqual(status, 1)
+        wanted = re.findall(r"^  ([-+~] \S+@0x[0-9a-f]+-0x[0-9a-f]+)", listed, re.M)
+        status, picture, errors = outcome(DRAW, "--diff", old, new)
+        self.assertEqual((status, errors), (0, ""))
+        texts, _ = texts_of(picture)
+        drawn = [text for text in texts if re.match(r"[-+~] \S+@", text)]
+        self.assertEqual(sorted(text.split(" (")[0] for text in drawn), sorted(wanted))
+        self.assertEqual(len(bands_of(picture)), len(wanted))
+        status, picture, _ = outcome(DRAW, "--diff", old, old)
+        self.assertEqual((status, "No agent sees anything else." in picture), (0, True))
+        self.assertEqual(outcome(DRAW, "--diff", old, "--agent", "gpu", new)[:2], (2, ""))
+
+    def test_dark(self) -> None:
+        """A picture says that it is light on dark where the desktop is, once, and for itself alone."""
+        for words in (["--compare", "cpu", "dma"], ["--views"], ["--diff", self.file("old.net", BUS)]):
+            picture = outcome(DRAW, *words, "-", text=BUS)[1]
+            self.assertEqual(picture.count("prefers-color-scheme: dark) { svg:root {"), 1)
+
+    def file(self, name: str, text: str) -> str:
+        """A file with a text."""
+        (self.folder / name).write_text(text)
+        return str(self.folder / name)
 
     def test_overlap(self) -> None:
         """What two guests share is shaded in both boxes to scale: the end of one memory, and the beginning of the
@@ -439,7 +470,8 @@ class TestDraw(Case):
             ("a folder", [self.folder], {}, f"{self.folder}: Is a directory"),
             ("a refused description", [refused], {},
              f"{refused}: refused: Overlap bus@0x1800 (netconf-lint shows the place)"),
-            ("an agent that is none", ["--agent", "dram", one], {}, f"{one}: dram is no agent; the agents are: none"),
+            ("an agent that is none", ["--agent", "dram", one], {},
+             f"{one}: dram is not an agent; the agents are: none"),
             ("views of no agent", ["--views", one], {}, f"{one}: there is no agent, so no view"),
             ("no program", [made], {"NETCONF": f"{self.folder}/none"},
              f"{self.folder}/none: no such program (it is named by the variable NETCONF)"),

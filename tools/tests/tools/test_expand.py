@@ -48,12 +48,12 @@ WRONG = {
     "//! let = 1": (9, "let: a constant is `//! let NAME = EXPRESSION`"),
     "//! let R 1": (9, "let: a constant is `//! let NAME = EXPRESSION`"),
     "//! let is = 1": (9, "let: `is` is a reserved word and names nothing"),
-    "//! let R = S": (13, "let: `S` is no constant here"),
-    "//! let RAM = 1\n//! let S = RMA": (13, "let: `RMA` is no constant here; did you mean `RAM`?"),
+    "//! let R = S": (13, "let: `S` is not a constant here"),
+    "//! let RAM = 1\n//! let S = RMA": (13, "let: `RMA` is not a constant here; did you mean `RAM`?"),
     "//! let R = 1\n//! let R = 2": (9, "let: `R` is already set"),
     "//! let R = 1 2": (15, "let: unexpected `2` in the value of a constant"),
     "//! let R = 1 +": (16, "let: unexpected the end of the line in the value of a constant"),
-    "//! let R = 0xg": (13, "let: `0xg` is no token of an expression"),
+    "//! let R = 0xg": (13, "let: `0xg` is not a token of an expression"),
     "//! let R = (1-2)": (14, "let: the difference of 0x1 and 0x2 is below 0"),
     "//! let R = 0xffffffffffffffff*2": (13, "let: this product is more than 0xffffffffffffffff"),
     "a is;\n//! include parts.net": (1, 'include: an include is `//! include "FILE"`'),
@@ -94,7 +94,7 @@ class TestReplaced(Case):
             ("a=1", "--set a: no constant and no expression has this name"),
             ("RAM", "--set RAM: a constant is set by NAME=VALUE"),
             ("is=1", "--set is=1: a constant is set by NAME=VALUE"),
-            ("RAM=x", "--set RAM=x: `x` is no constant here"),
+            ("RAM=x", "--set RAM=x: `x` is not a constant here"),
         ):
             with self.subTest(word=word), self.assertRaisesRegex(Trouble, re.escape(message) + "$"):
                 expanded(text, word)
@@ -170,7 +170,7 @@ class TestFiles(Case):
         for tool in ("netconf-layout", "netconf-draw", "netconf-query who"):
             words = tool.split()
             seen = outcome(TOOLS / words[0], *words[1:], wrong, *(["a", "0"] if len(words) > 1 else []))
-            self.assertEqual(seen, (2, "", f"{words[0]}: {wrong}:1:13: error: let: `S` is no constant here\n"))
+            self.assertEqual(seen, (2, "", f"{words[0]}: {wrong}:1:13: error: let: `S` is not a constant here\n"))
 
     def test_places(self) -> None:
         """Each word that stands in a file comes from the place of that word there."""

@@ -25,6 +25,9 @@ READS = [("netconf-dump2bin", "pipe"), ("netconf-import", "pipe"), ("netconf-lin
 SECONDS = 60
 """How long a tool may take until it asks or reads, and until it has ended."""
 
+PATIENCE = 5
+"""After how many seconds a tool that has not ended is interrupted again."""
+
 
 class TestInterrupt(Case):
     """What a tool says of an interrupt."""
@@ -42,8 +45,7 @@ class TestInterrupt(Case):
             end = time.monotonic() + SECONDS
             while not is_ready() and time.monotonic() < end:
                 time.sleep(0.02)
-            process.send_signal(signal.SIGINT)
-            output, errors = process.communicate(timeout=SECONDS)
+            output, errors = ended(process)
         self.assertEqual((process.returncode, output, errors), (130, "", f"{words[0]}: interrupted\n"))
 
     def test_program(self) -> None:
@@ -68,6 +70,22 @@ class TestInterrupt(Case):
                 self.interrupted(words, lambda: opened(pipe, writer))
                 os.close(writer[0])
                 pipe.unlink()
+
+
+def ended(process: "subprocess.Popen[str]") -> tuple[str, str]:
+    """What a tool prints that is interrupted, as often as it takes.
+
+    An interrupt between the last test for one and the beginning of a read is kept until the read ends, as in each
+    program in Python. So it is sent again where the tool waits on."""
+    for _ in range(SECONDS // PATIENCE):
+        time.sleep(0.1)
+        process.send_signal(signal.SIGINT)
+        try:
+            return process.communicate(timeout=PATIENCE)
+        except subprocess.TimeoutExpired:
+            pass
+    process.kill()
+    return process.communicate()
 
 
 def opened(pipe: pathlib.Path, writer: list[int]) -> bool:

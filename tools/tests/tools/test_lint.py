@@ -52,11 +52,11 @@ unit irt kind vectors page 0 slots 2 reach 8 to cpu;
 WORDS = (0x1001, 0x2011, 0x3031, 0x4041, 0x5005, 0x1000001, 0x6002, 0x7021, 0x120, 0x1, 0x20, 0x21)
 """The words of its units: what is shut out are slots 2 to 5 of the first, and slot 0 of the second."""
 
-SHUT = """board.net:6:1: warning: mmu slot 2: shut out: 0x3031: it allows neither reading nor writing
-board.net:6:1: warning: mmu slot 3: shut out: 0x4041: bit 6 of its gate word must be 0
-board.net:6:1: warning: mmu slot 4: shut out: 0x5005: there is no port 2
-board.net:6:1: warning: mmu slot 5: shut out: 0x1000001: its output 0x1000000 is not below 2^24
-board.net:8:1: warning: irt slot 0: shut out: 0x120 0x1: its output 0x120 is not below 2^8
+SHUT = """board.net:6:1: warning: mmu slot 2: malformed record: 0x3031: it allows neither reading nor writing
+board.net:6:1: warning: mmu slot 3: malformed record: 0x4041: bit 6 of its gate word must be 0
+board.net:6:1: warning: mmu slot 4: malformed record: 0x5005: there is no port 2
+board.net:6:1: warning: mmu slot 5: malformed record: 0x1000001: its output 0x1000000 is not below 2^24
+board.net:8:1: warning: irt slot 0: malformed record: 0x120 0x1: its output 0x120 is not below 2^8
 """
 
 SHARED = """board.net:1:1: warning: dram 0x1000-0x2fff: shared by records: disk, card
@@ -255,9 +255,10 @@ class TestImages(LintCase):
         """An image of version 1 has no record for one access alone."""
         shut = SHUT.splitlines(keepends=True)
         ones = [
-            f"board.net:6:1: warning: mmu slot {slot}: shut out: {WORDS[slot]:#x}: {OF_VERSION_1}\n" for slot in (1, 7)
+            f"board.net:6:1: warning: mmu slot {slot}: malformed record: {WORDS[slot]:#x}: {OF_VERSION_1}\n"
+            for slot in (1, 7)
         ]
-        last = f"board.net:8:1: warning: irt slot 1: shut out: 0x20 0x21: {OF_VERSION_1}\n"
+        last = f"board.net:8:1: warning: irt slot 1: malformed record: 0x20 0x21: {OF_VERSION_1}\n"
         wanted = "".join([ones[0], *shut[:4], ones[1], shut[4], last, SHARED_BY_VERSION_1])
         self.assertEqual(self.lint_image(image_of_board(1)), (0, wanted, ""))
 
@@ -282,7 +283,7 @@ class TestImages(LintCase):
         wanted = (2, "", "netconf-lint: board.net:9:4: there is a byte 0x00, which ends the description of an audit\n")
         self.assertEqual(self.lint_image(IMAGE, BOARD + "// \0"), wanted)
         self.assertEqual(outcome(LINT, "--audit", "board.net", "none", folder=self.folder), wanted)
-        wanted = (2, "", "netconf-lint: tables: the dump of line 1 has a line that is no hexadecimal\n")
+        wanted = (2, "", "netconf-lint: tables: the dump of line 1 has a line that is not hexadecimal\n")
         self.assertEqual(self.lint_image(b"dump bytes 9\nzz\n"), wanted)
         wanted = (2, "", "netconf-lint: none: No such file or directory\n")
         self.assertEqual(outcome(LINT, "--audit", "board.net", "none", folder=self.folder), wanted)

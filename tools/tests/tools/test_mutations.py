@@ -1,8 +1,11 @@
-"""500 descriptions, images and files of claims, each changed by chance: no tool breaks off, and none takes 5 seconds.
+"""500 descriptions, images and files of claims, each changed by chance, and 50 conversations with the language server:
+no tool breaks off, and none takes 5 seconds.
 
 Time is that of the processor, of the tool and of the programs that it runs, so that other work on the machine does
 not count."""
 
+import io
+import json
 import pathlib
 import random
 import re
@@ -10,6 +13,9 @@ import resource
 import time
 from collections.abc import Iterator, Sequence
 
+from netconf_tools.cli.export import FORMATS
+from netconf_tools.cli.lsp import findings_of
+from netconf_tools.language_server import Message, Server, read_message, serve, uri_of, write_message
 from netconf_tools.views import Board
 from tests.case import EXAMPLES, Case, descriptions
 from tests.inside import called
@@ -57,7 +63,7 @@ def changed_text(text: str, chance: random.Random, changes: Sequence[int] = ALL_
             parts[at] = chance.choice(TOKENS)
         elif change == 5 and (hits := list(NUMBERS.finditer(text))):
             hit = chance.choice(hits)
-            number = int(hit.group(), 0) ^ 1 << chance.randrange(30) if not hit.group().startswith("00") else 0
+            number = int(hit.group(), 16 if hit.group().startswith("0x") else 10) ^ 1 << chance.randrange(30)
             parts = [text[:hit.start()], f"{number:#x}", text[hit.end():]]
         elif change == 6 and chance.random() < 0.3:
             parts = parts[:at]
@@ -122,16 +128,76 @@ class TestMutations(Case):
         return path
 
     def test_descriptions(self) -> None:
-        """250 descriptions, each for three of the calls that read one."""
+        """250 descriptions, each for netconf-run and for three of the other calls that read one."""
         chance = random.Random(57)
-        texts = [path.read_text("latin-1") for path in descriptions() if path.stat().st_size < 6000] + [NET, MODULES]
         claims = self.file("claims", b"same card card\nnever * dram 0x0\ndisjoint a.* b.*\n")
-        for number in range(250):
-            text = changed_text(chance.choice(texts), chance)
+        for number, text in enumerate(changed_texts(chance, 250)):
             path = self.file("board.net", encoded(text))
-            for name, words in chance.sample(list(calls_of(path, claims, self.folder)), 3):
+            calls = [chance.choice(list(run_calls_of(path))), *chance.sample(list(calls_of(path, claims)), 3)]
+            for name, words in calls:
                 with self.subTest(number=number):
                     self.call(name, *words)
+
+    def test_exports(self) -> None:
+        """100 descriptions with a card behind an IOMMU, each for one of the formats of tables, and then with the tables
+        of the description that was not changed, changed too."""
+        chance = random.Random(60)
+        board = self.file("whole.net", EXPORTED.encode())
+        for number in range(100):
+            form = chance.choice(tuple(FORMATS))
+            path = self.file("board.net", encoded(changed_text(EXPORTED, chance, ALL_CHANGES if number % 2 else (5,))))
+            for words in chance.sample(list(export_calls_of(path, board, form, self.folder)), 2):
+                with self.subTest(number=number):
+                    self.call("export", "--format", form, *words)
+
+    def test_found_tables(self) -> None:
+        """60 exported tables, changed and read back."""
+        chance, whole = random.Random(61), self.folder / "whole.tables"
+        board = self.file("whole.net", EXPORTED.encode())
+        for number in range(60):
+            form = chance.choice(tuple(FORMATS))
+            words: list[object] = ["--format", form, "--at", AT]
+            _, output, _ = called("export", *words, "--json", "--output", whole, board)
+            registers = [int(value, 0) for value in re.findall(r'"value": "?(0x[0-9a-f]+|\d+)', output)] or [int(AT, 0)]
+            found = self.file("tables", changed_bytes(whole.read_bytes(), chance))
+            config = hex(chance.getrandbits(32))
+            options: list[list[object]] = [[], [board], ["--partial", board], ["--config", config, board]]
+            more = chance.choice(options)
+            with self.subTest(number=number):
+                self.call("export", *words, "--import", found, "--root", hex(chance.choice(registers)),
+                          "--output", self.folder / "image", *more)
+
+    def test_server(self) -> None:
+        """50 conversations, in each of which a text is typed by changes, and asked about at places by chance."""
+        chance = random.Random(62)
+        for number, text in enumerate(changed_texts(chance, 50)):
+            with self.subTest(number=number):
+                output = io.BytesIO()
+                server, before = Server(output, findings_of), time.process_time() + seconds_of_children()
+                for message in conversation(text, str(self.folder / "board.net"), chance):
+                    self.assertTrue(server.handle(message))
+                    if chance.random() < 0.3:
+                        server.check_waiting()
+                server.check_waiting()
+                self.assertLess(time.process_time() + seconds_of_children() - before, SECONDS)
+                output.seek(0)
+                answers = iter(lambda: read_message(output), None)
+                errors = [answer["error"] for answer in answers if answer is not None and "error" in answer]
+                self.assertEqual(errors, [])
+
+    def test_messages(self) -> None:
+        """100 streams of messages to the language server, changed as texts or bytes: it ends with a status."""
+        chance = random.Random(63)
+        for number in range(100):
+            stream = io.BytesIO()
+            for message in conversation(NET, str(self.folder / "board.net"), chance):
+                if chance.random() < 0.3:
+                    message = json.loads(changed_json(json.dumps(message), chance))
+                write_message(stream, message)
+            data = stream.getvalue()
+            with self.subTest(number=number):
+                source = io.BytesIO(changed_bytes(data, chance) if number % 2 else data)
+                self.assertEqual(serve(source, io.BytesIO(), findings_of), 1)
 
     def test_claims(self) -> None:
         """150 files of claims, over a board and over one with claims in modules."""
@@ -164,8 +230,75 @@ class TestMutations(Case):
 Call = tuple[str, list[object]]
 """A tool and its words."""
 
+AT = "0x48000000"
+"""Where exported tables stand."""
 
-def calls_of(path: pathlib.Path, claims: pathlib.Path, folder: pathlib.Path) -> Iterator[Call]:
+EXPORTED = """dram is accept [0x0-0x3fffffff];
+bus is map [0x40000000-0x7fffffff to dram at 0x0];
+agent core is over bus; //@ processor
+agent card is map [0x0-0xffffff to iommu at 0x0]; //@ /bus/card, stream 0x20, pci 0:4.0, device 0x20
+unit iommu kind pages page 12 slots 4096 reach 32 to bus;
+begin;
+grant rx card dram 0x9000 0x2000;
+grant tx card dram 0x20000 0x1000 for read;
+"""
+"""A description of which tables are exported."""
+
+VALUES = ("null", "0", "-1", "1e99", "[]", "{}", '""', '"x"', "true", "4294967296")
+"""What is put in place of a value of JSON."""
+
+
+def changed_texts(chance: random.Random, count: int) -> Iterator[str]:
+    """Some descriptions, changed."""
+    texts = [path.read_text("latin-1") for path in descriptions() if path.stat().st_size < 6000] + [NET, MODULES]
+    for _ in range(count):
+        yield changed_text(chance.choice(texts), chance)
+
+
+def changed_json(text: str, chance: random.Random) -> str:
+    """A JSON object with one of its values replaced."""
+    hits = list(re.finditer(r'(?<=: )(?:"[^"]*"|-?\d+|\{[^{}]*\}|\[[^][]*\])', text))
+    hit = chance.choice(hits)
+    return text[:hit.start()] + chance.choice(VALUES) + text[hit.end():]
+
+
+def conversation(text: str, path: str, chance: random.Random) -> Iterator[Message]:
+    """What an editor says: it opens a part of a text, types the rest, and asks at places by chance."""
+    document = {"uri": uri_of(path)}
+    yield {"id": 0, "method": "initialize", "params": {"capabilities": {}}}
+    yield {"method": "textDocument/didOpen", "params": {"textDocument": {**document, "text": text[:len(text) // 2]}}}
+    lines = text.count("\n") + 2
+    for number in range(1, 12):
+        if number % 4 == 0:
+            changes = [{"text": text[:len(text) * number // 8]}]
+            yield {"method": "textDocument/didChange", "params": {"textDocument": document, "contentChanges": changes}}
+        position = {"line": chance.randrange(lines), "character": chance.randrange(60)}
+        method = chance.choice(("hover", "definition", "completion"))
+        params = {"textDocument": document, "position": position}
+        yield {"id": number, "method": f"textDocument/{method}", "params": params}
+
+
+def run_calls_of(path: pathlib.Path) -> Iterator[Call]:
+    """Calls of netconf-run over a description."""
+    yield "run", [path]
+    yield "run", ["--keep-going", path, path]
+    yield "run", ["--set", "RAM=2G", "--expand", path]
+    yield "run", ["--check", path]
+    yield "run", ["--audit", EXAMPLES / "foreign_tables.tables", path]
+
+
+def export_calls_of(path: pathlib.Path, board: pathlib.Path, form: str,
+                    folder: pathlib.Path) -> Iterator[list[object]]:
+    """Words of netconf-export after its format, over a description and one that was not changed."""
+    tables = folder / "tables"
+    yield ["--at", AT, "--output", tables, path]
+    yield ["--at", AT, "--json", "--agent", "card", path]
+    yield ["--at", AT, "--c", "--room", "4", path]
+    yield ["--at", AT, "--pages", "--changes", board, path]
+    yield ["--at", AT, "--changes", path, "--json", board]
+
+
+def calls_of(path: pathlib.Path, claims: pathlib.Path) -> Iterator[Call]:
     """Calls of the tools over a description."""
     yield "lint", [path]
     yield "lint", ["--audit", path, EXAMPLES / "foreign_tables.tables"]
@@ -184,6 +317,7 @@ def calls_of(path: pathlib.Path, claims: pathlib.Path, folder: pathlib.Path) -> 
 def image_calls_of(net: pathlib.Path, image: pathlib.Path, claims: pathlib.Path) -> Iterator[Call]:
     """Calls of the tools over an image."""
     yield "lint", ["--audit", net, image]
+    yield "run", ["--audit", image, net]
     yield "draw", ["--audit", net, image]
     yield "dump2bin", [image]
     yield "dump2bin", ["--changes", image]

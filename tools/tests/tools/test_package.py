@@ -70,7 +70,7 @@ def made(top: pathlib.Path, to: pathlib.Path, **variables: str) -> tuple[int, st
     to.mkdir(exist_ok=True)
     status, output, errors = outcome(top / "tools/package", to, folder=top,
                                      **{"NETCONF": TRUE, **variables})
-    return status, errors, pathlib.Path(output.strip() or to)
+    return status, errors, pathlib.Path((output.splitlines() or [str(to)])[0])
 
 
 class TestPackage(Case):
@@ -87,7 +87,7 @@ class TestPackage(Case):
         cls.made = tempfile.TemporaryDirectory()
         cls.addClassCleanup(cls.made.cleanup)
         status, output, errors = outcome(TOOLS / "package", cls.made.name, **PACKAGER)
-        cls.package = pathlib.Path(output.strip() or os.devnull)
+        cls.package = pathlib.Path((output.splitlines() or [os.devnull])[0])
         if status or not cls.package.is_file():
             raise AssertionError(f"the package is not made: {output + errors}")
 
@@ -171,11 +171,11 @@ class TestPackage(Case):
                   "who maintains the package is not known: no git checkout and no archive of `git archive` says it "
                   "here; set DEBFULLNAME and DEBEMAIL"),
                  ({**PACKAGER, "DEBEMAIL": "nowhere"},
-                  "DEBFULLNAME and DEBEMAIL: 'A Packager <nowhere>' is no name with an address"),
+                  "DEBFULLNAME and DEBEMAIL: 'A Packager <nowhere>' is not a name with an address"),
                  ({**PACKAGER, "NETCONF": "/nowhere/netconf"},
                   "/nowhere/netconf: no such program: build it first, or name it by the variable NETCONF"),
                  ({**PACKAGER, "NETCONF": str(script)}, f"{script} is no compiled program"),
-                 ({**PACKAGER, "SOURCE_DATE_EPOCH": "today"}, "SOURCE_DATE_EPOCH: 'today' is no number of seconds")]
+                 ({**PACKAGER, "SOURCE_DATE_EPOCH": "today"}, "SOURCE_DATE_EPOCH: 'today' is not a number of seconds")]
         for variables, line in cases:
             self.assertEqual(made(copy, self.folder / "refused", **variables)[:2], (1, f"package: {line}\n"),
                              f"{line[:40]}")
@@ -196,5 +196,45 @@ class TestPackage(Case):
     def test_lintian(self) -> None:
         """What Debian's own lint finds."""
         self.need("lintian", "lintian")
-        _, output, _ = outcome("lintian", "--allow-root", self.package)
-        self.assertEqual([line for line in output.splitlines() if re.match("[EW]:", line)], [], "errors and warnings")
+        self.assertEqual(warnings_of(self.package), [], "errors and warnings")
+
+    def test_library(self) -> None:
+        """The package of the library, made of a small archive that stands for it: its files, a program that is built
+        with what it has, and what Debian's own lint finds."""
+        self.need("gcc", "gcc")
+        source, archive, to = self.folder / "answer.c", self.folder / "libanswer.a", self.folder / "made"
+        source.write_text("#include <netconf_heap.h>\nint answer(void);\n"
+                          "int answer(void) { rattle_dealloc(rattle_alloc(8, 8).at); return 42; }\n")
+        outcome("gcc", "-I", TOP / "include", "-c", source, "-o", self.folder / "answer.o")
+        outcome("ar", "r", archive, self.folder / "answer.o")
+        to.mkdir()
+        variables = {"NETCONF": TRUE, "NETCONF_ARCHIVE": str(archive), **PACKAGER}
+        status, output, errors = outcome(TOOLS / "package", to, **variables)
+        self.assertEqual((status, errors, len(output.splitlines())), (0, "", 2), "two packages are made")
+        package, architecture = pathlib.Path(output.splitlines()[1]), outcome("dpkg", "--print-architecture")[1].strip()
+        self.assertEqual(package.name, f"libnetconf-dev_{VERSION}_{architecture}.deb")
+        root = self.folder / "library"
+        outcome("dpkg-deb", "--extract", package, root)
+        library = f"usr/lib/{outcome('gcc', '-print-multiarch')[1].strip()}"
+        documents = [f"usr/share/doc/libnetconf-dev/{name}" for name in (
+            "changelog.gz", "copyright", *(f"examples/{name}.c" for name in ("bare", "dma", "example", "heap")))]
+        names = sorted(str(path.relative_to(root)) for path in root.rglob("*") if path.is_file())
+        self.assertEqual(names, sorted([*(f"usr/include/netconf{name}" for name in (".h", ".hpp", "_heap.h")),
+                                        f"{library}/libnetconf.a", f"{library}/pkgconfig/netconf.pc", *documents]))
+        self.assertIn("libdir=${prefix}/" + library.removeprefix("usr/"),
+                      (root / library / "pkgconfig/netconf.pc").read_text())
+        source.write_text("#include <netconf.h>\nint answer(void);\nint main(void) { return answer() != 42; }\n")
+        program = self.folder / "program"
+        built = outcome("gcc", "-I", root / "usr/include", source, "-L", root / library, "-lnetconf", "-o", program)
+        self.assertEqual((built, outcome(program)), ((0, "", ""), (0, "", "")), "a program with the library")
+        self.assertEqual(outcome(TOOLS / "package", to, **{**variables, "NETCONF_ARCHIVE": "/nowhere/lib.a"}),
+                         (1, "", "package: /nowhere/lib.a: no such library: build it first, by `rt lib` in "
+                                 "crates/netconf_c\n"), "no such library")
+        self.need("lintian", "lintian")
+        self.assertEqual(warnings_of(package), [], "errors and warnings")
+
+
+def warnings_of(package: pathlib.Path) -> list[str]:
+    """The errors and warnings of Debian's own lint."""
+    _, output, _ = outcome("lintian", "--allow-root", package)
+    return [line for line in output.splitlines() if re.match("[EW]:", line)]

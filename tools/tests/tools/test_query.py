@@ -28,7 +28,7 @@ agent display is map [0x0-0xfffffff to bus at 0x80000000];
 //! only display dram 0x0-0xfffffff
 agent dma is map [0x0-0x3fff to iommu at 0x0];
 unit iommu kind pages page 12 slots 4 reach 32 to bus;
-// A comment that is no claim: //! never cpu0 dram 0x0
+// A comment that is not a claim: //! never cpu0 dram 0x0
 begin; //! only dma dram 0x9000-0xafff
 grant ring dma dram 0x9000 0x1000 for read;
 grant data dma dram 0xa000 0x1000;
@@ -199,7 +199,7 @@ class TestAnswers(Case):
         self.assertEqual((status, output, errors), (2, "", (
             "wrong.claims:1:11: error: unexpected 'all', expected 'at', as in AGENT NODE at ADDRESS\n"
             "  cpu0 sees all\n            ^~~\n"
-            "wrong.claims:4:11: error: gpu is no agent; the agents are: cpu0, cpu1, display, dma\n"
+            "wrong.claims:4:11: error: gpu is not an agent; the agents are: cpu0, cpu1, display, dma\n"
             "  //! never gpu dram 0x0\n            ^~~\n")))
 
     def test_refused(self) -> None:
@@ -276,7 +276,7 @@ class TestImages(Case):
 
     description = str(EXAMPLES / "foreign_tables.net")
     tables = str(EXAMPLES / "foreign_tables.tables")
-    shut = "1 slot has a record that is shut out, and nothing passes there (netconf-lint --audit shows why)"
+    shut = "1 slot has a record that is malformed, and nothing passes there (netconf-lint --audit shows why)"
 
     def test_answers(self) -> None:
         """Each question is answered from what the image has, worked out by hand; the commands are not run."""
@@ -308,8 +308,8 @@ class TestImages(Case):
         (self.folder / "c").write_text("same disk disk")
         words = ["test", "--strict", "--image", self.tables, self.description, self.folder / "c"]
         status, output, _ = called("query", *words)
-        due = (f"{self.description}:12:1: error: card_mmu slot 2: shut out: 0x8000a03: bit 1 of its gate word must be "
-               "0\nclaims that hold: 1, that do not: 0\n")
+        due = (f"{self.description}:12:1: error: card_mmu slot 2: malformed record: 0x8000a03: bit 1 of its gate word "
+               "must be 0\nclaims that hold: 1, that do not: 0\n")
         self.assertEqual((status, output), (1, due))
 
     def test_own_image(self) -> None:
@@ -423,7 +423,7 @@ TROUBLES = [
     ("who old.net dram 0 1 2", "after the address come at most a size and `for read` or `for write`, not '1 2'"),
     ("who old.net dram 0 for ever", "after `for` comes `read` or `write`, not 'ever'"),
     ("who old.net dram 0x40000000", "old.net: dram@0x40000000-0x40000000 comes to nothing that accepts it"),
-    ("where old.net bus dram 0", "old.net: bus is no agent; the agents are: cpu0, cpu1, display, dma"),
+    ("where old.net bus dram 0", "old.net: bus is not an agent; the agents are: cpu0, cpu1, display, dma"),
     ("where old.net cpu0 ram 0", "old.net: there is no node ram"),
     ("where old.net cpu0 bus 0x0", "old.net: bus@0x0-0x0 comes to nothing that accepts it"),
     ("where old.net cpu0 dram 0 1",

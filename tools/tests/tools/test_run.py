@@ -32,8 +32,8 @@ resolve smmu 0x10 for read; revoke rx; revoke rx;
 
 ERRORS = """commands.net:4:1: error: grant odd: NoPlacement
 commands.net:6:9: warning: resolve drams: there is no node `drams`; did you mean `dram`?
-commands.net:6:27: warning: lookup bus: `bus` is no agent
-commands.net:6:39: error: view bus: NoAgent: the node does not exist, or is no agent
+commands.net:6:27: warning: lookup bus: `bus` is not an agent
+commands.net:6:39: error: view bus: NoAgent: the node does not exist, or is not an agent
 commands.net:6:51: error: absorb dma: NotAbsorbable agent: the node is an agent
 commands.net:6:63: error: absorb dma0: there is no node `dma0`; did you mean `dma`?
 commands.net:7:28: error: gather dma: IdUsed 1: the id `rx` is in use

@@ -7,10 +7,13 @@ import tomllib
 
 from tests.case import TOOLS, TOP, Case, outcome
 
-MANY = ("tools", "answers", "bench", "examples")
+MANY = ("tools", "answers", "bench", "examples", "web")
 """The folders that hold Python."""
 
-SCRIPTS = ("map", "package", "pictures", "site", "tests/run-recipes", "try-edits", "try-tests")
+SCRIPTS = ("answers/check", "answers/judge", "bench/lint", "bench/radix", "bench/worst",
+           "tools/library/netconf.py", "tools/library/run", "tools/library/run-histories",
+           "tools/library/test_netconf.py", "tools/map", "tools/package", "tools/pictures", "tools/site",
+           "tools/tests/run-recipes", "tools/try-edits", "tools/try-tests", "web/build", "web/module")
 """The scripts whose types are looked at beside those of the packages that pyproject.toml names."""
 
 
@@ -34,8 +37,7 @@ class TestStyle(Case):
         self.need("mypy", "mypy")
         cache = f"--cache-dir={self.folder}"
         self.assertEqual(outcome("mypy", cache, "--no-error-summary"), (0, "", ""))
-        scripts = [f"tools/{name}" for name in SCRIPTS]
-        self.assertEqual(outcome("mypy", cache, "--no-error-summary", "--scripts-are-modules", *scripts), (0, "", ""))
+        self.assertEqual(outcome("mypy", cache, "--no-error-summary", "--scripts-are-modules", *SCRIPTS), (0, "", ""))
 
     def test_flake8(self) -> None:
         """flake8 finds nothing."""
@@ -45,8 +47,10 @@ class TestStyle(Case):
     def test_clang_format(self) -> None:
         """The files in C are formatted."""
         self.need("clang-format", "clang-format")
-        files = [path for folder in ("../bench", "../include", "library", "loader", "machine", "tests/loader")
-                 for path in sorted((TOOLS / folder).glob("*.[ch]"))]
+        folders = ("../bench", "../include", "../web/wasm", "../web/wasm/include", "library", "loader", "machine",
+                   "tests/loader")
+        files = [path for folder in folders
+                 for path in sorted([*(TOOLS / folder).glob("*.[ch]"), *(TOOLS / folder).glob("*.[ch]pp")])]
         self.assertEqual(outcome("clang-format", "--dry-run", "-Werror", *files), (0, "", ""))
 
     def test_paths(self) -> None:

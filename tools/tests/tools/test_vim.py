@@ -79,5 +79,5 @@ class TestVim(Case):
         self.need("vim", "vim")
         wanted = ["twice.net:2:1:Duplicate: `a` is already declared", "twice.net:1:1:a is declared here first"]
         self.assertEqual(errors_of_lint(self.folder, "a is;\na is;\n"), wanted)
-        wanted = ["twice.net:3:9:grant b: NoAgent: `a` is no agent", "twice.net:1:1:a is declared here"]
+        wanted = ["twice.net:3:9:grant b: NoAgent: `a` is not an agent", "twice.net:1:1:a is declared here"]
         self.assertEqual(errors_of_lint(self.folder, "a is;\nbegin;\ngrant b a a 0 1;\n"), wanted)
